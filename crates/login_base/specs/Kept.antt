@@ -1,0 +1,16 @@
+-- A text in an array of 255 bytes, with zeros behind it.
+use Rattle.std.specs.Prelude.{ℕ, ◌≡◌, ◌≤◌, ◌-◌, ◌++◌, List, length, drop, take, replicate}
+use Rattle.std.proofs.Common.{arith, ap, sym, ◌∙◌, length-take-le, take-append-drop}
+
+pub record Kept (size : ℕ) (bytes : List ℕ) : Type 0 where
+  pub fits : size ≤ 255
+  pub full : length bytes ≡ 255
+  pub zeros : drop size bytes ≡ replicate (255 - size) 0
+
+pub length_of_kept : (size : ℕ) (bytes : List ℕ) → Kept size bytes → length (take size bytes) ≡ size
+length_of_kept size bytes h = length-take-le size bytes (omega (arith, h.fits, h.full))
+
+pub padded_kept : (size : ℕ) (bytes : List ℕ) → Kept size bytes → take size bytes ++ replicate (255 - length (take size bytes)) 0 ≡ bytes
+padded_kept size bytes h =
+    ap (λ (n : ℕ). take size bytes ++ replicate (255 - n) 0) (length_of_kept size bytes h)
+    ∙ (ap (λ (t : List ℕ). take size bytes ++ t) (sym h.zeros) ∙ take-append-drop size bytes)

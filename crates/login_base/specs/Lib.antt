@@ -1,0 +1,5 @@
+pub mod Kept
+pub mod Plain
+pub mod Number
+pub mod SessionId
+pub mod Seat

@@ -1,0 +1,12 @@
+-- Names of seats.
+use Rattle.std.specs.Prelude.{ℕ, List, length, codes, nat_le, ◌==◌, ◌&&◌, ◌||◌, Bool, take}
+use Rattle.std.specs.List.{list_all}
+use Rattle.std.specs.Str.{bytes_eq}
+
+-- a letter, a digit, a dash or an underscore, of ASCII
+abbrev pub is_seat_byte : ℕ → Bool
+is_seat_byte b = (nat_le 97 b && nat_le b 122) || (nat_le 65 b && nat_le b 90) || (nat_le 48 b && nat_le b 57) || (b == 45) || (b == 95)
+
+-- it begins with `seat`, has only such bytes, and at most 255
+abbrev pub is_seat_name : List ℕ → Bool
+is_seat_name text = bytes_eq (take 4 text) (codes "seat") && list_all is_seat_byte text && nat_le (length text) 255

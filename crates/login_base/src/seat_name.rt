@@ -1,0 +1,97 @@
+// Names of seats, kept in place.
+
+ghost use Rattle.std.specs.Prelude.{◌≡◌, ◌↔◌, ◌≤◌, length, IsTrue, IsOk, IfOk, codes, replicate, ◌++◌, ◌-◌};
+ghost use Rattle.login_base.specs.Seat.{is_seat_name, is_seat_byte};
+ghost use Rattle.std.specs.List.{list_all};
+
+use std::marker::Model;
+
+/// The longest name of a seat, in bytes.
+const MOST: usize = 255;
+
+/// Why a text is no seat's name.
+#[derive(Clone, Copy, Debug, PartialEq, Eq)]
+pub enum SeatFault {
+    BadSeatName,
+}
+
+/// A seat's name: it begins with `seat`, has only letters, digits, dashes and underscores of ASCII,
+/// and at most 255 bytes (sd-login(3)). It is kept in place, and copied without memory.
+#[derive(Clone, Copy, Debug)]
+pub struct SeatName {
+    size: usize,
+    bytes: [u8; 255],
+}
+
+impl Model for SeatName {
+    ghost use Rattle.std.specs.Prelude.{List, ℕ, length, take, replicate, ◌++◌, ◌-◌};
+    ghost use Rattle.login_base.specs.Kept.{Kept, length_of_kept, padded_kept};
+
+    ghost Value = { List ℕ };
+
+    ghost view = { λ s. take s.size s.bytes };
+
+    ghost invariant = { λ s. Kept s.size s.bytes };
+
+    // The bytes behind the name are zero, so that equal names are equal to the byte.
+    ghost inverse = { λ text. record { size = length text; bytes = text ++ replicate (255 - length text) 0 } };
+
+    ghost inverse_ok = { λ s h i. record {
+      size = length_of_kept s.size s.bytes h i;
+      bytes = padded_kept s.size s.bytes h i;
+    } };
+}
+
+/// Whether a byte may stand in a seat's name.
+fn is_allowed(byte: u8) -> bool
+    ensures { result ≡ is_seat_byte byte }
+{
+    matches!(byte, b'a'..=b'z' | b'A'..=b'Z' | b'0'..=b'9' | b'-' | b'_')
+}
+
+/// Whether each byte may stand in a seat's name.
+fn are_allowed(text: &[u8]) -> bool
+    ensures { result ≡ list_all is_seat_byte text.now }
+{
+    text.iter().all(|byte| is_allowed(*byte))
+}
+
+/// Whether a text is a seat's name.
+fn is_name(text: &[u8]) -> bool
+    ensures { result ≡ is_seat_name text.now }
+{
+    text.len() >= 4 && &text[..4] == b"seat".as_slice() && are_allowed(text) && text.len() <= MOST
+}
+
+/// The text with zeros behind it.
+fn padded(text: &[u8]) -> [u8; 255]
+    requires { length text.now ≤ 255 }
+    ensures { result ≡ text.now ++ replicate (255 - length text.now) 0 }
+{
+    let mut bytes = [0; 255];
+    bytes[..text.len()].copy_from_slice(text);
+    bytes
+}
+
+impl SeatName {
+    /// The seat of this name.
+    pub fn read(text: &[u8]) -> Result<SeatName, SeatFault>
+        ensures found { IsOk result ↔ IsTrue (is_seat_name text.now) }
+        ensures name { IfOk result (λ seat. seat ≡ text.now) }
+    {
+        if !is_name(text) {
+            return Err(SeatFault::BadSeatName);
+        }
+        Ok(SeatName {
+            size: text.len(),
+            bytes: padded(text),
+        })
+    }
+
+    /// The name's bytes.
+    pub fn as_slice(&self) -> &[u8]
+        ensures { result.now ≡ self.now }
+    {
+        &self.bytes[..self.size]
+    }
+}

@@ -1,0 +1,33 @@
+// Ids of sessions, as texts.
+
+ghost use Rattle.std.specs.Prelude.{◌≡◌, IfOk};
+ghost use Rattle.login_base.specs.SessionId.{session_text, session_of};
+
+use crate::ids::SessId;
+use crate::memory::NoMemory;
+use crate::number::read_number;
+use crate::word::Word;
+use std::alloc::Global;
+
+impl SessId {
+    /// The session's id: `c` and its number in decimal.
+    pub fn text(&self, alloc: Global) -> Result<Word, NoMemory>
+        ensures { IfOk result (λ word. word ≡ session_text self.now) }
+    {
+        let number = self.0;
+        let text = format!(in alloc; "c{number}")?;
+        Word::from_slice(alloc, text.as_bytes())
+    }
+
+    /// The session whose id the text is.
+    pub fn read(text: &[u8]) -> Option<SessId>
+        ensures { result ≡ session_of text.now }
+    {
+        let (first, digits) = text.split_first()?;
+        if *first != b'c' {
+            return None;
+        }
+        let number = read_number(digits)?;
+        Some(SessId(number))
+    }
+}
