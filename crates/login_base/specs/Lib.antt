@@ -3,3 +3,4 @@ pub mod Plain
 pub mod Number
 pub mod SessionId
 pub mod Seat
+pub mod Room

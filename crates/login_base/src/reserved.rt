@@ -1,0 +1,82 @@
+// A list with room for more items, which is made before it is needed.
+
+ghost use Rattle.std.specs.Prelude.{◌≡◌, ◌+◌, ◌<◌, ◌≤◌, ◌^◌, ◌++◌, [], ◌∷◌, length, OnOk, OnErr, slice_get, Some};
+ghost use Rattle.login_base.specs.Room.{Room};
+
+use crate::items::Items;
+use crate::memory::NoMemory;
+use std::alloc::Global;
+use std::marker::Model;
+
+/// A list and its spare: how many items can be put at its end without memory.
+#[derive(Debug, Drop)]
+pub struct Reserved<T> {
+    items: Vec<T>,
+}
+
+impl<T> Model for Reserved<T> {
+    ghost use Rattle.std.specs.Prelude.{◌-◌, vec_len, vec_capacity};
+    ghost use Rattle.login_base.specs.Room.{Room};
+
+    ghost Value = { Room T };
+
+    ghost view = { λ s. record { items = s.items.items; spare = vec_capacity s.items - vec_len s.items } };
+}
+
+impl<T> Reserved<T> {
+    /// The empty list. It takes no memory.
+    pub fn new(alloc: Global) -> Reserved<T>
+        ensures { result.items ≡ [] }
+    {
+        Reserved {
+            items: Vec::new(alloc),
+        }
+    }
+
+    /// How many items there are.
+    pub fn len(&self) -> usize
+        ensures value { result ≡ length self.now.items }
+        ensures bound { result < 2 ^ 63 }
+    {
+        self.items.len()
+    }
+
+    /// The items in order.
+    pub fn as_slice(&self) -> &[T]
+        ensures { result.now ≡ self.now.items }
+    {
+        self.items.as_slice()
+    }
+
+    /// Makes the spare at least so much.
+    pub fn reserve(&mut self, more: usize) -> Result<(), NoMemory>
+        ensures ok { OnOk result (more ≤ self.new.spare) }
+        ensures items { self.new.items ≡ self.old.items }
+        ensures spare { self.old.spare ≤ self.new.spare }
+    {
+        self.items.reserve(more)?;
+        Ok(())
+    }
+
+    /// Puts an item at the end. It takes no memory.
+    pub fn push(&mut self, item: T)
+    where
+        T: Drop,
+        requires { 0 < self.old.spare }
+        ensures items { self.new.items ≡ self.old.items ++ item ∷ [] }
+        ensures spare { self.old.spare ≤ self.new.spare + 1 }
+    {
+        match self.items.push(item) {
+            Ok(()) => {}
+            Err(_) => unreachable!(),
+        }
+    }
+
+    /// The list without its spare. It takes no memory.
+    pub fn into_items(self) -> Items<T>
+        ensures { result ≡ self.items }
+    {
+        let Reserved { items } = self;
+        Items::from_vec(items)
+    }
+}

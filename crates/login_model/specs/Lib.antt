@@ -1,0 +1,10 @@
+pub mod Same
+pub mod Trail
+pub mod Names
+pub mod Fresh
+pub mod Where
+pub mod Policy
+pub mod Procedure
+pub mod Direct
+pub mod Settle
+pub mod Legal

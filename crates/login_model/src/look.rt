@@ -1,0 +1,38 @@
+// What tells facts.
+
+ghost use Rattle.std.specs.Prelude.{◌≡◌};
+ghost use Rattle.login_model.specs.Trail.{Trail, value};
+ghost use Rattle.login_model.specs.Fresh.{next_handle};
+ghost use Rattle.login_model.specs.Names.{IsNext, session_lt, user_lt, conn_lt};
+ghost use Rattle.login_model.specs.Where.{is_session, is_user, is_connected};
+
+use crate::fact::{Fact, Key};
+use login_base::{ConnId, HandleNo, SessId, Uid};
+
+/// What tells facts: it stands for a list of marks. None of its calls takes memory. Each `next` call
+/// gives the least name above the one handed in, or the least of all for None; it answers None where
+/// there is no such name.
+pub trait Look {
+    /// The marks that it stands for, the newest first.
+    ghost trail: { Self → Trail };
+
+    /// The fact of the last setting of the key, or the fact at the start.
+    fn fact(&self, key: &Key) -> &Fact
+        ensures { result.now ≡ value (trail self.now) key.now };
+
+    /// The number of the next handle that is given out.
+    fn fresh_handle(&self) -> HandleNo
+        ensures { result ≡ next_handle (trail self.now) };
+
+    /// The next session that is not gone.
+    fn next_session(&self, after: Option<SessId>) -> Option<SessId>
+        ensures { IsNext session_lt (is_session (trail self.now)) after result };
+
+    /// The next user that is not absent.
+    fn next_user(&self, after: Option<Uid>) -> Option<Uid>
+        ensures { IsNext user_lt (is_user (trail self.now)) after result };
+
+    /// The next connected connection.
+    fn next_conn(&self, after: Option<ConnId>) -> Option<ConnId>
+        ensures { IsNext conn_lt (is_connected (trail self.now)) after result };
+}
