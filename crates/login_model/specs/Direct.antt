@@ -77,6 +77,7 @@ created_session c x fifo = record {
 }
 
 -- the user is known; a fresh handle is the fifo of a fresh session; the session is open; all are told
+-- of it, and that it is active, where it is
 unfoldable pub create : ConnId → Creation → SessId → HandleNo → Trail → Trail
 create c x s h t =
     tell_appeared s

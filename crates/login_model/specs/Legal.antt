@@ -44,10 +44,14 @@ abbrev pub connects : ConnId → Event → Type 0
 connects c (Connect b u) = b.0 ≡ c.0
 connects c _ = ⊥
 
+-- no entry's event connects this connection
+abbrev pub IsUnused : ConnId → List Entry → Type 0
+IsUnused c before = AllByRecursion (λ (e : Entry). connects c e.event → ⊥) before
+
 -- the event may come after these entries: a connect of a number above 0 that no earlier connect had;
 -- a call, numbered from 1, of a connected caller, each text of which is UTF-8 without NUL of at most 512 bytes
 abbrev pub IsPlaced : List Entry → Event → Type 0
-IsPlaced before (Connect c u) = (0 < c.0) × AllByRecursion (λ (e : Entry). connects c e.event → ⊥) before
+IsPlaced before (Connect c u) = (0 < c.0) × IsUnused c before
 IsPlaced before (Calls r) = (is_connected (trail_of before) r.who ≡ true) × (0 < r.serial) × AllByRecursion (IsText 512) (texts r.call)
 
 -- the marks after an event with its verdict
@@ -74,13 +78,14 @@ IsLegalAfter U before (e ∷ es) = IsLegalEntry U before e × IsLegalAfter U (be
 abbrev pub IsLegal : Setup → List Entry → Type 0
 IsLegal U journal = IsLegalAfter U [] journal
 
--- the events of this stage: a session is created on seat0, on one of its terminals, of type tty and
+-- the calls that are built: a session is created on seat0, on one of its terminals, of type tty and
 -- class user, and not remote; control is not taken by force
 abbrev pub IsBuiltCall : Call → Type 0
 IsBuiltCall (Create x) = (x.session_type ≡ codes "tty") × (x.class ≡ codes "user") × (x.seat ≡ codes "seat0") × (0 < x.vt) × (x.vt < 64) × (x.remote ≡ false)
 IsBuiltCall (Control id force) = force ≡ false
 IsBuiltCall (Uncontrol id) = Unit {0}
 
+-- the events that are built: a connect, and such a call that expects a reply
 abbrev pub IsBuilt : Event → Type 0
 IsBuilt (Connect c u) = Unit {0}
 IsBuilt (Calls r) = (r.quiet ≡ false) × IsBuiltCall r.call

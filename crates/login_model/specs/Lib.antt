@@ -1,5 +1,6 @@
 pub mod Same
 pub mod Trail
+pub mod Kind
 pub mod Names
 pub mod Fresh
 pub mod Where

@@ -30,7 +30,7 @@ abbrev pub uid_in_fact : Fact → ℕ
 uid_in_fact (fact.Connected u) = u.0
 uid_in_fact _ = 0
 
--- the user of a connection
+-- the user of a connected connection
 abbrev pub uid_of : Trail → ConnId → ℕ
 uid_of t c = uid_in_fact (value t (Conn c))
 
@@ -89,7 +89,7 @@ not_in_control t c s = broken_if (not (controls t c s)) NotInControl
 abbrev pub vt_busy : Trail → ℕ → Option Rule
 vt_busy t vt = option_map VtBusy (session_on t vt)
 
--- P26 limit: 64 links are connected
+-- P26 limit: 64 connections are connected
 abbrev pub too_many_links : Trail → Option Rule
 too_many_links t = broken_if (nat_le 64 (length (connections t))) (Limit Links)
 
@@ -102,7 +102,8 @@ abbrev pub on_session : (SessId → List (Option Rule)) → Option SessId → Li
 on_session rules None = Some NoSuchSession ∷ []
 on_session rules (Some s) = rules s
 
--- the ordered rules of a call, each with what it finds broken
+-- the ordered rules of a call, each with what it finds broken; the rules that no built call can break
+-- are left out
 abbrev pub call_rules : Setup → Trail → ConnId → Call → List (Option Rule)
 call_rules U t c (Create x) = not_root t c ∷ no_such_user U x.uid.0 ∷ nobody t x.process ∷ vt_busy t x.vt ∷ []
 call_rules U t c (Control id force) = on_session (λ s. no_such_session t s ∷ not_owner t c s ∷ controlled t c s ∷ []) (session_of id)

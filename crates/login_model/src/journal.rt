@@ -48,6 +48,13 @@ impl Journal {
         &self.entries.as_slice()[i]
     }
 
+    /// The entries in order. Takes no memory.
+    pub fn as_slice(&self) -> &[Entry]
+        ensures { result.now ≡ self.now.items }
+    {
+        self.entries.as_slice()
+    }
+
     /// Makes room for so many more entries.
     pub fn reserve(&mut self, more: usize) -> Result<(), NoMemory>
         ensures ok { OnOk result (more ≤ self.new.spare) }

@@ -5,7 +5,7 @@ use login_base::{ConnId, SessId};
 /// A number that was reached.
 #[derive(Clone, Copy, Debug, PartialEq, Eq)]
 pub enum Limit {
-    /// 64 connected links.
+    /// 64 connections are connected. It prints as `links 64`.
     Links,
 }
 

@@ -1,3 +1,14 @@
+pub mod Cut
+pub mod Cuts
+pub mod Reading
+pub mod Next
+pub mod Filling
 pub mod Text
+pub mod Bytes
+pub mod Words
 pub mod Lines
+pub mod CallWords
+pub mod Readings
 pub mod Print
+pub mod AnswerWords
+pub mod Spaced

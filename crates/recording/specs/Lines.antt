@@ -47,7 +47,8 @@ FitsCall (Create x) = (x.uid.0 < 2 ^ 32) × (x.process < 2 ^ 32) × (x.vt < 2 ^ 
 FitsCall (Control id force) = Unit {0}
 FitsCall (Uncontrol id) = Unit {0}
 
--- the numbers of an event are within their types, connections and serials above 0, and its texts are texts
+-- the numbers of an event are within their types, connections and serials above 0, and its
+-- texts have at most 512 bytes
 abbrev pub Fits : Event → Type 0
 Fits (Connect c u) = (0 < c.0) × (c.0 < 2 ^ 32) × (u.0 < 2 ^ 32)
 Fits (Calls r) = (0 < r.who.0) × (r.who.0 < 2 ^ 32) × (0 < r.serial) × (r.serial < 2 ^ 32) × FitsCall r.call × AllByRecursion (IsText 512) (texts r.call)

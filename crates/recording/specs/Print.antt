@@ -3,6 +3,7 @@ use Rattle.std.specs.Prelude.{ℕ, ◌+◌, Option, Some, None, List, [], ◌∷
 use Rattle.std.specs.List.{join_with_byte, flat_map}
 use Rattle.std.specs.Fmt.{decimal}
 use Rattle.login_base.specs.declared.ids.SessId.{SessId}
+use Rattle.login_base.specs.declared.ids.Uid.{Uid}
 use Rattle.login_base.specs.SessionId.{session_text}
 use Rattle.login_model.specs.declared.fact.Key.{Key}
 use Rattle.login_model.specs.declared.fact.Key.TheVariants.{Conn, Sess, Ctl, User, Owner, Vt}
@@ -117,8 +118,12 @@ rule_words (rule.Limit limit) = codes "P26" ∷ codes "limit" ∷ limit_words li
 rule_words rule.Nobody = codes "P35" ∷ codes "nobody" ∷ []
 
 -- the path of a session's object: an id has no byte that a label escapes
-abbrev pub session_path : SessId → List ℕ
+unfoldable pub session_path : SessId → List ℕ
 session_path s = codes "/org/freedesktop/login1/session/" ++ session_text s
+
+-- the path of a user's runtime directory
+unfoldable pub runtime_path : Uid → List ℕ
+runtime_path u = codes "/run/user/" ++ decimal u.0
 
 -- a seat's name, or the empty text for none
 abbrev pub seat_text : Option (List ℕ) → List ℕ
@@ -128,7 +133,7 @@ seat_text None = spell_text []
 abbrev pub answer_words : Answer → List (List ℕ)
 answer_words Nothing = []
 answer_words (Created x) =
-    session_text x.session ∷ session_path x.session ∷ (codes "/run/user/" ++ decimal x.uid.0) ∷ decimal x.fifo.0
+    session_text x.session ∷ session_path x.session ∷ runtime_path x.uid ∷ decimal x.fifo.0
     ∷ decimal x.uid.0 ∷ seat_text x.seat ∷ decimal x.vt ∷ codes "false" ∷ []
 
 abbrev pub verdict_words : Verdict → Answer → List (List ℕ)

@@ -1,6 +1,17 @@
-//! Recordings and transcripts: how their lines are spelled, read and printed.
+//! Recordings and transcripts: how their lines are read from a source, spelled, read and printed.
 #![tactic(auto)]
 
+mod call;
+mod entry;
+mod event;
+mod event_text;
 mod line;
+mod line_reader;
+mod line_text;
+mod mark_text;
+mod verdict_text;
+mod word;
 
-pub use line::{Line, LineFault};
+pub use entry::{WriteEnd, entry_text, write_entry};
+pub use line::{Line, LineFault, read_line};
+pub use line_reader::{LineReader, Next};

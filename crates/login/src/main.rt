@@ -1,0 +1,25 @@
+//! The program `login`: the top call over standard input, standard output and standard error.
+#![tactic(auto)]
+
+mod arguments;
+mod standard;
+
+use arguments::words;
+use login_edge::write_all;
+use login_prog::run;
+use standard::{Reading, Writing};
+use std::process::ExitCode;
+
+/// The exit status where there is no memory for the words themselves, as that of `run`.
+const NO_MEMORY: u8 = 5;
+
+fn main(rt: HostRuntime) -> ExitCode {
+    let mut input = Reading::new(rt.stdin());
+    let mut output = Writing::new(rt.stdout());
+    let mut errors = Writing::new(rt.stderr());
+    let Ok(words) = words(&rt) else {
+        let _end = write_all(&mut errors, b"no memory\n");
+        return ExitCode::from(NO_MEMORY);
+    };
+    ExitCode::from(run(rt.alloc(), &words, &mut input, &mut output, &mut errors))
+}

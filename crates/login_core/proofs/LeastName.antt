@@ -1,0 +1,133 @@
+-- The least name of a kind among settings.
+use Rattle.std.proofs.Common.{◌≡◌, ◌&&◌, Bool, true, false, cond, Option, Some, None, List, [], ◌∷◌, refl, ap, sym, ◌∙◌, subst, ◌⊎◌, inl, inr}
+use Rattle.login_model.specs.declared.fact.Key.{Key}
+use Rattle.login_model.specs.declared.fact.Fact.{Fact}
+use Rattle.login_model.specs.declared.mark.Mark.TheVariants.{Set}
+use Rattle.login_model.specs.Same.{same_key}
+use Rattle.login_model.specs.Trail.{Trail, value}
+use Rattle.login_model.specs.Kind.{IsOrder, AreKeys}
+use Rattle.login_model.specs.Names.{IsNext, is_above}
+use Rattle.login_model.proofs.Keys.{same_key-true, both, test, chosen}
+use Rattle.login_core.specs.declared.facts.Setting.{Setting}
+use Rattle.login_core.specs.Facts.{set_after}
+use Rattle.login_core.specs.Name.{is_there, is_lower, nearer}
+use Rattle.login_core.specs.Nearest.{nearest}
+use Rattle.login_core.proofs.Searching.{value-set, value-start}
+
+abbrev IsGood : {A : Type 0} → (A → A → Bool) → (A → Bool) → Option A → A → Type 0
+IsGood lt there above a = (there a ≡ true) × (is_above lt above a ≡ true)
+
+abbrev IsGoodIf : {A : Type 0} → (A → A → Bool) → (A → Bool) → Option A → Option A → Type 0
+IsGoodIf lt there above None = Unit {0}
+IsGoodIf lt there above (Some a) = IsGood lt there above a
+
+-- the best name is there and not above e
+abbrev IsAtMost : {A : Type 0} → (A → A → Bool) → Option A → A → Type 0
+IsAtMost lt None e = ⊥
+IsAtMost lt (Some d) e = lt e d ≡ false
+
+-- what one name makes of the best so far
+record Steps {A : Type 0} (lt : A → A → Bool) (there : A → Bool) (above name best next : Option A) : Type 0 where
+  good : IsGoodIf lt there above best → IsGoodIf lt there above next
+  named : (e : A) → IsGood lt there above e → name ≡ Some e → IsAtMost lt next e
+  keeps : (e : A) → IsAtMost lt best e → IsAtMost lt next e
+
+not-lower : {A : Type 0} (lt : A → A → Bool) (d : A) (best : Option A) → is_lower lt d best ≡ false → IsAtMost lt best d
+not-lower lt d None h = let z : true ≡ false = h in cc
+not-lower lt d (Some c) h = h
+
+lower-keeps : {A : Type 0} (lt : A → A → Bool) (o : IsOrder lt) (d e : A) (best : Option A) → is_lower lt d best ≡ true → IsAtMost lt best e → lt e d ≡ false
+lower-keeps lt o d e None h p = absurd p
+lower-keeps lt o d e (Some c) h p = elim (test (lt e d)) [
+  | inl y ↦ (let q = o.transitive e d c y h in let z : true ≡ false = sym q ∙ p in cc)
+  | inr n ↦ n
+]
+
+step-by : {A : Type 0} (lt : A → A → Bool) (o : IsOrder lt) (there : A → Bool) (above : Option A) (x : Bool) (d : A) (best : Option A) → (is_above lt above d && is_lower lt d best && there d) ≡ x
+    → Steps lt there above (Some d) best (cond x (Some d) best)
+step-by {A} lt o there above true d best h =
+    let p = both (is_above lt above d && is_lower lt d best) (there d) h in
+    let q = both (is_above lt above d) (is_lower lt d best) p.0 in
+    record {
+      good = λ g. (p.1, q.0);
+      named = λ e g k. (let same : d ≡ e = cc in ap (λ (z : A). lt z d) (sym same) ∙ o.irreflexive d);
+      keeps = λ e m. lower-keeps lt o d e best q.1 m;
+    }
+step-by {A} lt o there above false d best h = record {
+  good = λ g. g;
+  named = λ e g k. (let same : d ≡ e = cc in
+      elim (test (is_lower lt d best)) [
+        | inl y ↦ absurd (
+            let a : is_above lt above d ≡ true = ap (is_above lt above) same ∙ g.1 in
+            let b : there d ≡ true = ap there same ∙ g.0 in
+            let all : (is_above lt above d && is_lower lt d best && there d) ≡ true = rw (a, y, b) refl in
+            let z : true ≡ false = sym all ∙ h in cc)
+        | inr n ↦ (let P : A → Type 0 = IsAtMost lt best in subst P same (not-lower lt d best n))
+      ]);
+  keeps = λ e m. m;
+}
+
+nearer-steps : {A : Type 0} (lt : A → A → Bool) (o : IsOrder lt) (there : A → Bool) (above name best : Option A) → Steps lt there above name best (nearer lt there above name best)
+nearer-steps lt o there above None best = record { good = λ g. g; named = λ e g k. absurd (cc); keeps = λ e m. m }
+nearer-steps lt o there above (Some d) best = step-by lt o there above (is_above lt above d && is_lower lt d best && there d) d best refl
+
+-- one of the settings is about the name
+abbrev NamedIn : {A : Type 0} → (Key → Option A) → A → List Setting → Type 0
+NamedIn name_in e [] = ⊥
+NamedIn name_in e (x ∷ xs) = (name_in x.key ≡ Some e) ⊎ NamedIn name_in e xs
+
+record Finds {A : Type 0} (lt : A → A → Bool) (there : A → Bool) (name_in : Key → Option A) (above : Option A) (xs : List Setting) (best last : Option A) : Type 0 where
+  good : IsGoodIf lt there above best → IsGoodIf lt there above last
+  named : (e : A) → IsGood lt there above e → NamedIn name_in e xs → IsAtMost lt last e
+  keeps : (e : A) → IsAtMost lt best e → IsAtMost lt last e
+
+nearest-finds : {A : Type 0} (lt : A → A → Bool) (o : IsOrder lt) (there : A → Bool) (name_in : Key → Option A) (above : Option A) (xs : List Setting) (best : Option A)
+    → Finds lt there name_in above xs best (nearest lt there name_in above xs best)
+nearest-finds lt o there name_in above [] best = record { good = λ g. g; named = λ e g k. absurd k; keeps = λ e m. m }
+nearest-finds lt o there name_in above (x ∷ xs) best =
+    let one = nearer-steps lt o there above (name_in x.key) best in
+    let more = nearest-finds lt o there name_in above xs (nearer lt there above (name_in x.key) best) in
+    record {
+      good = λ g. more.good (one.good g);
+      named = λ e g k. elim k [ inl h ↦ more.keeps e (one.named e g h) | inr h ↦ more.named e g h ];
+      keeps = λ e m. more.keeps e (one.keeps e m);
+    }
+
+push : {A B : Type 0} (f : A → B) (b : Bool) (x y : A) (z : B) → f (cond b x y) ≡ z → cond b (f x) (f y) ≡ z
+push f true x y z e = e
+push f false x y z e = e
+
+-- what is there was set by one of these, or was there before
+was-named : {A : Type 0} (name_in : Key → Option A) (key_of : A → Key) (is_fact : Fact → Bool) → AreKeys name_in key_of is_fact → (t : Trail) (xs : List Setting) (e : A)
+    → is_fact (value (set_after t xs) (key_of e)) ≡ true → (is_fact (value t (key_of e)) ≡ true) ⊎ NamedIn name_in e xs
+was-named name_in key_of is_fact k t [] e h = inl h
+was-named name_in key_of is_fact k t (x ∷ xs) e h =
+    elim (was-named name_in key_of is_fact k (Set x.key x.fact ∷ t) xs e h) [
+      | inl p ↦ (let q = ap is_fact (sym (value-set (key_of e) x.key x.fact t)) ∙ p in
+          elim (chosen (same_key x.key (key_of e)) (is_fact x.fact) (is_fact (value t (key_of e))) true (push is_fact (same_key x.key (key_of e)) x.fact (value t (key_of e)) true q)) [
+            | inl a ↦ inr (inl (ap name_in (same_key-true x.key (key_of e) a.0) ∙ k.named e))
+            | inr b ↦ inl b.1
+          ])
+      | inr n ↦ inr (inr n)
+    ]
+
+set-named : {A : Type 0} (name_in : Key → Option A) (key_of : A → Key) (is_fact : Fact → Bool) → AreKeys name_in key_of is_fact → (xs : List Setting) (e : A)
+    → is_there key_of is_fact (set_after [] xs) e ≡ true → NamedIn name_in e xs
+set-named name_in key_of is_fact k xs e h = elim (was-named name_in key_of is_fact k [] xs e h) [
+  | inl p ↦ absurd (let z : true ≡ false = sym p ∙ ap is_fact (value-start (key_of e)) ∙ k.start e in cc)
+  | inr n ↦ n
+]
+
+next-by : {A : Type 0} (lt : A → A → Bool) (there : A → Bool) (name_in : Key → Option A) (above : Option A) (xs : List Setting) (last : Option A)
+    → Finds lt there name_in above xs None last → ((e : A) → there e ≡ true → NamedIn name_in e xs) → IsNext lt there above last
+next-by lt there name_in above xs None f n = λ a p q. f.named a (p, q) (n a p)
+next-by lt there name_in above xs (Some d) f n = let g = f.good tt in (g.0, g.1, λ b p q. f.named b (p, q) (n b p))
+
+-- the lowest of all settings is the next name
+pub nearest-next : {A : Type 0} (lt : A → A → Bool) → IsOrder lt → (name_in : Key → Option A) (key_of : A → Key) (is_fact : Fact → Bool) → AreKeys name_in key_of is_fact
+    → (xs : List Setting) (above last : Option A) → last ≡ nearest lt (is_there key_of is_fact (set_after [] xs)) name_in above xs None
+    → IsNext lt (is_there key_of is_fact (set_after [] xs)) above last
+nearest-next {A} lt o name_in key_of is_fact k xs above last e =
+    let there = is_there key_of is_fact (set_after [] xs) in
+    let P : Option A → Type 0 = λ m. IsNext lt there above m in
+    subst P (sym e) (next-by lt there name_in above xs (nearest lt there name_in above xs None) (nearest-finds lt o there name_in above xs None) (set-named name_in key_of is_fact k xs))

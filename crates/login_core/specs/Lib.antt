@@ -1,0 +1,9 @@
+pub mod Texts
+pub mod Name
+pub mod Facts
+pub mod Nearest
+pub mod Rules
+pub mod Machine
+pub mod Board
+pub mod Inside
+pub mod State

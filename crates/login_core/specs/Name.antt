@@ -1,0 +1,20 @@
+-- Names of one kind, and the next of them.
+use Rattle.std.specs.Prelude.{◌&&◌, Bool, true, if◌then◌else◌, Option, Some, None}
+use Rattle.login_model.specs.declared.fact.Key.{Key}
+use Rattle.login_model.specs.declared.fact.Fact.{Fact}
+use Rattle.login_model.specs.Trail.{Trail, value}
+use Rattle.login_model.specs.Names.{is_above}
+
+-- whether what a name stands for is there
+abbrev pub is_there : {A : Type 0} → (A → Key) → (Fact → Bool) → Trail → A → Bool
+is_there key_of is_fact t a = is_fact (value t (key_of a))
+
+-- whether a name is below another, or there is no other
+abbrev pub is_lower : {A : Type 0} → (A → A → Bool) → A → Option A → Bool
+is_lower lt a None = true
+is_lower lt a (Some b) = lt a b
+
+-- the lower of the best name so far and the name of a key, if that is there and above
+abbrev pub nearer : {A : Type 0} → (A → A → Bool) → (A → Bool) → Option A → Option A → Option A → Option A
+nearer lt there above None best = best
+nearer lt there above (Some a) best = if is_above lt above a && is_lower lt a best && there a then Some a else best

@@ -1,0 +1,215 @@
+// The facts, as a list of settings.
+
+ghost use Rattle.std.specs.Prelude.{◌≡◌, ◌+◌, ◌<◌, ◌≤◌, ◌^◌, [], ◌∷◌, OnOk};
+ghost use Rattle.login_model.specs.Trail.{value, start_fact};
+ghost use Rattle.login_model.specs.Fresh.{fresh_session, fresh_handle, next_session, next_handle};
+ghost use Rattle.login_model.specs.Names.{IsNext, is_above};
+ghost use Rattle.login_core.specs.Name.{is_there, is_lower, nearer};
+ghost use Rattle.login_model.specs.declared.fact.Fact.TheVariants.{Absent, Number};
+ghost use Rattle.login_core.specs.Facts.{set_after, opens, gives};
+
+use crate::fact_tests::{is_open_fact, is_owned_fact, is_same_key};
+use crate::name::Name;
+use login_base::{HandleNo, NoMemory, Reserved, SessId};
+use login_model::{Fact, Key};
+use std::alloc::Global;
+use std::marker::Model;
+
+/// One setting of a fact.
+#[derive(Debug, Drop)]
+pub struct Setting {
+    pub key: Key,
+    pub fact: Fact,
+}
+
+/// What holds before the first setting: nothing is there, and the virtual terminal 1 is current.
+#[derive(Debug, Drop)]
+struct Start {
+    absent: Fact,
+    terminal: Fact,
+    ghost absent_is: { absent ≡ Absent },
+    ghost terminal_is: { terminal ≡ Number 1 },
+}
+
+/// The settings so far, the oldest first, and the numbers of the next session and the next handle.
+#[derive(Debug, Drop)]
+pub struct Facts {
+    settings: Reserved<Setting>,
+    start: Start,
+    sessions: u32,
+    handles: u32,
+}
+
+impl Model for Facts {
+    ghost use Rattle.std.specs.Prelude.{[]};
+    ghost use Rattle.login_core.specs.Facts.{FactList, set_after, Counts};
+
+    ghost Value = { FactList };
+
+    ghost view = { λ f. record { trail = set_after [] f.settings.items; spare = f.settings.spare } };
+
+    ghost invariant = { λ f. Counts f.sessions f.handles (set_after [] f.settings.items) };
+}
+
+impl Start {
+    /// What holds before the first setting.
+    fn new() -> Start {
+        Start {
+            absent: Fact::Absent,
+            terminal: Fact::Number(1),
+        }
+    }
+
+    /// The fact of a key before the first setting.
+    fn fact(&self, key: &Key) -> &Fact
+        ensures { result.now ≡ start_fact key.now }
+    {
+        match key {
+            Key::Vt => &self.terminal,
+            _ => &self.absent,
+        }
+    }
+}
+
+/// The fact of the last setting of a key among these, or the fact before the first.
+fn last_fact<'a>(settings: &'a [Setting], start: &'a Start, key: &Key) -> &'a Fact
+    ensures { result.now ≡ value (set_after [] settings.now) key.now }
+{
+    let mut left = settings.len();
+    while left > 0 {
+        left -= 1;
+        let setting = &settings[left];
+        if is_same_key(&setting.key, key) {
+            return &setting.fact;
+        }
+    }
+    start.fact(key)
+}
+
+/// How many sessions a setting opens.
+fn opened(key: &Key, fact: &Fact) -> u32
+    ensures { result ≡ opens key.now fact.now }
+{
+    match key {
+        Key::Sess(_) => { if is_open_fact(fact) { 1 } else { 0 } }
+        _ => 0,
+    }
+}
+
+/// How many handles a setting gives out.
+fn given(key: &Key, fact: &Fact) -> u32
+    ensures { result ≡ gives key.now fact.now }
+{
+    match key {
+        Key::Owner(_) => { if is_owned_fact(fact) { 1 } else { 0 } }
+        _ => 0,
+    }
+}
+
+fn is_above<N: Name>(above: Option<N>, name: N) -> bool
+    ensures { result ≡ is_above N.lt above name }
+{
+    match above {
+        Some(other) => other.is_below(name),
+        None => true,
+    }
+}
+
+fn is_lower<N: Name>(name: N, best: Option<N>) -> bool
+    ensures { result ≡ is_lower N.lt name best }
+{
+    match best {
+        Some(other) => name.is_below(other),
+        None => true,
+    }
+}
+
+impl Facts {
+    ghost use Rattle.login_core.specs.Nearest.{nearest};
+    ghost use Rattle.login_model.specs.declared.mark.Mark.TheVariants.{Set};
+
+    /// No setting yet. It takes no memory.
+    pub fn new(alloc: Global) -> Facts
+        ensures { result.trail ≡ [] }
+    {
+        Facts {
+            settings: Reserved::new(alloc),
+            start: Start::new(),
+            sessions: 1,
+            handles: 1,
+        }
+    }
+
+    /// Makes room for so many more settings.
+    pub fn reserve(&mut self, more: usize) -> Result<(), NoMemory>
+        ensures ok { OnOk result (more ≤ self.new.spare) }
+        ensures trail { self.new.trail ≡ self.old.trail }
+        ensures spare { self.old.spare ≤ self.new.spare }
+    {
+        self.settings.reserve(more)
+    }
+
+    /// The fact of the last setting of a key, or the fact before the first.
+    pub fn fact(&self, key: &Key) -> &Fact
+        ensures { result.now ≡ value self.now.trail key.now }
+    {
+        last_fact(self.settings.as_slice(), &self.start, key)
+    }
+
+    /// Puts a setting at the end. It takes no memory.
+    pub fn set(&mut self, key: Key, fact: Fact)
+        requires spare { 0 < self.old.spare }
+        requires sessions { fresh_session self.old.trail + opens key fact < 2 ^ 32 }
+        requires handles { fresh_handle self.old.trail + gives key fact < 2 ^ 32 }
+        ensures trail { self.new.trail ≡ Set key fact ∷ self.old.trail }
+        ensures spare { self.old.spare ≤ self.new.spare + 1 }
+    {
+        self.sessions += opened(&key, &fact);
+        self.handles += given(&key, &fact);
+        self.settings.push(Setting { key, fact });
+    }
+
+    /// The number of the next session.
+    pub fn fresh_session(&self) -> SessId
+        ensures { result ≡ next_session self.now.trail }
+    {
+        SessId(self.sessions)
+    }
+
+    /// The number of the next handle.
+    pub fn fresh_handle(&self) -> HandleNo
+        ensures { result ≡ next_handle self.now.trail }
+    {
+        HandleNo(self.handles)
+    }
+
+    /// The lower of the best name so far and the name of a key, if that is there and above.
+    fn nearer<N: Name>(&self, above: Option<N>, key: &Key, best: Option<N>) -> Option<N>
+        ensures { result ≡ nearer N.lt (is_there N.key_of N.is_fact self.now.trail) above (N.name_in key.now) best }
+    {
+        match N::in_key(key) {
+            Some(name) => {
+                if is_above(above, name)
+                    && is_lower(name, best)
+                    && N::is_there(self.fact(&name.key()))
+                {
+                    Some(name)
+                } else {
+                    best
+                }
+            }
+            None => best,
+        }
+    }
+
+    /// The least name of a kind above that one that is there.
+    pub fn next<N: Name>(&self, above: Option<N>) -> Option<N>
+        ensures { IsNext N.lt (is_there N.key_of N.is_fact self.now.trail) above result }
+    {
+        let mut best = None;
+        for setting in self.settings.as_slice() {
+            best = self.nearer(above, &setting.key, best);
+        }
+        best
+    }
+}

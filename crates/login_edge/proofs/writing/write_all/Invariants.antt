@@ -1,0 +1,13 @@
+use Rattle.std.proofs.Common.{length, ◌-◌, ◌≡◌, ◌≤◌, take}
+use Rattle.login_edge.specs.Texts.{Gains}
+use Rattle.login_edge.proofs.writing.write_all.Given as goal
+
+abbrev pub invariant-loop-done : goal.invariant-loop-done
+invariant-loop-done g l = record {
+  within : l.done ≤ length l.text;
+  gained : Gains (g.K.Sink.held l.initial.sink) (g.K.Sink.held l.sink) (take l.done l.text);
+  faults : g.K.Sink.faults l.sink ≡ g.K.Sink.faults l.initial.sink;
+}
+
+abbrev pub decreases-loop-done : goal.decreases-loop-done
+decreases-loop-done g l = length l.text - l.done

@@ -1,0 +1,6 @@
+//! The top call of the program `login`.
+#![tactic(auto)]
+
+mod command;
+
+pub use command::run;

@@ -1,0 +1,20 @@
+//! Tests that cross crates: whole runs of `login`, over a source and sinks in memory.
+//!
+//! The expected bytes are written by hand from docs/PROFILE.md, and none are taken from the program's
+//! own output.
+#![tactic(auto)]
+
+#[cfg(test)]
+mod faults;
+#[cfg(test)]
+mod links;
+#[cfg(test)]
+mod one_by_one;
+#[cfg(test)]
+mod refusals;
+#[cfg(test)]
+mod rules;
+#[cfg(test)]
+mod running;
+#[cfg(test)]
+mod turns;

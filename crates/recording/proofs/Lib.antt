@@ -1,0 +1,9 @@
+pub mod Calls
+pub mod Chains
+pub mod Events
+pub mod Kept
+pub mod Printed
+pub mod ReadLines
+pub mod Singles
+pub mod Spellings
+pub mod Texts

@@ -1,0 +1,132 @@
+// The text of lines while it is printed.
+
+ghost use Rattle.std.specs.Prelude.{◌≡◌, ◌<◌, ◌++◌, ◌∷◌, [], OnOk};
+ghost use Rattle.std.specs.Fmt.{decimal};
+ghost use Rattle.std.specs.List.{flat_map};
+ghost use Rattle.login_base.specs.SessionId.{session_text};
+ghost use Rattle.recording.specs.Text.{hex_digit, spell_byte, spell_text, spell_flag};
+
+use crate::word::stands_for_itself;
+use login_base::{NoMemory, SessId, Word};
+use std::alloc::Global;
+use std::marker::Model;
+
+/// The bytes so far. After want of memory it may hold a part of what was to be added.
+#[derive(Debug, Drop)]
+pub(crate) struct LineText {
+    alloc: Global,
+    bytes: Vec<u8>,
+}
+
+impl Model for LineText {
+    ghost use Rattle.std.specs.Prelude.{List, ℕ};
+
+    ghost Value = { List ℕ };
+
+    ghost view = { λ s. s.bytes.items };
+}
+
+/// The digit of a value below 16 in hex, in lower case.
+fn hex_digit(value: u8) -> u8
+    requires { value < 16 }
+    ensures { result ≡ hex_digit value }
+{
+    if value < 10 {
+        b'0' + value
+    } else {
+        b'a' + (value - 10)
+    }
+}
+
+impl LineText {
+    pub(crate) fn new(alloc: Global) -> LineText
+        ensures { result ≡ [] }
+    {
+        LineText {
+            alloc,
+            bytes: Vec::new(alloc),
+        }
+    }
+
+    pub(crate) fn into_word(self) -> Word
+        ensures { result ≡ self }
+    {
+        let LineText { bytes, .. } = self;
+        Word::from_vec(bytes)
+    }
+
+    /// Adds bytes as they are.
+    pub(crate) fn push(&mut self, bytes: &[u8]) -> Result<(), NoMemory>
+        ensures { OnOk result (self.new ≡ self.old ++ bytes.now) }
+    {
+        self.bytes.extend_from_slice(bytes)?;
+        Ok(())
+    }
+
+    /// Adds a number in decimal.
+    pub(crate) fn digits(&mut self, n: u32) -> Result<(), NoMemory>
+        ensures { OnOk result (self.new ≡ self.old ++ decimal n) }
+    {
+        let text = format!(in self.alloc; "{n}")?;
+        self.push(text.as_bytes())
+    }
+
+    /// Adds a space and a number in decimal.
+    pub(crate) fn number(&mut self, n: u32) -> Result<(), NoMemory>
+        ensures { OnOk result (self.new ≡ self.old ++ 32 ∷ decimal n) }
+    {
+        self.push(b" ")?;
+        self.digits(n)
+    }
+
+    /// Adds a space and a session's id.
+    pub(crate) fn session(&mut self, session: SessId) -> Result<(), NoMemory>
+        ensures { OnOk result (self.new ≡ self.old ++ 32 ∷ session_text session) }
+    {
+        self.push(b" c")?;
+        self.digits(session.0)
+    }
+
+    /// Adds a space and a flag.
+    pub(crate) fn flag(&mut self, flag: bool) -> Result<(), NoMemory>
+        ensures { OnOk result (self.new ≡ self.old ++ 32 ∷ spell_flag flag) }
+    {
+        if flag {
+            self.push(b" true")
+        } else {
+            self.push(b" false")
+        }
+    }
+
+    /// Adds a byte of a text.
+    fn byte(&mut self, byte: u8) -> Result<(), NoMemory>
+        ensures { OnOk result (self.new ≡ self.old ++ spell_byte byte) }
+    {
+        if stands_for_itself(byte) {
+            self.push(&[byte])
+        } else {
+            self.push(&[b'%', hex_digit(byte / 16), hex_digit(byte % 16)])
+        }
+    }
+
+    /// Adds the bytes of a text.
+    fn spelled(&mut self, text: &[u8]) -> Result<(), NoMemory>
+        ensures { OnOk result (self.new ≡ self.old ++ flat_map spell_byte text.now) }
+    {
+        for byte in text {
+            self.byte(*byte)?;
+        }
+        Ok(())
+    }
+
+    /// Adds a space and a text as one word.
+    pub(crate) fn text(&mut self, text: &[u8]) -> Result<(), NoMemory>
+        ensures { OnOk result (self.new ≡ self.old ++ 32 ∷ spell_text text.now) }
+    {
+        self.push(b" ")?;
+        if text.is_empty() {
+            return self.push(b"%");
+        }
+        self.spelled(text)
+    }
+}

@@ -1,0 +1,11 @@
+pub mod Journals
+pub mod UserRows
+pub mod Recordings
+pub mod Refusals
+pub mod Reading
+pub mod Ends
+pub mod Setups
+pub mod Finishes
+pub mod Events
+pub mod Decimals
+pub mod Laws

@@ -1,0 +1,13 @@
+pub mod Users
+pub mod Recording
+pub mod Front
+pub mod Refused
+pub mod Outcome
+pub mod Ahead
+pub mod Preamble
+pub mod TakingLine
+pub mod Playing
+pub mod Replaying
+pub mod Behind
+pub mod Writing
+pub mod Reporting

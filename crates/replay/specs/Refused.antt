@@ -1,0 +1,22 @@
+-- Which line of a text is refused.
+use Rattle.std.specs.Prelude.{ℕ, ◌≡◌, ◌+◌, ◌≤◌, List, length, map, take}
+use Rattle.recording.specs.declared.line.Line.{Line}
+use Rattle.recording.specs.Lines.{spell}
+use Rattle.recording.specs.Cut.{cut}
+use Rattle.replay.specs.Recording.{IsRecording, most_lines}
+
+-- the first so many lines of a text are those of some recording, and are at most 4000000000
+pub record Begins (text : List ℕ) (count : ℕ) : Type 0 where
+  pub lines : List Line
+  pub recorded : IsRecording lines
+  pub same : take count (cut text) ≡ take count (map spell lines)
+  pub within : length (take count (cut text)) ≤ most_lines
+
+-- so many lines begin a recording, and one more does not, or is missing
+pub record Refused (text : List ℕ) (before : ℕ) : Type 0 where
+  pub begins : Begins text before
+  pub stops : Begins text (before + 1) → ⊥
+
+-- at most one line of a text is refused
+abbrev pub OneRefusal : Type 0
+OneRefusal = (text : List ℕ) (m n : ℕ) → Refused text m → Refused text n → m ≡ n

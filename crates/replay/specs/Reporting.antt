@@ -1,0 +1,27 @@
+-- What is said on the errors.
+use Rattle.std.specs.Prelude.{ℕ, ◌≡◌, ◌⊎◌, List, [], ◌∷◌, ◌++◌, codes, Option}
+use Rattle.std.specs.Fmt.{decimal}
+use Rattle.login_edge.specs.Faults.{Rose}
+use Rattle.login_edge.specs.Texts.{Gains, GainsFront}
+use Rattle.replay.specs.declared.replaying.ReplayEnd.{ReplayEnd}
+use Rattle.replay.specs.declared.replaying.ReplayEnd.TheVariants as replay
+
+-- a text was written; or a front of it, and the count of faults rose
+abbrev pub Reported : Option (List ℕ) → Option (List ℕ) → ℕ → ℕ → List ℕ → Type 0
+Reported old new before now text = (Gains old new text × (now ≡ before)) ⊎ (GainsFront old new text × Rose before now)
+
+-- a line of the errors
+abbrev pub error_line : List ℕ → List ℕ
+error_line text = text ++ 10 ∷ []
+
+-- the line of a refusal
+abbrev pub refusal : ℕ → List ℕ
+refusal number = codes "line " ++ (decimal number ++ error_line (codes ": not-built"))
+
+-- the line of an end was written, or a front of it; nothing where all was done
+abbrev pub ReportsEnd : Option (List ℕ) → Option (List ℕ) → ℕ → ℕ → ReplayEnd → Type 0
+ReportsEnd old new before now replay.Done = (new ≡ old) × (now ≡ before)
+ReportsEnd old new before now (replay.Script number) = Reported old new before now (refusal number)
+ReportsEnd old new before now replay.ReadFault = Reported old new before now (error_line (codes "read fault"))
+ReportsEnd old new before now replay.WriteFault = Reported old new before now (error_line (codes "write fault"))
+ReportsEnd old new before now replay.NoMemory = Reported old new before now (error_line (codes "no memory"))

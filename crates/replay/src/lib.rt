@@ -1,0 +1,15 @@
+//! Replaying a recording: its lines are read, its events stepped, and its transcript written.
+#![tactic(auto)]
+
+mod ahead;
+mod law;
+mod placing;
+mod play;
+mod preamble;
+mod replaying;
+mod reporting;
+
+pub use law::one_refusal;
+pub use preamble::{SetupEnd, read_setup};
+pub use replaying::{ReplayEnd, replay_all};
+pub use reporting::report;

@@ -1,0 +1,240 @@
+// A recording is read line by line, and its transcript written.
+
+ghost use Rattle.std.specs.Prelude.{◌≤◌, ◌++◌, ◌≡◌, ◌+◌, ◌<◌, ◌^◌, [], length, IfOk, string_bytes};
+ghost use Rattle.recording.specs.Reading.{left_to};
+ghost use Rattle.recording.specs.Print.{transcript_end};
+ghost use Rattle.replay.specs.Writing.{Writes, WriteCause};
+ghost use Rattle.replay.specs.Users.{AreUsers};
+ghost use Rattle.replay.specs.Recording.{IsPlay, most_lines, spelling};
+ghost use Rattle.replay.specs.Front.{going, ended, lines_at};
+ghost use Rattle.replay.specs.Behind.{SaysBehind};
+ghost use Rattle.std.specs.Option.{option_map};
+ghost use Rattle.replay.specs.Reporting.{ReportsEnd};
+ghost use Rattle.replay.specs.Replaying.{ReplayGives, GoesOn, ReadRises, WriteRises};
+
+use crate::ahead::{Ahead, read_ahead};
+use crate::play::{Played, play_event};
+use crate::preamble::{SetupEnd, read_setup};
+use crate::reporting::{RefusalLine, report};
+use login_core::Core;
+use login_edge::{Sink, Source, write_all};
+use login_model::{Event, Setup};
+use recording::{Line, LineReader, WriteEnd};
+use std::alloc::{AllocError, Global};
+
+/// How a replay ended.
+#[derive(Clone, Copy, Debug, PartialEq, Eq)]
+pub enum ReplayEnd {
+    /// The whole transcript was written.
+    Done,
+    /// The line with this number is refused.
+    Script(u32),
+    ReadFault,
+    WriteFault,
+    NoMemory,
+}
+
+/// The last line of a transcript, after so many entries.
+fn end_text(alloc: Global, count: usize) -> Result<String, AllocError>
+    ensures { IfOk result (λ text. string_bytes text ≡ transcript_end count) }
+{
+    format!(in alloc; "end {count}\n")
+}
+
+/// Writes the last line of a transcript, after the entries of the journal.
+fn write_end<K: Sink>(alloc: Global, core: &Core, sink: &mut K) -> Result<(), WriteEnd>
+    ensures gives { Writes (K.held sink.old) (K.held sink.new) (transcript_end (length core.now.journal)) result }
+    ensures cause { WriteCause (K.faults sink.old) (K.faults sink.new) result }
+{
+    let text = match end_text(alloc, core.journal().len()) {
+        Ok(text) => text,
+        Err(_) => return Err(WriteEnd::NoMemory),
+    };
+    match write_all(sink, text.as_bytes()) {
+        login_edge::WriteEnd::Done => Ok(()),
+        login_edge::WriteEnd::Fault => Err(WriteEnd::WriteFault),
+    }
+}
+
+/// Ends the transcript after the line `end`, which is the line with this number, and sees that no line
+/// follows.
+fn finish<S: Source, K: Sink>(
+    alloc: Global,
+    lines: &mut LineReader,
+    source: &mut S,
+    core: &Core,
+    number: u32,
+    sink: &mut K,
+) -> ReplayEnd
+    requires play { IsPlay core.now.setup.users core.now.journal }
+    requires count { number ≡ length (lines_at ended core.now.setup.users core.now.journal) }
+    requires within { number ≤ most_lines }
+    ensures gives { GoesOn ended core.now.setup.users core.now.journal (left_to lines.old (S.left source.old)) (S.left source.new) (K.held sink.old) (K.held sink.new) result }
+    ensures read { ReadRises (S.faults source.old) (S.faults source.new) result }
+    ensures write { WriteRises (K.faults sink.old) (K.faults sink.new) result }
+{
+    match write_end(alloc, core, sink) {
+        Ok(()) => {}
+        Err(WriteEnd::WriteFault) => return ReplayEnd::WriteFault,
+        Err(WriteEnd::NoMemory) => return ReplayEnd::NoMemory,
+    }
+    match read_ahead(alloc, lines, source) {
+        Ahead::Line(line) => {
+            drop(line);
+            ReplayEnd::Script(number + 1)
+        }
+        Ahead::NotBuilt => ReplayEnd::Script(number + 1),
+        Ahead::End => ReplayEnd::Done,
+        Ahead::ReadFault => ReplayEnd::ReadFault,
+        Ahead::NoMemory => ReplayEnd::NoMemory,
+    }
+}
+
+/// A line behind `go`.
+#[derive(Drop)]
+enum Behind {
+    Event(Event),
+    End,
+    /// A line that may not stand there.
+    Other,
+}
+
+/// What a line says that stands behind `go`.
+fn behind_go(line: Line) -> Behind
+    ensures { SaysBehind line result }
+{
+    match line {
+        Line::Event(event) => Behind::Event(event),
+        Line::End => Behind::End,
+        _ => Behind::Other,
+    }
+}
+
+/// A recording has at most so many lines.
+const MOST_LINES: u32 = 4_000_000_000;
+
+/// Plays the events of a recording, from behind `go`, through the end of the text. So many lines were
+/// read before.
+fn play_events<S: Source, K: Sink>(
+    alloc: Global,
+    lines: &mut LineReader,
+    source: &mut S,
+    core: &mut Core,
+    first: u32,
+    sink: &mut K,
+) -> ReplayEnd
+    requires users { AreUsers core.old.setup.users }
+    requires journal { core.old.journal ≡ [] }
+    requires few { first ≤ most_lines }
+    requires first { first ≡ length (lines_at going core.old.setup.users []) }
+    ensures gives { GoesOn going core.old.setup.users [] (left_to lines.old (S.left source.old)) (S.left source.new) (K.held sink.old) (K.held sink.new) result }
+    ensures read { ReadRises (S.faults source.old) (S.faults source.new) result }
+    ensures write { WriteRises (K.faults sink.old) (K.faults sink.new) result }
+{
+    for number in first..MOST_LINES {
+        let line = match read_ahead(alloc, lines, source) {
+            Ahead::Line(line) => line,
+            Ahead::NotBuilt => return ReplayEnd::Script(number + 1),
+            Ahead::End => return ReplayEnd::Script(number + 1),
+            Ahead::ReadFault => return ReplayEnd::ReadFault,
+            Ahead::NoMemory => return ReplayEnd::NoMemory,
+        };
+        let event = match behind_go(line) {
+            Behind::Event(event) => event,
+            Behind::End => return finish(alloc, lines, source, core, number + 1, sink),
+            Behind::Other => return ReplayEnd::Script(number + 1),
+        };
+        match play_event(alloc, core, event, sink) {
+            Played::Done => {}
+            Played::Refused => return ReplayEnd::Script(number + 1),
+            Played::WriteFault => return ReplayEnd::WriteFault,
+            Played::NoMemory => return ReplayEnd::NoMemory,
+        }
+    }
+    ReplayEnd::Script(MOST_LINES + 1)
+}
+
+/// Writes the first line of a transcript, and plays the events of a setup, before which so many lines
+/// were read.
+fn play_setup<S: Source, K: Sink>(
+    alloc: Global,
+    lines: &mut LineReader,
+    source: &mut S,
+    setup: Setup,
+    first: u32,
+    sink: &mut K,
+) -> ReplayEnd
+    requires users { AreUsers setup.users }
+    requires first { first ≡ length (lines_at going setup.users []) }
+    ensures gives { ReplayGives (option_map (λ rest. spelling (lines_at going setup.users []) ++ rest) (left_to lines.old (S.left source.old))) (S.left source.new) (K.held sink.old) (K.held sink.new) result }
+    ensures read { ReadRises (S.faults source.old) (S.faults source.new) result }
+    ensures write { WriteRises (K.faults sink.old) (K.faults sink.new) result }
+{
+    let mut core = match Core::new(alloc, setup) {
+        Ok(core) => core,
+        Err(_) => return ReplayEnd::NoMemory,
+    };
+    match write_all(sink, b"login-transcript 1\n") {
+        login_edge::WriteEnd::Done => {}
+        login_edge::WriteEnd::Fault => return ReplayEnd::WriteFault,
+    }
+    play_events(alloc, lines, source, &mut core, first, sink)
+}
+
+/// Replays a recording, without a word on the errors.
+fn replay_text<S: Source, K: Sink>(alloc: Global, source: &mut S, sink: &mut K) -> ReplayEnd
+    ensures gives { ReplayGives (S.left source.old) (S.left source.new) (K.held sink.old) (K.held sink.new) result }
+    ensures read { ReadRises (S.faults source.old) (S.faults source.new) result }
+    ensures write { WriteRises (K.faults sink.old) (K.faults sink.new) result }
+{
+    let mut lines = match LineReader::new(alloc) {
+        Ok(lines) => lines,
+        Err(_) => return ReplayEnd::NoMemory,
+    };
+    match read_setup(alloc, &mut lines, source) {
+        SetupEnd::Ready(setup, first) => {
+            play_setup(alloc, &mut lines, source, setup, first, sink)
+        }
+        SetupEnd::Script(number) => ReplayEnd::Script(number),
+        SetupEnd::ReadFault => ReplayEnd::ReadFault,
+        SetupEnd::NoMemory => ReplayEnd::NoMemory,
+    }
+}
+
+/// Writes the line of an end on the errors.
+fn report_end<E: Sink>(refusal: RefusalLine, end: ReplayEnd, errors: &mut E)
+    ensures { ReportsEnd (E.held errors.old) (E.held errors.new) (E.faults errors.old) (E.faults errors.new) end }
+{
+    match end {
+        ReplayEnd::Done => {}
+        ReplayEnd::Script(number) => report(errors, &refusal.of(number)),
+        ReplayEnd::ReadFault => report(errors, b"read fault\n"),
+        ReplayEnd::WriteFault => report(errors, b"write fault\n"),
+        ReplayEnd::NoMemory => report(errors, b"no memory\n"),
+    }
+}
+
+/// Replays a recording: reads it from the source, and writes its transcript to the sink. An end other
+/// than `Done` has its line on the errors; where that can't be written the end stays.
+pub fn replay_all<S: Source, K: Sink, E: Sink>(
+    alloc: Global,
+    source: &mut S,
+    sink: &mut K,
+    errors: &mut E,
+) -> ReplayEnd
+    ensures gives { ReplayGives (S.left source.old) (S.left source.new) (K.held sink.old) (K.held sink.new) result }
+    ensures read { ReadRises (S.faults source.old) (S.faults source.new) result }
+    ensures write { WriteRises (K.faults sink.old) (K.faults sink.new) result }
+    ensures said { ReportsEnd (E.held errors.old) (E.held errors.new) (E.faults errors.old) (E.faults errors.new) result }
+{
+    let refusal = match RefusalLine::new(alloc) {
+        Ok(refusal) => refusal,
+        Err(_) => {
+            report(errors, b"no memory\n");
+            return ReplayEnd::NoMemory;
+        }
+    };
+    let end = replay_text(alloc, source, sink);
+    report_end(refusal, end, errors);
+    end
+}

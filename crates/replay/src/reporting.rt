@@ -1,0 +1,69 @@
+// The line of an end on the errors.
+
+ghost use Rattle.std.specs.Prelude.{◌≡◌, ◌+◌, ◌<◌, ◌≤◌, ◌++◌, ◌^◌, [], IfOk, length, vec_len, vec_capacity};
+ghost use Rattle.std.specs.Fmt.{decimal};
+ghost use Rattle.replay.specs.Reporting.{Reported, refusal};
+
+use login_edge::{Sink, write_all};
+use std::alloc::{AllocError, Global};
+
+/// Puts a number in digits at the end, without memory.
+#[tactic(auto, using(crate::proofs::Decimals::of_digits))]
+fn push_decimal(out: &mut Vec<u8>, n: u32)
+    requires { vec_len out.old + length (decimal n) ≤ vec_capacity out.old }
+    ensures items { out.new.items ≡ out.old.items ++ decimal n }
+    ensures len { vec_len out.new ≡ vec_len out.old + length (decimal n) }
+    ensures capacity { vec_capacity out.new ≡ vec_capacity out.old }
+{
+    if n < 10 {
+        out.push_reserved(b'0' + n as u8);
+        return;
+    }
+    push_decimal(out, n / 10);
+    out.push_reserved(b'0' + (n % 10) as u8);
+}
+
+/// Puts a text at the end, without memory.
+fn push_text(out: &mut Vec<u8>, text: &[u8])
+    requires { vec_len out.old + length text.now ≤ vec_capacity out.old }
+    ensures items { out.new.items ≡ out.old.items ++ text.now }
+    ensures len { vec_len out.new ≡ vec_len out.old + length text.now }
+    ensures capacity { vec_capacity out.old ≤ vec_capacity out.new }
+{
+    out.extend_from_slice(text).unwrap();
+}
+
+/// The line of a refusal. Its memory is taken before it is needed.
+#[derive(Drop)]
+pub struct RefusalLine {
+    text: Vec<u8>,
+    ghost empty: { text.items ≡ [] },
+    ghost unused: { vec_len text ≡ 0 },
+    ghost room: { 32 ≤ vec_capacity text },
+}
+
+impl RefusalLine {
+    /// Room for the line of a refusal.
+    pub fn new(alloc: Global) -> Result<RefusalLine, AllocError> {
+        let text = Vec::with_capacity(alloc, 32)?;
+        Ok(RefusalLine { text })
+    }
+
+    /// The line that refuses the line with this number, without memory.
+    pub fn of(self, line: u32) -> Vec<u8>
+        ensures { result.items ≡ refusal line }
+    {
+        let RefusalLine { mut text } = self;
+        push_text(&mut text, b"line ");
+        push_decimal(&mut text, line);
+        push_text(&mut text, b": not-built\n");
+        text
+    }
+}
+
+/// Writes a line of the errors. Where that fails, what the line says holds all the same.
+pub fn report<E: Sink>(errors: &mut E, text: &[u8])
+    ensures { Reported (E.held errors.old) (E.held errors.new) (E.faults errors.old) (E.faults errors.new) text.now }
+{
+    let _ = write_all(errors, text);
+}
