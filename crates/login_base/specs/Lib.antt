@@ -4,3 +4,5 @@ pub mod Number
 pub mod SessionId
 pub mod Seat
 pub mod Room
+pub mod Names
+pub mod Labels

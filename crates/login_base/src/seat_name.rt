@@ -3,7 +3,12 @@
 ghost use Rattle.std.specs.Prelude.{◌≡◌, ◌↔◌, ◌≤◌, length, IsTrue, IsOk, IfOk, codes, replicate, ◌++◌, ◌-◌};
 ghost use Rattle.login_base.specs.Seat.{is_seat_name, is_seat_byte};
 ghost use Rattle.std.specs.List.{list_all};
+ghost use Rattle.login_base.specs.Labels.{escape};
 
+use crate::label;
+use crate::memory::NoMemory;
+use crate::word::Word;
+use std::alloc::Global;
 use std::marker::Model;
 
 /// The longest name of a seat, in bytes.
@@ -86,6 +91,13 @@ impl SeatName {
             size: text.len(),
             bytes: padded(text),
         })
+    }
+
+    /// The name as one element of an object path.
+    pub fn label(&self, alloc: Global) -> Result<Word, NoMemory>
+        ensures { IfOk result (λ word. word ≡ escape self.now) }
+    {
+        label::escape(alloc, self.as_slice())
     }
 
     /// The name's bytes.

@@ -1,0 +1,13 @@
+pub mod Reading
+pub mod Steps
+pub mod Explained
+pub mod Sound
+pub mod Complete
+pub mod NameLaws
+pub mod Labels
+pub mod Counts
+pub mod Letters
+pub mod TypesRead
+pub mod TypesSound
+pub mod TypesFaults
+pub mod Structs

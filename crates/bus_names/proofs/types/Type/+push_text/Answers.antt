@@ -1,0 +1,10 @@
+use Rattle.std.proofs.Common.{subst, sym, ap, ◌∙◌}
+use Rattle.bus_names.specs.Nodes.{HasField, shape_of}
+use Rattle.bus_names.proofs.Structs.{struct_pushed}
+use Rattle.bus_names.proofs.types.Type.+push_text.Goals as goal
+
+pub returns-in_ok-push-in-Struct-2 : goal.returns-in_ok-push-in-Struct-2
+returns-in_ok-push-in-Struct-2 t c =
+    struct_pushed c.args.out.now.items c.push-in-Struct.new.self.items c.loop-field.out.items c.push-in-Struct-2.new.self.items c.loop-field.field-index c.in-Struct.fields.items c.deref-field-items.result.now c.args.self.now
+    c.in_ok-push-in-Struct.ensures.items c.loop-field.invariant c.in_ok-push-in-Struct-2.ensures.items c.loop-field-test.false c.deref-field-items.ensures.value
+    (subst HasField c.in-Struct.is c.self.invariant) (ap shape_of (sym c.in-Struct.is) ∙ c.self.view_is)

@@ -1,0 +1,42 @@
+-- Signatures of the D-Bus Specification ("Type System"), and what their faults mean.
+use Rattle.std.specs.Prelude.{ℕ, ◌≡◌, ◌≤◌, ◌<◌, ◌+◌, List, ◌++◌, length, take, Result, Ok, Err, ◌⊎◌}
+use Rattle.login_base.specs.Names.{IsFault}
+use Rattle.bus_names.specs.declared.fault.NameFault.{NameFault}
+use Rattle.bus_names.specs.declared.fault.NameFault.TheVariants.{BadName, BadLabel, BadSignature, TooDeep, NoMemory}
+use Rattle.bus_names.specs.Types.{Shape, signature_text, arrays_all, structs_all}
+
+-- arrays and structs are nested within a limit, each counted apart
+pub record IsNested (limit : ℕ) (ts : List Shape) : Type 0 where
+  pub in_arrays : arrays_all ts ≤ limit
+  pub in_structs : structs_all ts ≤ limit
+
+-- the types of a signature: up to 32 arrays and up to 32 structs deep, and up to 255 letters long
+pub record IsWithin (ts : List Shape) : Type 0 where
+  pub nested : IsNested 32 ts
+  pub short : length (signature_text ts) ≤ 255
+
+-- a text of types that are nested within a limit
+pub record IsSignature (limit : ℕ) (text : List ℕ) : Type 0 where
+  pub types : List Shape
+  pub nested : IsNested limit types
+  pub spelled : text ≡ signature_text types
+
+-- a text of types that are nested however deep
+pub record IsUnlimited (text : List ℕ) : Type 0 where
+  pub types : List Shape
+  pub spelled : text ≡ signature_text types
+
+-- the letter at the offset opens a container that is one too many
+pub record IsTooDeep (text : List ℕ) (offset : ℕ) : Type 0 where
+  pub fault : IsFault (IsSignature 32) text offset
+  pub opening : (more : List ℕ) × IsUnlimited (take (offset + 1) text ++ more)
+
+-- A text is the signature of the types; or it is too long; or a fault is the first letter with which no
+-- continuation is a signature, with no limit on the length, and, for a bad one, however deep it is nested.
+abbrev pub Explains : List ℕ → Result (List Shape) NameFault → Type 0
+Explains text (Ok ts) = (text ≡ signature_text ts) × IsWithin ts
+Explains text (Err (BadSignature offset)) = ((255 < length text) × (offset ≡ 255)) ⊎ ((length text ≤ 255) × IsFault IsUnlimited text offset)
+Explains text (Err (TooDeep offset)) = (length text ≤ 255) × IsTooDeep text offset
+Explains text (Err (BadName offset)) = ⊥
+Explains text (Err BadLabel) = ⊥
+Explains text (Err NoMemory) = ⊥

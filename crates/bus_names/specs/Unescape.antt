@@ -1,0 +1,38 @@
+-- Elements of object paths as texts.
+use Rattle.std.specs.Prelude.{ℕ, ◌≡◌, ◌<◌, ◌+◌, ◌*◌, ◌-◌, ◌%◌, List, [], ◌∷◌, nat_lt, ◌==◌, Option, Some, None, Result, Ok, Err, ⊤, if◌then◌else◌}
+use Rattle.std.specs.List.{AllByRecursion}
+use Rattle.std.specs.Str.{bytes_eq}
+use Rattle.login_base.specs.Labels.{escape}
+use Rattle.bus_names.specs.declared.fault.NameFault.{NameFault}
+use Rattle.bus_names.specs.declared.fault.NameFault.TheVariants.{BadName, BadLabel, BadSignature, TooDeep, NoMemory}
+
+abbrev pub digit_value : ℕ → ℕ
+digit_value d = if nat_lt d 58 then (d - 48) % 16 else (d - 87) % 16
+
+-- the bytes with each escape decoded, whatever its digits are
+abbrev pub decoded : List ℕ → List ℕ
+decoded [] = []
+decoded (a ∷ []) = a ∷ []
+decoded (a ∷ b ∷ []) = a ∷ b ∷ []
+decoded (a ∷ b ∷ c ∷ rest) = if a == 95 then (digit_value b * 16 + digit_value c) ∷ decoded rest else a ∷ decoded (b ∷ c ∷ rest)
+
+-- the one text whose escape the label may be
+abbrev pub candidate : List ℕ → List ℕ
+candidate label = if bytes_eq label (95 ∷ []) then [] else decoded label
+
+-- the text whose escape the label is
+unfoldable pub unescaped : List ℕ → Option (List ℕ)
+unescaped label = if bytes_eq (escape (candidate label)) label then Some (candidate label) else None
+
+-- a reader's answer: the text, no text, or there was no memory
+abbrev pub Unescapes : Result (List ℕ) NameFault → Option (List ℕ) → Type 0
+Unescapes (Ok text) found = found ≡ Some text
+Unescapes (Err BadLabel) found = found ≡ None
+Unescapes (Err NoMemory) found = ⊤
+Unescapes (Err (BadName offset)) found = ⊥
+Unescapes (Err (BadSignature offset)) found = ⊥
+Unescapes (Err (TooDeep offset)) found = ⊥
+
+-- no text of bytes has this escape
+abbrev pub NoEscape : List ℕ → Type 0
+NoEscape label = (text : List ℕ) → AllByRecursion (λ b. b < 256) text → label ≡ escape text → ⊥

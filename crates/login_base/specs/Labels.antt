@@ -1,0 +1,28 @@
+-- Texts as elements of object paths, as sd_bus_path_encode(3) writes them.
+use Rattle.std.specs.Prelude.{ℕ, List, [], ◌∷◌, ◌++◌, ◌+◌, ◌/◌, ◌%◌, nat_le, nat_lt, ◌&&◌, ◌||◌, Bool, if◌then◌else◌}
+use Rattle.std.specs.List.{flat_map}
+use Rattle.login_base.specs.Names.{is_digit}
+
+abbrev pub is_letter : ℕ → Bool
+is_letter b = (nat_le 97 b && nat_le b 122) || (nat_le 65 b && nat_le b 90)
+
+-- a digit of base 16, in lower case
+abbrev pub hex_digit : ℕ → ℕ
+hex_digit n = if nat_lt n 10 then 48 + n else 87 + n
+
+-- an underscore and two digits of base 16
+abbrev pub escape_of : ℕ → List ℕ
+escape_of b = 95 ∷ hex_digit (b / 16) ∷ hex_digit (b % 16) ∷ []
+
+-- a byte in first place, which may be no digit
+abbrev pub first_byte : ℕ → List ℕ
+first_byte b = if is_letter b then b ∷ [] else escape_of b
+
+-- a byte behind the first place
+abbrev pub later_byte : ℕ → List ℕ
+later_byte b = if is_letter b || is_digit b then b ∷ [] else escape_of b
+
+-- each byte but letters and digits is escaped, and so is a digit in first place; the empty text is an underscore
+abbrev pub escape : List ℕ → List ℕ
+escape [] = 95 ∷ []
+escape (b ∷ bs) = first_byte b ++ flat_map later_byte bs
