@@ -1,5 +1,5 @@
 -- The escapes of texts are read again.
-use Rattle.std.proofs.Common.{◌≡◌, ℕ, ◌+◌, ◌*◌, ◌/◌, ◌%◌, ◌<◌, List, [], ◌∷◌, ◌++◌, refl, ap, arith, Some, None, sym, ◌∙◌, cond, eqb, true, false, Bool, ◌||◌}
+use Rattle.std.proofs.Common.{get_or, suc, ◌≡◌, ℕ, ◌+◌, ◌*◌, ◌/◌, ◌%◌, ◌<◌, List, [], ◌∷◌, ◌++◌, refl, ap, arith, Some, None, sym, ◌∙◌, cond, eqb, true, false, Bool, ◌||◌}
 use Rattle.std.proofs.lemmas.Bool.Decides.{nat_tests}
 use Rattle.std.proofs.lemmas.Slice.Eq.{bytes_eq-Decides}
 use Rattle.std.specs.Str.{bytes_eq}
@@ -83,3 +83,14 @@ pub tried_other : (label text : List ℕ) (same : Bool) → Tried label text sam
 tried_other label text same h e k =
     let t : bytes_eq (escape text) label ≡ true = (bytes_eq-Decides (escape text) label).1 (ap escape h.is ∙ k) in
     let f : bytes_eq (escape text) label ≡ false = sym h.compared ∙ e in cc
+
+-- bytes, as a slice of them has it
+pub are_bytes : (text : List ℕ) → ((i : ℕ) → get_or text i 0 < 256) → AllByRecursion (λ b. b < 256) text
+are_bytes [] h = tt
+are_bytes (b ∷ bs) h = (h 0, are_bytes bs (λ i. h (suc i)))
+
+-- the escape of a text is read as the text
+pub unescaped-escape : (text : List ℕ) → ((i : ℕ) → get_or text i 0 < 256) → unescaped (escape text) ≡ Some text
+unescaped-escape text h =
+    let same : candidate (escape text) ≡ text = candidate-escape text (are_bytes text h) in
+    unescaped_some (escape text) (ap escape same) ∙ ap (λ (t : List ℕ). Some t) same

@@ -79,10 +79,11 @@ impl Signature {
         self.types.as_slice()
     }
 
-    /// The letters of the types.
+    /// The letters of the types, which are read as these types again.
     pub fn text(&self, alloc: Global) -> Result<Word, NoMemory>
         ensures value { IfOk result (λ word. word ≡ signature_text self.now) }
         ensures limits { IsWithin self.now }
+        ensures again { signature_of (signature_text self.now) ≡ Ok self.now }
     {
         let mut out = Vec::new(alloc);
         for kind in self.types.as_slice() {

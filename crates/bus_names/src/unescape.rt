@@ -9,9 +9,11 @@ use login_base::{NoMemory, Word};
 use std::alloc::Global;
 
 /// The text as one element of an object path (sd_bus_path_encode(3)): each byte but letters and digits of
-/// ASCII is `_` and two hex digits, so is a digit in first place, and the empty text is `_`.
+/// ASCII is `_` and two hex digits, so is a digit in first place, and the empty text is `_`. It is
+/// read as the text again.
 pub fn escape_label(alloc: Global, text: &[u8]) -> Result<Word, NoMemory>
-    ensures { IfOk result (λ word. word ≡ escape text.now) }
+    ensures value { IfOk result (λ word. word ≡ escape text.now) }
+    ensures again { unescaped (escape text.now) ≡ Some text.now }
 {
     login_base::escape(alloc, text)
 }
