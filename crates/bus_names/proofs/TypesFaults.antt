@@ -19,7 +19,7 @@ use Rattle.bus_names.specs.Frames.{array_count, struct_count}
 use Rattle.bus_names.specs.Parsing.{start, complete, open_entry, close_struct, other_letter, first_by, key_by, key_letter, end_letter, step_by, step, is_ready, refused_at, parse_from}
 use Rattle.bus_names.proofs.Letters.{parse_from-err, parse_from-ok, parse_from-end}
 use borrow.Author.Tests.{ltb-true}
-use Rattle.bus_names.specs.Signatures.{IsWithin, IsSignature, IsUnlimited, IsTooDeep, Explains}
+use Rattle.bus_names.specs.Signatures.{IsWithin, IsSignature, IsUnlimited, IsTooDeep, IsBad, Explains}
 use Rattle.bus_names.specs.Parsing.{signature_of}
 use Rattle.bus_names.proofs.TypesRead.{state, types_read}
 use Rattle.bus_names.proofs.TypesSound.{parse_sound, start_fits}
@@ -189,6 +189,7 @@ BadAt l s at front k = (m : ℕ) → l ≤ m → IsFault (Reads m s at) front k
 
 -- an opening too many
 pub record DeepAt (l : ℕ) (s : Parser) (at : ℕ) (front : List ℕ) (k : ℕ) : Type 0 where
+  pub letter : k < length front
   pub fault : IsFault (Reads l s at) front k
   pub limit : ℕ
   pub above : l ≤ limit
@@ -225,7 +226,7 @@ refuses l s at b bs f Deep e g =
     let o = step_opens l m s.done s.frames s.turn b (below _ _ (omega arith)) (below _ _ (omega arith)) in
     let t = o.deep e in
     let h = can_end m t.0.done t.0.frames t.0.turn (at + 1) in
-    (0, inr (g ∙ ap (λ (n : ℕ). TooDeep n) zero, record { fault = here l s at b bs Deep e; limit = m; above = omega arith; more = h.more; read = moves m s t.0 at b h.more t.1 h.read }))
+    (0, inr (g ∙ ap (λ (n : ℕ). TooDeep n) zero, record { letter = omega arith; fault = here l s at b bs Deep e; limit = m; above = omega arith; more = h.more; read = moves m s t.0 at b h.more t.1 h.read }))
 refuses l s at b bs f NoMemory e g =
     let m : ℕ = l + array_count s.frames + struct_count s.frames + 1 in
     absurd ((step_opens l m s.done s.frames s.turn b (below _ _ (omega arith)) (below _ _ (omega arith))).memory e)
@@ -249,6 +250,7 @@ continues l s t at b bs f e h = by h.1
           inr (
             g.0 ∙ ap (λ (n : ℕ). TooDeep n) same,
             record {
+              letter = let w = d.letter in omega arith;
               fault = later l s t at b bs k e d.fault;
               limit = d.limit;
               above = d.above;
@@ -281,24 +283,32 @@ unlimited_reads t h =
     let m : ℕ = 32 + arrays_all h.types + structs_all h.types in
     (m, omega arith, signature_reads m t (record { types = h.types; nested = record { in_arrays = omega arith; in_structs = omega arith }; spelled = h.spelled }))
 
-bad_law : (text : List ℕ) (k : ℕ) → BadAt 32 start 0 text k → IsFault IsUnlimited text k
+-- where no continuation is read, none is a signature
+signature_fault : (text : List ℕ) (k : ℕ) → IsFault (Reads 32 start 0) text k → IsFault (IsSignature 32) text k
+signature_fault text k f = record {
+  within = f.within;
+  begun = (f.begun.0, is_signature 32 _ f.begun.1);
+  stopped = λ i more u. f.stopped i more (signature_reads 32 _ u);
+  refused = λ u. f.refused (signature_reads 32 _ u);
+}
+
+bad_law : (text : List ℕ) (k : ℕ) → BadAt 32 start 0 text k → IsBad text k
 bad_law text k h =
     let f : IsFault (Reads 32 start 0) text k = h 32 (omega arith) in
     record {
-      within = f.within;
-      begun = (f.begun.0, is_unlimited 32 _ f.begun.1);
-      stopped = λ i more u. let r = unlimited_reads _ u in (h r.0 r.1).stopped i more r.2;
-      refused = λ u. let r = unlimited_reads _ u in (h r.0 r.1).refused r.2;
+      fault = signature_fault text k f;
+      whatever_depth = record {
+        within = f.within;
+        begun = (f.begun.0, is_unlimited 32 _ f.begun.1);
+        stopped = λ i more u. let r = unlimited_reads _ u in (h r.0 r.1).stopped i more r.2;
+        refused = λ u. let r = unlimited_reads _ u in (h r.0 r.1).refused r.2;
+      };
     }
 
 deep_law : (text : List ℕ) (k : ℕ) → DeepAt 32 start 0 text k → IsTooDeep text k
 deep_law text k h = record {
-  fault = record {
-    within = h.fault.within;
-    begun = (h.fault.begun.0, is_signature 32 _ h.fault.begun.1);
-    stopped = λ i more u. h.fault.stopped i more (signature_reads 32 _ u);
-    refused = λ u. h.fault.refused (signature_reads 32 _ u);
-  };
+  letter = h.letter;
+  fault = signature_fault text k h.fault;
   opening = (h.more, is_unlimited h.limit _ h.read);
 }
 

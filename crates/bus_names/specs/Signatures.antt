@@ -28,14 +28,21 @@ pub record IsUnlimited (text : List ℕ) : Type 0 where
 
 -- the letter at the offset opens a container that is one too many
 pub record IsTooDeep (text : List ℕ) (offset : ℕ) : Type 0 where
+  pub letter : offset < length text
   pub fault : IsFault (IsSignature 32) text offset
   pub opening : (more : List ℕ) × IsUnlimited (take (offset + 1) text ++ more)
 
+-- no continuation of the text through the offset is one of types, however deep they are nested
+pub record IsBad (text : List ℕ) (offset : ℕ) : Type 0 where
+  pub fault : IsFault (IsSignature 32) text offset
+  pub whatever_depth : IsFault IsUnlimited text offset
+
 -- A text is the signature of the types; or it is too long; or a fault is the first letter with which no
--- continuation is a signature, with no limit on the length, and, for a bad one, however deep it is nested.
+-- continuation is a signature, with no limit on the length: a bad one, however deep it may be nested, or
+-- an opening that is one too many.
 abbrev pub Explains : List ℕ → Result (List Shape) NameFault → Type 0
 Explains text (Ok ts) = (text ≡ signature_text ts) × IsWithin ts
-Explains text (Err (BadSignature offset)) = ((255 < length text) × (offset ≡ 255)) ⊎ ((length text ≤ 255) × IsFault IsUnlimited text offset)
+Explains text (Err (BadSignature offset)) = ((255 < length text) × (offset ≡ 255)) ⊎ ((length text ≤ 255) × IsBad text offset)
 Explains text (Err (TooDeep offset)) = (length text ≤ 255) × IsTooDeep text offset
 Explains text (Err (BadName offset)) = ⊥
 Explains text (Err BadLabel) = ⊥

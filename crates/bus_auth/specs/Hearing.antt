@@ -1,0 +1,48 @@
+-- A handshake that is heard in pieces.
+use Rattle.std.specs.Prelude.{ℕ, ◌≡◌, List, [], Result, Ok, Err, ⊤}
+use Rattle.login_base.specs.declared.memory.NoMemory.{NoMemory}
+use Rattle.bus_auth.specs.declared.table.Ending.{Ending}
+use Rattle.bus_auth.specs.declared.step.AuthState.{AuthState}
+use Rattle.bus_auth.specs.declared.step.AuthStep.{AuthStep}
+use Rattle.bus_auth.specs.declared.step.AuthState.TheVariants.{Going, Begun as begun, Ended as ended}
+use Rattle.bus_auth.specs.Greeting.{Greeting, State, WaitingForNul, Talking, Begun, Ended, greet}
+use Rattle.bus_auth.specs.Standing.{Handshake, kept}
+
+-- what a handshake gives a text as a whole
+abbrev pub greeting : Handshake → List ℕ → Greeting
+greeting auth text = greet auth.uid auth.guid text
+
+-- what was heard so far, all pieces joined, is this text
+pub record HasHeard (auth : Handshake) (text : List ℕ) : Type 0 where
+  pub state : auth.state ≡ kept (greeting auth text).state
+
+-- what the caller is told
+abbrev pub told : State → AuthState
+told WaitingForNul = Going
+told (Talking talk line) = Going
+told (Begun rest) = begun rest
+told (Ended ending) = ended ending
+
+-- a handshake goes on
+abbrev pub IsGoing : State → Type 0
+IsGoing WaitingForNul = ⊤
+IsGoing (Talking talk line) = ⊤
+IsGoing (Begun rest) = ⊥
+IsGoing (Ended ending) = ⊥
+
+-- what the caller is told is how far the handshake is
+abbrev pub Tells : AuthState → State → Type 0
+Tells Going state = IsGoing state
+Tells (begun rest) state = state ≡ Begun []
+Tells (ended ending) state = state ≡ Ended ending
+
+-- a step that gives what a greeting is, and keeps its state
+pub record Gives (greeting : Greeting) (old new : Handshake) (step : AuthStep) : Type 0 where
+  pub replies : step.replies ≡ greeting.replies
+  pub state : step.state ≡ told greeting.state
+  pub kept : new ≡ record old { state = kept greeting.state }
+
+-- the answer of a handshake that has ended
+abbrev pub IsEnded : Result AuthStep NoMemory → Ending → Type 0
+IsEnded (Ok step) ending = (step.replies ≡ []) × (step.state ≡ ended ending)
+IsEnded (Err e) ending = ⊥

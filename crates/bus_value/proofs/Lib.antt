@@ -1,0 +1,16 @@
+pub mod Texts
+pub mod Rows
+pub mod Padding
+pub mod Chains
+pub mod Levels
+pub mod Rounds
+pub mod Nesting
+pub mod Containers
+pub mod Wholes
+pub mod NumberLaws
+pub mod BasicSpelled
+pub mod ValueSpelled
+pub mod NumberSound
+pub mod BasicSound
+pub mod ValueSound
+pub mod Fitting

@@ -1,0 +1,15 @@
+pub mod BasicValues
+pub mod Values
+pub mod ValueCode
+pub mod Nodes
+pub mod NodeFalls
+pub mod Kinds
+pub mod Spelling
+pub mod Alignment
+pub mod Limits
+pub mod Faults
+pub mod BasicReading
+pub mod Reading
+pub mod Answers
+pub mod Opening
+pub mod Grammar

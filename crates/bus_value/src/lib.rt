@@ -1,0 +1,23 @@
+//! Values of the D-Bus Specification ("Type System", "Marshaling (Wire Format)"), and how they are
+//! written as bytes and read.
+#![tactic(auto)]
+
+mod basic_value;
+mod basic_write;
+mod fault;
+mod numbers;
+mod order;
+mod reader;
+mod reading;
+mod value;
+mod writing;
+
+pub use basic_value::BasicValue;
+pub use fault::ValueFault;
+pub use order::Order;
+pub use reading::read_values;
+pub use value::{Value, ValueKind};
+pub use writing::write_values;
+
+#[cfg(test)]
+mod tests;

@@ -1,0 +1,43 @@
+// How value lists are read.
+
+ghost use Rattle.std.specs.Prelude.{◌≡◌, List, Ok, IfOk};
+ghost use Rattle.bus_value.specs.Answers.{Gives};
+ghost use Rattle.bus_value.specs.Grammar.{Spells};
+ghost use Rattle.bus_value.specs.Limits.{AllFit};
+ghost use Rattle.bus_value.specs.Reading.{read_all};
+ghost use Rattle.bus_value.specs.Values.{Val, vals};
+
+use crate::fault::ValueFault;
+use crate::order::Order;
+use crate::reader::Reader;
+use crate::value::Value;
+use bus_names::Signature;
+use login_base::Items;
+use std::alloc::Global;
+
+/// The values of these types that the bytes spell, which stand from the offset `start` on; else the first fault, reading
+/// from the left.
+pub fn read_values(
+    alloc: Global,
+    order: Order,
+    start: usize,
+    types: &Signature,
+    bytes: &[u8],
+) -> Result<Items<Value>, ValueFault>
+    ensures value { Gives result (read_all order start types.now bytes.now) }
+    // what is read is spelled so
+    ensures sound { (vs : List Val) → read_all order start types.now bytes.now ≡ Ok vs → Spells order start types.now vs bytes.now }
+    // what is read can be written again
+    ensures fits { IfOk result (λ values. AllFit order start (vals values)) }
+    // what is spelled is read
+    ensures complete { (vs : List Val) → Spells order start types.now vs bytes.now → read_all order start types.now bytes.now ≡ Ok vs }
+    // and is spelled so by no other values
+    ensures unique { (vs ws : List Val) → Spells order start types.now vs bytes.now → Spells order start types.now ws bytes.now → vs ≡ ws }
+{
+    let reader = Reader::new(alloc, order, start);
+    let (values, end) = reader.values(types.types(), bytes, 0)?;
+    if end < bytes.len() {
+        return Err(ValueFault::BadLength(reader.told(end)));
+    }
+    Ok(values)
+}

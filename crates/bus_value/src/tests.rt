@@ -1,0 +1,385 @@
+// What no clause can show: bytes that an encoder of its own wrote, jeepney 0.8.0, and that the calls succeed.
+
+ghost use Rattle.std.specs.Prelude.{◌≡◌, ◌∷◌, [], ◌<◌, ◌^◌, length, IfOk};
+ghost use Rattle.bus_names.specs.Types as shapes;
+ghost use Rattle.bus_value.specs.Values.{vals, basic, array, variant, none, more, dict, entry, no_entries};
+ghost use Rattle.bus_value.specs.Limits.{AllFit, HasRoom};
+
+mod basic;
+mod containers;
+mod faults;
+
+use super::*;
+use basic::{NUMBERS, STRUCTS, TEXTS};
+use bus_names::{Basic, NameFault, ObjectPath, Signature, Type};
+use containers::CONTAINERS;
+use faults::Fault;
+use login_base::{Items, NoMemory, Word};
+use std::alloc::Global;
+use std::slice;
+
+/// Whether the value is written as these bytes.
+fn is_written(
+    alloc: Global,
+    order: Order,
+    start: usize,
+    value: Value,
+    bytes: &[u8],
+) -> Result<bool, NoMemory>
+    requires { AllFit order start (vals (value ∷ [])) }
+{
+    let mut values = Items::new(alloc);
+    values.push(value)?;
+    Ok(write_values(alloc, order, start, &values)?.as_slice() == bytes)
+}
+
+/// A value of a type of numbers.
+fn number(kind: Basic, number: i64) -> BasicValue
+    ensures { HasRoom result }
+{
+    match kind {
+        Basic::Byte => BasicValue::Byte(u8::try_from(number).unwrap_or(0)),
+        Basic::Bool => BasicValue::Bool(number == 1),
+        Basic::I16 => BasicValue::I16(i16::try_from(number).unwrap_or(0)),
+        Basic::U16 => BasicValue::U16(u16::try_from(number).unwrap_or(0)),
+        Basic::I32 => BasicValue::I32(i32::try_from(number).unwrap_or(0)),
+        Basic::U32 => BasicValue::U32(u32::try_from(number).unwrap_or(0)),
+        Basic::I64 => BasicValue::I64(number),
+        _ => BasicValue::U64(u64::try_from(number).unwrap_or(0)),
+    }
+}
+
+/// The values that the bytes spell, under a signature.
+fn read(
+    alloc: Global,
+    order: Order,
+    start: usize,
+    signature: &[u8],
+    bytes: &[u8],
+) -> Result<Items<Value>, ValueFault> {
+    match Signature::read(alloc, signature) {
+        Ok(types) => read_values(alloc, order, start, &types, bytes),
+        Err(_) => Err(ValueFault::NoMemory),
+    }
+}
+
+/// Whether the values that the bytes spell are written as these bytes.
+fn is_written_again(
+    alloc: Global,
+    order: Order,
+    start: usize,
+    signature: &[u8],
+    bytes: &[u8],
+) -> Result<bool, ValueFault> {
+    match Signature::read(alloc, signature) {
+        Ok(types) => {
+            let values = read_values(alloc, order, start, &types, bytes)?;
+            Ok(write_values(alloc, order, start, &values)?.as_slice() == bytes)
+        }
+        Err(_) => Ok(false),
+    }
+}
+
+#[test]
+fn what_is_read_is_written_again(rt: HostRuntime) -> Result<(), ValueFault> {
+    let alloc = rt.alloc();
+    for (signature, order, start, bytes) in CONTAINERS {
+        assert!(rt; is_written_again(alloc, order, start, signature, bytes)?);
+    }
+    for (kind, _, order, start, bytes) in NUMBERS {
+        assert!(rt; is_written_again(alloc, order, start, &[kind.letter()], bytes)?);
+    }
+    for (kind, _, order, start, bytes) in TEXTS {
+        assert!(rt; is_written_again(alloc, order, start, &[kind.letter()], bytes)?);
+    }
+    Ok(())
+}
+
+/// The number in a value of a type of numbers.
+fn payload(value: &BasicValue) -> Option<i64> {
+    match value {
+        BasicValue::Byte(number) => Some(i64::from(*number)),
+        BasicValue::Bool(truth) => Some(if *truth { 1 } else { 0 }),
+        BasicValue::I16(number) => Some(i64::from(*number)),
+        BasicValue::U16(number) => Some(i64::from(*number)),
+        BasicValue::I32(number) => Some(i64::from(*number)),
+        BasicValue::U32(number) => Some(i64::from(*number)),
+        BasicValue::I64(number) => Some(*number),
+        BasicValue::U64(number) => i64::try_from(*number).ok(),
+        _ => None,
+    }
+}
+
+/// Whether this is the number alone.
+fn is_number(values: &[Value], number: i64) -> bool {
+    match values {
+        [value] => match value.kind() {
+            ValueKind::Basic(value) => payload(value) == Some(number),
+            _ => false,
+        },
+        _ => false,
+    }
+}
+
+/// Whether this is the text alone.
+fn is_text(alloc: Global, values: &[Value], text: &[u8]) -> Result<bool, NoMemory> {
+    match values {
+        [value] => match value.kind() {
+            ValueKind::Basic(BasicValue::Str(word)) => Ok(word.as_slice() == text),
+            ValueKind::Basic(BasicValue::Path(path)) => Ok(path.as_slice() == text),
+            ValueKind::Basic(BasicValue::Sig(types)) => Ok(types.text(alloc)?.as_slice() == text),
+            _ => Ok(false),
+        },
+        _ => Ok(false),
+    }
+}
+
+#[test]
+fn numbers_are_read(rt: HostRuntime) -> Result<(), ValueFault> {
+    let alloc = rt.alloc();
+    for (kind, payload, order, start, bytes) in NUMBERS {
+        let values = read(alloc, order, start, &[kind.letter()], bytes)?;
+        assert!(rt; is_number(values.as_slice(), payload));
+    }
+    Ok(())
+}
+
+#[test]
+fn texts_are_read(rt: HostRuntime) -> Result<(), ValueFault> {
+    let alloc = rt.alloc();
+    for (kind, payload, order, start, bytes) in TEXTS {
+        let values = read(alloc, order, start, &[kind.letter()], bytes)?;
+        assert!(rt; is_text(alloc, values.as_slice(), payload)?);
+    }
+    Ok(())
+}
+
+#[test]
+fn structs_are_read(rt: HostRuntime) -> Result<(), ValueFault> {
+    let alloc = rt.alloc();
+    for (order, start, bytes) in STRUCTS {
+        let values = read(alloc, order, start, b"(yu)", bytes)?;
+        assert!(rt;
+            match values.as_slice() {
+                [value] => match value.kind() {
+                    ValueKind::Struct([first, second]) => {
+                        is_number(slice::from_ref(first), 1)
+                            && is_number(slice::from_ref(second), 2)
+                    }
+                    _ => false,
+                },
+                _ => false,
+            }
+        );
+    }
+    Ok(())
+}
+
+/// Whether reading the bytes ends with this fault.
+fn is_told(alloc: Global, case: Fault) -> bool {
+    let (signature, order, start, bytes, fault) = case;
+    match read(alloc, order, start, signature, bytes) {
+        Ok(_) => false,
+        Err(found) => found == fault,
+    }
+}
+
+#[test]
+fn faults_of_numbers_are_told(rt: HostRuntime) {
+    for case in faults::NUMBERS {
+        assert!(rt; is_told(rt.alloc(), case));
+    }
+}
+
+#[test]
+fn faults_of_texts_are_told(rt: HostRuntime) {
+    for case in faults::TEXTS {
+        assert!(rt; is_told(rt.alloc(), case));
+    }
+}
+
+#[test]
+fn faults_of_containers_are_told(rt: HostRuntime) {
+    for case in faults::CONTAINERS {
+        assert!(rt; is_told(rt.alloc(), case));
+    }
+}
+
+#[test]
+fn numbers_are_written(rt: HostRuntime) -> Result<(), NoMemory> {
+    let alloc = rt.alloc();
+    for (kind, payload, order, start, bytes) in NUMBERS {
+        let value = Value::basic(number(kind, payload));
+        assert!(rt; is_written(alloc, order, start, value, bytes)?);
+    }
+    Ok(())
+}
+
+/// A value of a type of texts.
+fn text(alloc: Global, kind: Basic, text: &[u8]) -> Result<BasicValue, NameFault>
+    requires { length text.now < 2 ^ 32 }
+    ensures { IfOk result HasRoom }
+{
+    match kind {
+        Basic::Path => Ok(BasicValue::Path(ObjectPath::read(alloc, text)?)),
+        Basic::Sig => Ok(BasicValue::Sig(Signature::read(alloc, text)?)),
+        _ => Ok(BasicValue::Str(Word::from_slice(alloc, text)?)),
+    }
+}
+
+#[test]
+fn texts_are_written(rt: HostRuntime) -> Result<(), NameFault> {
+    let alloc = rt.alloc();
+    for (kind, payload, order, start, bytes) in TEXTS {
+        if payload.len() < 100 {
+            let value = Value::basic(text(alloc, kind, payload)?);
+            assert!(rt; is_written(alloc, order, start, value, bytes)?);
+        }
+    }
+    Ok(())
+}
+
+#[test]
+fn structs_are_written(rt: HostRuntime) -> Result<(), NoMemory> {
+    let alloc = rt.alloc();
+    for (order, start, bytes) in STRUCTS {
+        let first = Value::basic(BasicValue::Byte(1));
+        let second = Value::basic(BasicValue::U32(2));
+        let value = Value::structure(vec![in alloc; first, second]?);
+        assert!(rt; is_written(alloc, order, start, value, bytes)?);
+    }
+    Ok(())
+}
+
+fn variant(alloc: Global) -> Result<Value, NoMemory>
+    ensures { IfOk result (λ value. value ≡ variant (basic (BasicValue.U32 9))) }
+{
+    Value::variant(alloc, Value::basic(BasicValue::U32(9)))
+}
+
+fn no_numbers(alloc: Global) -> Value
+    ensures { result ≡ array (shapes.basic Basic.U64) none }
+{
+    Value::array(Type::basic(Basic::U64), Vec::new(alloc))
+}
+
+fn numbers(alloc: Global) -> Result<Value, NoMemory>
+    ensures { IfOk result (λ value. value ≡ array (shapes.basic Basic.U16) (more (basic (BasicValue.U16 1)) (more (basic (BasicValue.U16 2)) none))) }
+{
+    let first = Value::basic(BasicValue::U16(1));
+    let second = Value::basic(BasicValue::U16(2));
+    Ok(Value::array(Type::basic(Basic::U16), vec![in alloc; first, second]?))
+}
+
+fn pairs(alloc: Global) -> Result<Value, NoMemory>
+    ensures { IfOk result (λ value. value ≡ dict Basic.Str shapes.variant (entry (BasicValue.Str (107 ∷ [])) (variant (basic (BasicValue.Byte 1))) no_entries)) }
+{
+    let key = BasicValue::Str(Word::from_slice(alloc, b"k")?);
+    let value = Value::variant(alloc, Value::basic(BasicValue::Byte(1)))?;
+    let mut pairs = Vec::new(alloc);
+    pairs.push((key, value))?;
+    Ok(Value::dict(Basic::Str, Type::variant(), pairs))
+}
+
+#[test]
+fn containers_are_written(rt: HostRuntime) -> Result<(), NoMemory> {
+    let alloc = rt.alloc();
+    let bytes = b"\x01u\x00\x00\x09\x00\x00\x00";
+    assert!(rt; is_written(alloc, Order::Little, 0, variant(alloc)?, bytes)?);
+    let bytes = b"\x01u\x00\x00\x00\x00\x00\x09";
+    assert!(rt; is_written(alloc, Order::Big, 0, variant(alloc)?, bytes)?);
+    let bytes = b"\x00\x00\x00\x00\x00\x00\x00\x00";
+    assert!(rt; is_written(alloc, Order::Little, 0, no_numbers(alloc), bytes)?);
+    assert!(rt; is_written(alloc, Order::Big, 0, no_numbers(alloc), bytes)?);
+    let bytes = b"\x04\x00\x00\x00\x01\x00\x02\x00";
+    assert!(rt; is_written(alloc, Order::Little, 0, numbers(alloc)?, bytes)?);
+    let bytes = b"\x00\x00\x00\x04\x00\x01\x00\x02";
+    assert!(rt; is_written(alloc, Order::Big, 0, numbers(alloc)?, bytes)?);
+    let bytes = b"\x0a\x00\x00\x00\x00\x00\x00\x00\x01\x00\x00\x00k\x00\x01y\x00\x01";
+    assert!(rt; is_written(alloc, Order::Little, 0, pairs(alloc)?, bytes)?);
+    let bytes = b"\x00\x00\x00\x0a\x00\x00\x00\x00\x00\x00\x00\x01k\x00\x01y\x00\x01";
+    assert!(rt; is_written(alloc, Order::Big, 0, pairs(alloc)?, bytes)?);
+    Ok(())
+}
+
+/// Variants in one another, with a byte in the innermost.
+fn nested(alloc: Global, count: usize) -> Result<Vec<u8>, NoMemory> {
+    let mut bytes = Vec::new(alloc);
+    for _ in 1..count {
+        bytes.extend_from_slice(b"\x01v\x00")?;
+    }
+    bytes.extend_from_slice(b"\x01y\x00\x07")?;
+    Ok(bytes)
+}
+
+#[test]
+fn variants_nest_64_deep(rt: HostRuntime) -> Result<(), ValueFault> {
+    let alloc = rt.alloc();
+    let bytes = nested(alloc, 64)?;
+    assert!(rt; read(alloc, Order::Little, 0, b"v", &bytes).is_ok());
+    let bytes = nested(alloc, 65)?;
+    assert!(rt;
+        match read(alloc, Order::Little, 0, b"v", &bytes) {
+            Ok(_) => false,
+            Err(fault) => fault == ValueFault::BadVariant(189),
+        }
+    );
+    Ok(())
+}
+
+/// Whether this is an array of the two numbers.
+fn is_pair_of_numbers(values: &[Value]) -> bool {
+    match values {
+        [value] => match value.kind() {
+            ValueKind::Array(_, [first, second]) => {
+                is_number(slice::from_ref(first), 1) && is_number(slice::from_ref(second), 2)
+            }
+            _ => false,
+        },
+        _ => false,
+    }
+}
+
+/// Whether this is a variant of the number.
+fn is_variant(values: &[Value], number: i64) -> bool {
+    match values {
+        [value] => match value.kind() {
+            ValueKind::Variant(inner) => is_number(slice::from_ref(inner), number),
+            _ => false,
+        },
+        _ => false,
+    }
+}
+
+/// Whether this is a dict of the one key `k`, with a variant of 1.
+fn is_dict(values: &[Value]) -> bool {
+    match values {
+        [value] => match value.kind() {
+            ValueKind::Dict(Basic::Str, _, [(BasicValue::Str(key), value)]) => {
+                key.as_slice() == b"k".as_slice() && is_variant(slice::from_ref(value), 1)
+            }
+            _ => false,
+        },
+        _ => false,
+    }
+}
+
+#[test]
+fn containers_are_read(rt: HostRuntime) -> Result<(), ValueFault> {
+    let alloc = rt.alloc();
+    let bytes = b"\x01u\x00\x00\x09\x00\x00\x00";
+    assert!(rt; is_variant(read(alloc, Order::Little, 0, b"v", bytes)?.as_slice(), 9));
+    let bytes = b"\x01u\x00\x00\x00\x00\x00\x09";
+    assert!(rt; is_variant(read(alloc, Order::Big, 0, b"v", bytes)?.as_slice(), 9));
+    let bytes = b"\x00\x00\x00\x00\x00\x00\x00\x00";
+    assert!(rt; read(alloc, Order::Little, 0, b"at", bytes)?.len() == 1);
+    let bytes = b"\x04\x00\x00\x00\x01\x00\x02\x00";
+    assert!(rt; is_pair_of_numbers(read(alloc, Order::Little, 0, b"aq", bytes)?.as_slice()));
+    let bytes = b"\x00\x00\x00\x04\x00\x01\x00\x02";
+    assert!(rt; is_pair_of_numbers(read(alloc, Order::Big, 0, b"aq", bytes)?.as_slice()));
+    let bytes = b"\x0a\x00\x00\x00\x00\x00\x00\x00\x01\x00\x00\x00k\x00\x01y\x00\x01";
+    assert!(rt; is_dict(read(alloc, Order::Little, 0, b"a{sv}", bytes)?.as_slice()));
+    let bytes = b"\x00\x00\x00\x0a\x00\x00\x00\x00\x00\x00\x00\x01k\x00\x01y\x00\x01";
+    assert!(rt; is_dict(read(alloc, Order::Big, 0, b"a{sv}", bytes)?.as_slice()));
+    Ok(())
+}

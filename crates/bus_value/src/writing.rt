@@ -1,0 +1,29 @@
+// How value lists are written.
+
+ghost use Rattle.std.specs.Prelude.{◌≡◌, IfOk};
+ghost use Rattle.bus_value.specs.Values.{vals};
+ghost use Rattle.bus_value.specs.Spelling.{spellings};
+ghost use Rattle.bus_value.specs.Limits.{AllFit};
+
+use crate::order::Order;
+use crate::value::Value;
+use login_base::{Bytes, Items, NoMemory};
+use std::alloc::Global;
+
+/// The bytes of the values, which are to stand from the offset `start` on. The condition is that texts,
+/// arrays and signatures are within the limits of the D-Bus Specification ("Marshaling (Wire Format)").
+pub fn write_values(
+    alloc: Global,
+    order: Order,
+    start: usize,
+    values: &Items<Value>,
+) -> Result<Bytes, NoMemory>
+    requires { AllFit order start (vals values.now) }
+    ensures { IfOk result (λ bytes. bytes ≡ spellings order start (vals values.now)) }
+{
+    let mut out = Vec::new(alloc);
+    for value in values.as_slice() {
+        value.push(alloc, &mut out, start, order)?;
+    }
+    Ok(Items::from_vec(out))
+}
