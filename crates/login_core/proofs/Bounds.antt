@@ -21,7 +21,8 @@ use Rattle.login_model.specs.declared.rule.Verdict.{Verdict}
 use Rattle.login_model.specs.declared.rule.Verdict.TheVariants.{Granted, Denied}
 use Rattle.login_model.specs.Trail.{Trail, value, put, tell_all}
 use Rattle.login_model.specs.Fresh.{fresh_session, fresh_handle, next_session, next_handle}
-use Rattle.login_model.specs.Where.{is_active, seat0}
+use Rattle.login_model.specs.Start.{seat0}
+use Rattle.login_model.specs.Where.{is_active}
 use Rattle.login_model.specs.Policy.{controls}
 use Rattle.login_model.specs.Procedure.{release, know, tell_new_user, tell_appeared}
 use Rattle.login_model.specs.Direct.{created_session, create, control, at_session, direct_call, direct}
@@ -76,11 +77,13 @@ sessions-call : (c : ConnId) (call : Call) (t : Trail) → fresh_session (direct
 sessions-call c (Create x) t = sessions-create c x (next_session t) (next_handle t) t
 sessions-call c (Control id force) t = sessions-control c (session_of id) t
 sessions-call c (Uncontrol id) t = sessions-release (session_of id) t
+sessions-call c _ t = omega arith
 
 sessions-direct : (e : Event) (t : Trail) → fresh_session (direct e t) ≤ fresh_session t + 1
 unfolding direct
 sessions-direct (Connect c u) t = omega (arith, sessions-put (Conn c) (Connected u) t)
 sessions-direct (Calls r) t = sessions-call r.who r.call t
+sessions-direct _ t = omega arith
 
 pub sessions-stepped : (v : Verdict) (e : Event) (t : Trail) → fresh_session (stepped v e t) ≤ fresh_session t + 1
 sessions-stepped Granted e t = sessions-direct e t
@@ -134,11 +137,13 @@ handles-call : (c : ConnId) (call : Call) (t : Trail) → fresh_handle (direct_c
 handles-call c (Create x) t = handles-create c x (next_session t) (next_handle t) t
 handles-call c (Control id force) t = handles-control c (session_of id) t
 handles-call c (Uncontrol id) t = handles-release (session_of id) t
+handles-call c _ t = omega arith
 
 handles-direct : (e : Event) (t : Trail) → fresh_handle (direct e t) ≤ fresh_handle t + 1
 unfolding direct
 handles-direct (Connect c u) t = omega (arith, handles-put (Conn c) (Connected u) t)
 handles-direct (Calls r) t = handles-call r.who r.call t
+handles-direct _ t = omega arith
 
 pub handles-stepped : (v : Verdict) (e : Event) (t : Trail) → fresh_handle (stepped v e t) ≤ fresh_handle t + 1
 handles-stepped Granted e t = handles-direct e t

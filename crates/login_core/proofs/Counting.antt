@@ -21,20 +21,12 @@ none-more n = omega arith
 pub sessions-set : (k : Key) (x : Fact) (t : Trail) → fresh_session (Set k x ∷ t) ≡ fresh_session t + opens k x
 unfolding fresh_session
 sessions-set (Sess s) x t = one-more (is_open_fact x) (fresh_session t)
-sessions-set (Conn c) x t = none-more (fresh_session t)
-sessions-set (Ctl s) x t = none-more (fresh_session t)
-sessions-set (User u) x t = none-more (fresh_session t)
-sessions-set (Owner h) x t = none-more (fresh_session t)
-sessions-set Vt x t = none-more (fresh_session t)
+sessions-set _ x t = none-more (fresh_session t)
 
 pub handles-set : (k : Key) (x : Fact) (t : Trail) → fresh_handle (Set k x ∷ t) ≡ fresh_handle t + gives k x
 unfolding fresh_handle
 handles-set (Owner h) x t = one-more (is_owned_fact x) (fresh_handle t)
-handles-set (Conn c) x t = none-more (fresh_handle t)
-handles-set (Ctl s) x t = none-more (fresh_handle t)
-handles-set (User u) x t = none-more (fresh_handle t)
-handles-set (Sess s) x t = none-more (fresh_handle t)
-handles-set Vt x t = none-more (fresh_handle t)
+handles-set _ x t = none-more (fresh_handle t)
 
 pub sessions-say : (w : Whom) (n : Notice) (t : Trail) → fresh_session (Say w n ∷ t) ≡ fresh_session t
 unfolding fresh_session

@@ -98,11 +98,11 @@ push f true x y z e = e
 push f false x y z e = e
 
 -- what is there was set by one of these, or was there before
-was-named : {A : Type 0} (name_in : Key → Option A) (key_of : A → Key) (is_fact : Fact → Bool) → AreKeys name_in key_of is_fact → (t : Trail) (xs : List Setting) (e : A)
+was-named : {A : Type 0} (name_in : Key → Option A) (key_of : A → Key) (is_fact : Fact → Bool) (first : Option A) → AreKeys name_in key_of is_fact first → (t : Trail) (xs : List Setting) (e : A)
     → is_fact (value (set_after t xs) (key_of e)) ≡ true → (is_fact (value t (key_of e)) ≡ true) ⊎ NamedIn name_in e xs
-was-named name_in key_of is_fact k t [] e h = inl h
-was-named name_in key_of is_fact k t (x ∷ xs) e h =
-    elim (was-named name_in key_of is_fact k (Set x.key x.fact ∷ t) xs e h) [
+was-named name_in key_of is_fact first k t [] e h = inl h
+was-named name_in key_of is_fact first k t (x ∷ xs) e h =
+    elim (was-named name_in key_of is_fact first k (Set x.key x.fact ∷ t) xs e h) [
       | inl p ↦ (let q = ap is_fact (sym (value-set (key_of e) x.key x.fact t)) ∙ p in
           elim (chosen (same_key x.key (key_of e)) (is_fact x.fact) (is_fact (value t (key_of e))) true (push is_fact (same_key x.key (key_of e)) x.fact (value t (key_of e)) true q)) [
             | inl a ↦ inr (inl (ap name_in (same_key-true x.key (key_of e) a.0) ∙ k.named e))
@@ -111,23 +111,32 @@ was-named name_in key_of is_fact k t (x ∷ xs) e h =
       | inr n ↦ inr (inr n)
     ]
 
-set-named : {A : Type 0} (name_in : Key → Option A) (key_of : A → Key) (is_fact : Fact → Bool) → AreKeys name_in key_of is_fact → (xs : List Setting) (e : A)
-    → is_there key_of is_fact (set_after [] xs) e ≡ true → NamedIn name_in e xs
-set-named name_in key_of is_fact k xs e h = elim (was-named name_in key_of is_fact k [] xs e h) [
-  | inl p ↦ absurd (let z : true ≡ false = sym p ∙ ap is_fact (value-start (key_of e)) ∙ k.start e in cc)
-  | inr n ↦ n
+-- what is there was set by one of these, or is there at the start
+set-named : {A : Type 0} (name_in : Key → Option A) (key_of : A → Key) (is_fact : Fact → Bool) (first : Option A) → AreKeys name_in key_of is_fact first → (xs : List Setting) (e : A)
+    → is_there key_of is_fact (set_after [] xs) e ≡ true → (first ≡ Some e) ⊎ NamedIn name_in e xs
+set-named name_in key_of is_fact first k xs e h = elim (was-named name_in key_of is_fact first k [] xs e h) [
+  | inl p ↦ inl (k.start e (ap is_fact (sym (value-start (key_of e))) ∙ p))
+  | inr n ↦ inr n
 ]
 
-next-by : {A : Type 0} (lt : A → A → Bool) (there : A → Bool) (name_in : Key → Option A) (above : Option A) (xs : List Setting) (last : Option A)
-    → Finds lt there name_in above xs None last → ((e : A) → there e ≡ true → NamedIn name_in e xs) → IsNext lt there above last
-next-by lt there name_in above xs None f n = λ a p q. f.named a (p, q) (n a p)
-next-by lt there name_in above xs (Some d) f n = let g = f.good tt in (g.0, g.1, λ b p q. f.named b (p, q) (n b p))
+next-by : {A : Type 0} (lt : A → A → Bool) → IsOrder lt → (there : A → Bool) (name_in : Key → Option A) (above first : Option A) (xs : List Setting) (last : Option A)
+    → Finds lt there name_in above xs (nearer lt there above first None) last → ((e : A) → there e ≡ true → (first ≡ Some e) ⊎ NamedIn name_in e xs) → IsNext lt there above last
+next-by lt o there name_in above first xs None f n = λ a p q. elim (n a p) [
+  | inl h ↦ f.keeps a ((nearer-steps lt o there above first None).named a (p, q) h)
+  | inr h ↦ f.named a (p, q) h
+]
+next-by lt o there name_in above first xs (Some d) f n =
+    let one = nearer-steps lt o there above first None in
+    let g = f.good (one.good tt) in
+    (g.0, g.1, λ b p q. elim (n b p) [ inl h ↦ f.keeps b (one.named b (p, q) h) | inr h ↦ f.named b (p, q) h ])
 
--- the lowest of all settings is the next name
-pub nearest-next : {A : Type 0} (lt : A → A → Bool) → IsOrder lt → (name_in : Key → Option A) (key_of : A → Key) (is_fact : Fact → Bool) → AreKeys name_in key_of is_fact
-    → (xs : List Setting) (above last : Option A) → last ≡ nearest lt (is_there key_of is_fact (set_after [] xs)) name_in above xs None
+-- the lowest of the first name and those of all settings is the next name
+pub nearest-next : {A : Type 0} (lt : A → A → Bool) → IsOrder lt → (name_in : Key → Option A) (key_of : A → Key) (is_fact : Fact → Bool) (first : Option A) → AreKeys name_in key_of is_fact first
+    → (xs : List Setting) (above last : Option A)
+    → last ≡ nearest lt (is_there key_of is_fact (set_after [] xs)) name_in above xs (nearer lt (is_there key_of is_fact (set_after [] xs)) above first None)
     → IsNext lt (is_there key_of is_fact (set_after [] xs)) above last
-nearest-next {A} lt o name_in key_of is_fact k xs above last e =
+nearest-next {A} lt o name_in key_of is_fact first k xs above last e =
     let there = is_there key_of is_fact (set_after [] xs) in
+    let best = nearer lt there above first None in
     let P : Option A → Type 0 = λ m. IsNext lt there above m in
-    subst P (sym e) (next-by lt there name_in above xs (nearest lt there name_in above xs None) (nearest-finds lt o there name_in above xs None) (set-named name_in key_of is_fact k xs))
+    subst P (sym e) (next-by lt o there name_in above first xs (nearest lt there name_in above xs best) (nearest-finds lt o there name_in above xs best) (set-named name_in key_of is_fact first k xs))

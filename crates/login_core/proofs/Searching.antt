@@ -5,7 +5,8 @@ use Rattle.login_model.specs.declared.fact.Key.{Key}
 use Rattle.login_model.specs.declared.fact.Fact.{Fact}
 use Rattle.login_model.specs.declared.mark.Mark.TheVariants.{Set}
 use Rattle.login_model.specs.Same.{same_key}
-use Rattle.login_model.specs.Trail.{Trail, value, start_fact}
+use Rattle.login_model.specs.Start.{start_fact}
+use Rattle.login_model.specs.Trail.{Trail, value}
 use Rattle.login_core.specs.declared.facts.Setting.{Setting}
 use Rattle.login_core.specs.Facts.{set_after}
 

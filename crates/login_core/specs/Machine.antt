@@ -32,7 +32,7 @@ AreCopiesFor _ o = Unit {0}
 -- the texts of the session that an event creates are copied, if it creates one
 abbrev pub HasCopies : Event → Option Copies → Type 0
 HasCopies (Calls r) o = AreCopiesFor r.call o
-HasCopies (Connect c u) o = Unit {0}
+HasCopies _ o = Unit {0}
 
 abbrev pub is_absent : Fact → Bool
 is_absent Absent = true

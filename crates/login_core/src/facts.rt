@@ -1,17 +1,15 @@
 // The facts, as a list of settings.
 
 ghost use Rattle.std.specs.Prelude.{◌≡◌, ◌+◌, ◌<◌, ◌≤◌, ◌^◌, [], ◌∷◌, OnOk};
-ghost use Rattle.login_model.specs.Trail.{value, start_fact};
+ghost use Rattle.login_model.specs.Trail.{value};
 ghost use Rattle.login_model.specs.Fresh.{fresh_session, fresh_handle, next_session, next_handle};
 ghost use Rattle.login_model.specs.Names.{IsNext, is_above};
 ghost use Rattle.login_core.specs.Name.{is_there, is_lower, nearer};
-ghost use Rattle.login_model.specs.declared.fact.Fact.TheVariants.{Absent, Number};
 ghost use Rattle.login_core.specs.Facts.{set_after, opens, gives};
 
-use crate::fact_tests::{is_open_fact, is_owned_fact, is_same_key};
-use crate::name::Name;
 use login_base::{HandleNo, NoMemory, Reserved, SessId};
-use login_model::{Fact, Key};
+use login_model::{Fact, Key, StartFacts, is_open_fact, is_owned_fact, is_same_key};
+use login_table::Name;
 use std::alloc::Global;
 use std::marker::Model;
 
@@ -22,20 +20,11 @@ pub struct Setting {
     pub fact: Fact,
 }
 
-/// What holds before the first setting: nothing is there, and the virtual terminal 1 is current.
-#[derive(Debug, Drop)]
-struct Start {
-    absent: Fact,
-    terminal: Fact,
-    ghost absent_is: { absent ≡ Absent },
-    ghost terminal_is: { terminal ≡ Number 1 },
-}
-
 /// The settings so far, the oldest first, and the numbers of the next session and the next handle.
 #[derive(Debug, Drop)]
 pub struct Facts {
     settings: Reserved<Setting>,
-    start: Start,
+    start: StartFacts,
     sessions: u32,
     handles: u32,
 }
@@ -51,28 +40,8 @@ impl Model for Facts {
     ghost invariant = { λ f. Counts f.sessions f.handles (set_after [] f.settings.items) };
 }
 
-impl Start {
-    /// What holds before the first setting.
-    fn new() -> Start {
-        Start {
-            absent: Fact::Absent,
-            terminal: Fact::Number(1),
-        }
-    }
-
-    /// The fact of a key before the first setting.
-    fn fact(&self, key: &Key) -> &Fact
-        ensures { result.now ≡ start_fact key.now }
-    {
-        match key {
-            Key::Vt => &self.terminal,
-            _ => &self.absent,
-        }
-    }
-}
-
 /// The fact of the last setting of a key among these, or the fact before the first.
-fn last_fact<'a>(settings: &'a [Setting], start: &'a Start, key: &Key) -> &'a Fact
+fn last_fact<'a>(settings: &'a [Setting], start: &'a StartFacts, key: &Key) -> &'a Fact
     ensures { result.now ≡ value (set_after [] settings.now) key.now }
 {
     let mut left = settings.len();
@@ -134,7 +103,7 @@ impl Facts {
     {
         Facts {
             settings: Reserved::new(alloc),
-            start: Start::new(),
+            start: StartFacts::new(),
             sessions: 1,
             handles: 1,
         }
@@ -183,11 +152,11 @@ impl Facts {
         HandleNo(self.handles)
     }
 
-    /// The lower of the best name so far and the name of a key, if that is there and above.
-    fn nearer<N: Name>(&self, above: Option<N>, key: &Key, best: Option<N>) -> Option<N>
-        ensures { result ≡ nearer N.lt (is_there N.key_of N.is_fact self.now.trail) above (N.name_in key.now) best }
+    /// The lower of the best name so far and another name, if that is there and above.
+    fn nearer<N: Name>(&self, above: Option<N>, name: Option<N>, best: Option<N>) -> Option<N>
+        ensures { result ≡ nearer N.lt (is_there N.key_of N.is_fact self.now.trail) above name best }
     {
-        match N::in_key(key) {
+        match name {
             Some(name) => {
                 if is_above(above, name)
                     && is_lower(name, best)
@@ -206,9 +175,9 @@ impl Facts {
     pub fn next<N: Name>(&self, above: Option<N>) -> Option<N>
         ensures { IsNext N.lt (is_there N.key_of N.is_fact self.now.trail) above result }
     {
-        let mut best = None;
+        let mut best = self.nearer(above, N::at_start(), None);
         for setting in self.settings.as_slice() {
-            best = self.nearer(above, &setting.key, best);
+            best = self.nearer(above, N::in_key(&setting.key), best);
         }
         best
     }

@@ -3,10 +3,8 @@
 #![tactic(auto)]
 
 mod copies;
-mod fact_tests;
 mod facts;
 mod machine;
-mod name;
 mod state;
 mod verdict;
 

@@ -5,7 +5,7 @@ ghost use Rattle.login_model.specs.Trail.{value, put, tell_all};
 ghost use Rattle.login_model.specs.Fresh.{fresh_session, fresh_handle, next_session, next_handle};
 ghost use Rattle.login_model.specs.Procedure.{release, know, tell_new_user, tell_appeared};
 ghost use Rattle.login_model.specs.Direct.{type_of, class_of, seat_of, leader_of, created_session, create, control, at_session, direct_call, direct, call_answer, answer};
-ghost use Rattle.login_model.specs.Where.{seat0};
+ghost use Rattle.login_model.specs.Start.{seat0};
 ghost use Rattle.login_model.specs.Legal.{stepped, answered};
 ghost use Rattle.login_core.specs.Machine.{so_far, AreCopies, AreCopiesFor, HasCopies, is_absent, entry_of};
 ghost use Rattle.login_core.specs.Facts.{settings, opens, gives};
@@ -13,13 +13,15 @@ ghost use Rattle.login_core.specs.Texts.{session_texts};
 ghost use Rattle.login_base.specs.SessionId.{session_of};
 
 use crate::copies::Copies;
-use crate::fact_tests::{is_on_terminal, is_same_fact};
 use crate::facts::Facts;
 use crate::verdict::controls;
-use login_base::{ConnId, HandleNo, NoMemory, Reserved, SeatName, SessId, Uid, Word};
+use login_base::{
+    ConnId, DevNo, HandleNo, LockNo, NoMemory, Reserved, SeatName, SessId, Uid, Word,
+};
 use login_model::{
     Answer, Call, Class, Created, Creation, Entry, Event, Fact, Journal, Key, Look, Mark, Notice,
-    Owner, Phase, Session, SessionTexts, SessionType, Verdict, Whom,
+    Owner, Phase, Session, SessionTexts, SessionType, Verdict, Whom, is_on_terminal, is_same_fact,
+    seat0,
 };
 use std::alloc::Global;
 use std::mem;
@@ -80,16 +82,6 @@ fn seat(text: &Word) -> Option<SeatName>
     match SeatName::read(text.as_slice()) {
         Ok(seat) => Some(seat),
         Err(_) => None,
-    }
-}
-
-/// The seat with virtual terminals.
-fn seat0() -> SeatName
-    ensures { result ≡ seat0 }
-{
-    match SeatName::read(b"seat0") {
-        Ok(seat) => seat,
-        Err(_) => unreachable!(),
     }
 }
 
@@ -321,6 +313,7 @@ impl Machine {
                     self.release(session);
                 }
             }
+            _ => {}
         }
     }
 
@@ -343,6 +336,7 @@ impl Machine {
                 );
             }
             Event::Call(request) => self.direct_call(request.who, &request.call, copies),
+            _ => {}
         }
     }
 
@@ -381,8 +375,8 @@ impl Machine {
         ensures { result ≡ answer (trail self.now) event.now }
     {
         match event {
-            Event::Connect(_, _) => Answer::Nothing,
             Event::Call(request) => self.call_answer(&request.call),
+            _ => Answer::Nothing,
         }
     }
 
@@ -431,6 +425,18 @@ impl Look for Machine {
     }
 
     fn next_user(&self, after: Option<Uid>) -> Option<Uid> {
+        self.facts.next(after)
+    }
+
+    fn next_seat(&self, after: Option<SeatName>) -> Option<SeatName> {
+        self.facts.next(after)
+    }
+
+    fn next_device(&self, after: Option<DevNo>) -> Option<DevNo> {
+        self.facts.next(after)
+    }
+
+    fn next_lock(&self, after: Option<LockNo>) -> Option<LockNo> {
         self.facts.next(after)
     }
 

@@ -10,7 +10,7 @@ ghost use Rattle.login_core.specs.contracts.state.Core.{the_row};
 use crate::copies::{Copies, copies_of};
 use crate::machine::Machine;
 use crate::verdict::judge;
-use login_base::{ConnId, HandleNo, NoMemory, SessId, Uid};
+use login_base::{ConnId, DevNo, HandleNo, LockNo, NoMemory, SeatName, SessId, Uid};
 use login_model::{Call, Entry, Event, Fact, Journal, Key, Look, Setup};
 use std::alloc::Global;
 use std::marker::Model;
@@ -141,6 +141,18 @@ impl Look for Core {
 
     fn next_user(&self, after: Option<Uid>) -> Option<Uid> {
         self.machine.next_user(after)
+    }
+
+    fn next_seat(&self, after: Option<SeatName>) -> Option<SeatName> {
+        self.machine.next_seat(after)
+    }
+
+    fn next_device(&self, after: Option<DevNo>) -> Option<DevNo> {
+        self.machine.next_device(after)
+    }
+
+    fn next_lock(&self, after: Option<LockNo>) -> Option<LockNo> {
+        self.machine.next_lock(after)
     }
 
     fn next_conn(&self, after: Option<ConnId>) -> Option<ConnId> {

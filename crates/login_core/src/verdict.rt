@@ -9,9 +9,11 @@ ghost use Rattle.login_model.specs.Where.{connections, session_on, is_on_termina
 ghost use Rattle.login_core.specs.Rules.{control_rules, uncontrol_rules};
 ghost use Rattle.login_model.specs.Policy.{broken_if, uid_in_fact, uid_of, session_uid_in_fact, session_uid, is_root, is_user_of, no_such_session, no_such_user, not_root, not_owner, controlled_fact, controlled, is_controller_fact, controls, not_in_control, vt_busy, too_many_links, nobody, call_rules, on_session, first_broken, verdict};
 
-use crate::fact_tests::{is_connected_fact, is_on_terminal, is_session_fact};
 use login_base::{ConnId, SessId, Uid};
-use login_model::{Call, Creation, Event, Fact, Key, Limit, Look, Rule, Setup, UserRow, Verdict};
+use login_model::{
+    Call, Creation, Event, Fact, Key, Limit, Look, Rule, Setup, UserRow, Verdict,
+    is_connected_fact, is_on_terminal, is_session_fact,
+};
 
 /// The most links that may be connected.
 const LINKS: u32 = 64;
@@ -249,6 +251,7 @@ fn judge_call<F: Look>(facts: &F, setup: &Setup, who: ConnId, call: &Call) -> Ve
         Call::Create(creation) => judge_create(facts, setup, who, creation),
         Call::Control(id, _) => judge_control(facts, who, SessId::read(id.as_slice())),
         Call::Uncontrol(id) => judge_uncontrol(facts, who, SessId::read(id.as_slice())),
+        _ => Verdict::Granted,
     }
 }
 
@@ -260,5 +263,6 @@ pub fn judge<F: Look>(facts: &F, setup: &Setup, event: &Event) -> Verdict
     match event {
         Event::Connect(_, _) => first_broken(&[too_many_links(facts)]),
         Event::Call(request) => judge_call(facts, setup, request.who, &request.call),
+        _ => Verdict::Granted,
     }
 }

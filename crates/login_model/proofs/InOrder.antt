@@ -1,15 +1,16 @@
 -- Going over the names of a kind in order.
 use Rattle.std.proofs.Common.{◌≡◌, Bool, true, false, cond, Option, Some, None, List, [], ◌∷◌, filter, refl, ap, sym, ◌∙◌, subst, ◌⊎◌, inl, inr}
 use Rattle.login_model.specs.declared.fact.Key.{Key}
-use Rattle.login_model.specs.declared.fact.Key.TheVariants.{Conn, Sess}
+use Rattle.login_model.specs.declared.fact.Key.TheVariants.{Conn, Sess, User, Seat, Dev, Lock}
 use Rattle.login_model.specs.declared.fact.Fact.{Fact}
 use Rattle.login_model.specs.declared.mark.Mark.TheVariants.{Set, Say}
 use Rattle.login_model.specs.Same.{same_key}
 use Rattle.login_model.specs.Trail.{Trail, value}
 use Rattle.login_model.specs.Kind.{IsOrder, AreKeys}
-use Rattle.login_model.specs.Names.{insert, insert_some, names, is_above, IsNext, session_lt, conn_lt, session_in, conn_in}
-use Rattle.login_model.specs.Where.{is_session, is_connected, is_session_fact, is_connected_fact}
-use Rattle.login_model.proofs.NameLaws.{session_order, conn_order, session_keys, conn_keys}
+use Rattle.login_model.specs.Start.{seat0}
+use Rattle.login_model.specs.Names.{insert, insert_some, names, is_above, IsNext, session_lt, user_lt, conn_lt, seat_lt, device_lt, lock_lt, session_in, user_in, conn_in, seat_in, device_in, lock_in}
+use Rattle.login_model.specs.Where.{is_session, is_user, is_connected, is_seat, is_device, is_lock, is_session_fact, is_user_fact, is_connected_fact, is_seat_fact, is_device_fact, is_lock_fact}
+use Rattle.login_model.proofs.NameLaws.{session_order, user_order, conn_order, seat_order, device_order, lock_order, session_keys, user_keys, conn_keys, seat_keys, device_keys, lock_keys}
 use Rattle.login_model.proofs.Keys.{same_key-true, test, chosen}
 
 abbrev pub IsIn : {A : Type 0} → A → List A → Type 0
@@ -128,17 +129,17 @@ push : {A B : Type 0} (f : A → B) (b : Bool) (x y : A) {z : B} → f (cond b x
 push f true x y e = e
 push f false x y e = e
 
--- what is there was set
-pub named : {A : Type 0} (lt : A → A → Bool) (o : IsOrder lt) (name_in : Key → Option A) (key_of : A → Key) (is_fact : Fact → Bool) → AreKeys name_in key_of is_fact
-    → (t : Trail) (a : A) → is_fact (value t (key_of a)) ≡ true → IsIn a (names lt name_in t)
+-- what is there was set, or was there at the start
+set-or-first : {A : Type 0} (lt : A → A → Bool) (o : IsOrder lt) (name_in : Key → Option A) (key_of : A → Key) (is_fact : Fact → Bool) (first : Option A) → AreKeys name_in key_of is_fact first
+    → (t : Trail) (a : A) → is_fact (value t (key_of a)) ≡ true → (first ≡ Some a) ⊎ IsIn a (names lt name_in t)
 unfolding value names
-named lt o name_in key_of is_fact k [] a e = absurd (let n = k.start a in let z : true ≡ false = sym e ∙ n in cc)
-named lt o name_in key_of is_fact k (Set j x ∷ t) a e =
+set-or-first lt o name_in key_of is_fact first k [] a e = inl (k.start a e)
+set-or-first lt o name_in key_of is_fact first k (Set j x ∷ t) a e =
     elim (chosen (same_key j (key_of a)) (is_fact x) (is_fact (value t (key_of a))) true (push is_fact (same_key j (key_of a)) x (value t (key_of a)) e)) [
-      | inl p ↦ some-in lt o a (name_in j) (names lt name_in t) (ap name_in (same_key-true j (key_of a) p.0) ∙ k.named a)
-      | inr p ↦ some-keeps lt a (name_in j) (names lt name_in t) (named lt o name_in key_of is_fact k t a p.1)
+      | inl p ↦ inr (some-in lt o a (name_in j) (names lt name_in t) (ap name_in (same_key-true j (key_of a) p.0) ∙ k.named a))
+      | inr p ↦ elim (set-or-first lt o name_in key_of is_fact first k t a p.1) [ inl f ↦ inl f | inr i ↦ inr (some-keeps lt a (name_in j) (names lt name_in t) i) ]
     ]
-named lt o name_in key_of is_fact k (Say w n ∷ t) a e = named lt o name_in key_of is_fact k t a e
+set-or-first lt o name_in key_of is_fact first k (Say w n ∷ t) a e = set-or-first lt o name_in key_of is_fact first k t a e
 
 -- the list is ascending and has each name that is there
 pub record Enumerates {A : Type 0} (lt : A → A → Bool) (there : A → Bool) (xs : List A) : Type 0 where
@@ -146,19 +147,35 @@ pub record Enumerates {A : Type 0} (lt : A → A → Bool) (there : A → Bool) 
   pub ascending : Ascending lt xs
   pub complete : (a : A) → there a ≡ true → IsIn a xs
 
-pub connections-enumerated : (t : Trail) → Enumerates conn_lt (is_connected t) (names conn_lt conn_in t)
-connections-enumerated t = record {
-  order = conn_order;
-  ascending = names-ascending conn_lt conn_order conn_in t;
-  complete = named conn_lt conn_order conn_in Conn is_connected_fact conn_keys t;
+-- the names that were set, and the one that is there at the start
+pub enumerated : {A : Type 0} (lt : A → A → Bool) (o : IsOrder lt) (name_in : Key → Option A) (key_of : A → Key) (is_fact : Fact → Bool) (first : Option A) → AreKeys name_in key_of is_fact first
+    → (t : Trail) → Enumerates lt (λ a. is_fact (value t (key_of a))) (insert_some lt first (names lt name_in t))
+enumerated lt o name_in key_of is_fact first k t = record {
+  order = o;
+  ascending = some-ascending lt o first (names lt name_in t) (names-ascending lt o name_in t);
+  complete = λ a e. elim (set-or-first lt o name_in key_of is_fact first k t a e) [
+    | inl f ↦ some-in lt o a first (names lt name_in t) f
+    | inr i ↦ some-keeps lt a first (names lt name_in t) i
+  ];
 }
 
+pub connections-enumerated : (t : Trail) → Enumerates conn_lt (is_connected t) (names conn_lt conn_in t)
+connections-enumerated t = enumerated conn_lt conn_order conn_in Conn is_connected_fact None conn_keys t
+
 pub sessions-enumerated : (t : Trail) → Enumerates session_lt (is_session t) (names session_lt session_in t)
-sessions-enumerated t = record {
-  order = session_order;
-  ascending = names-ascending session_lt session_order session_in t;
-  complete = named session_lt session_order session_in Sess is_session_fact session_keys t;
-}
+sessions-enumerated t = enumerated session_lt session_order session_in Sess is_session_fact None session_keys t
+
+pub users-enumerated : (t : Trail) → Enumerates user_lt (is_user t) (names user_lt user_in t)
+users-enumerated t = enumerated user_lt user_order user_in User is_user_fact None user_keys t
+
+pub seats-enumerated : (t : Trail) → Enumerates seat_lt (is_seat t) (insert seat_lt seat0 (names seat_lt seat_in t))
+seats-enumerated t = enumerated seat_lt seat_order seat_in Seat is_seat_fact (Some seat0) seat_keys t
+
+pub devices-enumerated : (t : Trail) → Enumerates device_lt (is_device t) (names device_lt device_in t)
+devices-enumerated t = enumerated device_lt device_order device_in Dev is_device_fact None device_keys t
+
+pub locks-enumerated : (t : Trail) → Enumerates lock_lt (is_lock t) (names lock_lt lock_in t)
+locks-enumerated t = enumerated lock_lt lock_order lock_in Lock is_lock_fact None lock_keys t
 
 -- the names of a list that are there and above that one
 unfoldable pub rest : {A : Type 0} → (A → A → Bool) → (A → Bool) → List A → Option A → List A

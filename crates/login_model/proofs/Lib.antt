@@ -1,3 +1,4 @@
 pub mod NameLaws
 pub mod Keys
 pub mod InOrder
+pub mod ActionLaws

@@ -99,11 +99,13 @@ abbrev pub direct_call : ConnId → Call → Trail → Trail
 direct_call c (Create x) t = create c x (next_session t) (next_handle t) t
 direct_call c (Control id force) t = at_session (control c) (session_of id) t
 direct_call c (Uncontrol id) t = at_session release (session_of id) t
+direct_call c _ t = t
 
--- the marks so far, and then those that a granted event makes by itself
+-- the marks so far, and then those that a granted event makes by itself; what is not built makes none yet
 unfoldable pub direct : Event → Trail → Trail
 direct (Connect c u) t = put (Conn c) (fact.Connected u) t
 direct (Calls r) t = direct_call r.who r.call t
+direct _ t = t
 
 abbrev pub call_answer : Trail → Call → Answer
 call_answer t (Create x) = Created (record { session = next_session t; fifo = next_handle t; uid = x.uid; seat = seat_of x.seat; vt = x.vt })
@@ -111,5 +113,5 @@ call_answer t _ = Nothing
 
 -- what a granted event is answered
 unfoldable pub answer : Trail → Event → Answer
-answer t (Connect c u) = Nothing
 answer t (Calls r) = call_answer t r.call
+answer t _ = Nothing

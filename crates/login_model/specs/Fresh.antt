@@ -1,10 +1,12 @@
 -- Numbers that were not given out.
-use Rattle.std.specs.Prelude.{ℕ, ◌+◌, Bool, true, false, if◌then◌else◌, [], ◌∷◌}
+use Rattle.std.specs.Prelude.{ℕ, ◌+◌, not, Bool, true, false, if◌then◌else◌, [], ◌∷◌}
 use Rattle.login_base.specs.declared.ids.SessId.{SessId}
 use Rattle.login_base.specs.declared.ids.HandleNo.{HandleNo}
 use Rattle.login_model.specs.declared.fact.Key.TheVariants.{Sess, Owner}
 use Rattle.login_model.specs.declared.fact.Fact.{Fact}
 use Rattle.login_model.specs.declared.fact.Fact.TheVariants.{Session, Owned}
+use Rattle.login_model.specs.declared.fact.Owner.{Owner as OwnerFact}
+use Rattle.login_model.specs.declared.fact.Owner.TheVariants.{Closed}
 use Rattle.login_model.specs.declared.session.Phase.{Phase}
 use Rattle.login_model.specs.declared.session.Phase.TheVariants.{Open}
 use Rattle.login_model.specs.declared.mark.Mark.TheVariants.{Set}
@@ -19,9 +21,13 @@ abbrev pub is_open_fact : Fact → Bool
 is_open_fact (Session x) = is_open_phase x.phase
 is_open_fact _ = false
 
+abbrev pub is_closed : OwnerFact → Bool
+is_closed Closed = true
+is_closed _ = false
+
 -- the fact of a handle that someone has
 abbrev pub is_owned_fact : Fact → Bool
-is_owned_fact (Owned o) = true
+is_owned_fact (Owned o) = not (is_closed o)
 is_owned_fact _ = false
 
 -- 1 and the number of settings that open a session

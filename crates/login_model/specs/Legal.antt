@@ -1,18 +1,19 @@
 -- When a journal is legal.
-use Rattle.std.specs.Prelude.{ℕ, ◌≡◌, ◌≢◌, ◌<◌, ◌≤◌, true, false, List, [], ◌∷◌, ◌++◌, length, codes, IsUtf8}
+use Rattle.std.specs.Prelude.{◌≡◌, ◌<◌, true, false, List, [], ◌∷◌, ◌++◌, codes}
 use Rattle.std.specs.List.{AllByRecursion}
 use Rattle.login_base.specs.declared.ids.ConnId.{ConnId}
 use Rattle.login_model.specs.declared.setup.Setup.{Setup}
 use Rattle.login_model.specs.declared.call.Call.{Call}
 use Rattle.login_model.specs.declared.call.Call.TheVariants.{Create, Control, Uncontrol}
 use Rattle.login_model.specs.declared.event.Event.{Event}
-use Rattle.login_model.specs.declared.event.Event.TheVariants.{Connect, Call as Calls}
+use Rattle.login_model.specs.declared.event.Event.TheVariants.{Connect, Disconnect, Call as Calls, Hardware, Tick, Stop}
 use Rattle.login_model.specs.declared.rule.Verdict.{Verdict}
 use Rattle.login_model.specs.declared.rule.Verdict.TheVariants.{Granted, Denied}
 use Rattle.login_model.specs.declared.answer.Answer.{Answer}
 use Rattle.login_model.specs.declared.answer.Answer.TheVariants.{Nothing}
 use Rattle.login_model.specs.declared.mark.Entry.{Entry}
 use Rattle.login_model.specs.Trail.{Trail, after}
+use Rattle.login_model.specs.Texts.{IsText, texts, has_object, hardware_texts}
 use Rattle.login_model.specs.Where.{is_connected}
 use Rattle.login_model.specs.Policy.{verdict}
 use Rattle.login_model.specs.Direct.{direct, answer}
@@ -27,18 +28,6 @@ after_all t (e ∷ es) = after_all (after t e.marks) es
 abbrev pub trail_of : List Entry → Trail
 trail_of journal = after_all [] journal
 
--- the texts of a call
-abbrev pub texts : Call → List (List ℕ)
-texts (Create x) = x.service ∷ x.session_type ∷ x.class ∷ x.desktop ∷ x.seat ∷ x.tty ∷ x.display ∷ x.remote_user ∷ x.remote_host ∷ []
-texts (Control id force) = id ∷ []
-texts (Uncontrol id) = id ∷ []
-
--- UTF-8 without NUL, at most so long
-pub record IsText (most : ℕ) (text : List ℕ) : Type 0 where
-  pub utf8 : IsUtf8 text
-  pub no_nul : AllByRecursion (λ b. b ≢ 0) text
-  pub short : length text ≤ most
-
 -- whether an event connects this connection
 abbrev pub connects : ConnId → Event → Type 0
 connects c (Connect b u) = b.0 ≡ c.0
@@ -48,11 +37,16 @@ connects c _ = ⊥
 abbrev pub IsUnused : ConnId → List Entry → Type 0
 IsUnused c before = AllByRecursion (λ (e : Entry). connects c e.event → ⊥) before
 
--- the event may come after these entries: a connect of a number above 0 that no earlier connect had;
--- a call, numbered from 1, of a connected caller, each text of which is UTF-8 without NUL of at most 512 bytes
+-- the event may come after these entries: a connect of a number above 0 that no earlier connect had; a
+-- disconnect or a call, numbered from 1, of a connected client; each text of a call or an exit is UTF-8
+-- without NUL of at most 512 bytes, and the path of a property's call is that of an object with properties
 abbrev pub IsPlaced : List Entry → Event → Type 0
 IsPlaced before (Connect c u) = (0 < c.0) × IsUnused c before
-IsPlaced before (Calls r) = (is_connected (trail_of before) r.who ≡ true) × (0 < r.serial) × AllByRecursion (IsText 512) (texts r.call)
+IsPlaced before (Disconnect c) = is_connected (trail_of before) c ≡ true
+IsPlaced before (Calls r) = (is_connected (trail_of before) r.who ≡ true) × (0 < r.serial) × AllByRecursion (IsText 512) (texts r.call) × (has_object r.call ≡ true)
+IsPlaced before (Hardware x) = AllByRecursion (IsText 512) (hardware_texts x)
+IsPlaced before (Tick m) = Unit {0}
+IsPlaced before Stop = Unit {0}
 
 -- the marks after an event with its verdict
 abbrev pub stepped : Verdict → Event → Trail → Trail
@@ -84,8 +78,10 @@ abbrev pub IsBuiltCall : Call → Type 0
 IsBuiltCall (Create x) = (x.session_type ≡ codes "tty") × (x.class ≡ codes "user") × (x.seat ≡ codes "seat0") × (0 < x.vt) × (x.vt < 64) × (x.remote ≡ false)
 IsBuiltCall (Control id force) = force ≡ false
 IsBuiltCall (Uncontrol id) = Unit {0}
+IsBuiltCall _ = ⊥
 
 -- the events that are built: a connect, and such a call that expects a reply
 abbrev pub IsBuilt : Event → Type 0
 IsBuilt (Connect c u) = Unit {0}
 IsBuilt (Calls r) = (r.quiet ≡ false) × IsBuiltCall r.call
+IsBuilt _ = ⊥

@@ -1,4 +1,5 @@
 pub mod Same
+pub mod Start
 pub mod Trail
 pub mod Kind
 pub mod Names
@@ -8,4 +9,10 @@ pub mod Policy
 pub mod Procedure
 pub mod Direct
 pub mod Settle
+pub mod Objects
+pub mod Texts
 pub mod Legal
+pub mod Action
+pub mod Table
+pub mod Conf
+pub mod Standing

@@ -1,10 +1,12 @@
--- The names of sessions, users and connections, in order.
-use Rattle.std.specs.Prelude.{◌≡◌, nat_lt, Bool, true, false, if◌then◌else◌, Option, Some, None, List, [], ◌∷◌}
+-- The names of sessions, users, connections, seats, devices and locks, in order.
+use Rattle.std.specs.Prelude.{ℕ, ◌≡◌, ◌==◌, ◌&&◌, ◌||◌, nat_lt, Bool, true, false, if◌then◌else◌, Option, Some, None, List, [], ◌∷◌}
 use Rattle.login_base.specs.declared.ids.SessId.{SessId}
 use Rattle.login_base.specs.declared.ids.Uid.{Uid}
 use Rattle.login_base.specs.declared.ids.ConnId.{ConnId}
+use Rattle.login_base.specs.declared.ids.DevNo.{DevNo}
+use Rattle.login_base.specs.declared.ids.LockNo.{LockNo}
 use Rattle.login_model.specs.declared.fact.Key.{Key}
-use Rattle.login_model.specs.declared.fact.Key.TheVariants.{Conn, Sess, User}
+use Rattle.login_model.specs.declared.fact.Key.TheVariants as key
 use Rattle.login_model.specs.declared.mark.Mark.TheVariants.{Set, Say}
 use Rattle.login_model.specs.Trail.{Trail}
 
@@ -17,20 +19,49 @@ user_lt a b = nat_lt a.0 b.0
 abbrev pub conn_lt : ConnId → ConnId → Bool
 conn_lt a b = nat_lt a.0 b.0
 
+abbrev pub lock_lt : LockNo → LockNo → Bool
+lock_lt a b = nat_lt a.0 b.0
+
+-- by the major number, and then by the minor
+abbrev pub device_lt : DevNo → DevNo → Bool
+device_lt a b = nat_lt a.major b.major || ((a.major == b.major) && nat_lt a.minor b.minor)
+
+-- byte by byte; a text stands before those that go on behind it
+abbrev pub seat_lt : List ℕ → List ℕ → Bool
+seat_lt [] [] = false
+seat_lt [] (b ∷ bs) = true
+seat_lt (a ∷ more) [] = false
+seat_lt (a ∷ more) (b ∷ bs) = nat_lt a b || ((a == b) && seat_lt more bs)
+
 -- the session that a key is about
 abbrev pub session_in : Key → Option SessId
-session_in (Sess s) = Some s
+session_in (key.Sess s) = Some s
 session_in _ = None
 
 -- the connection that a key is about
 abbrev pub conn_in : Key → Option ConnId
-conn_in (Conn c) = Some c
+conn_in (key.Conn c) = Some c
 conn_in _ = None
 
 -- the user that a key is about
 abbrev pub user_in : Key → Option Uid
-user_in (User u) = Some u
+user_in (key.User u) = Some u
 user_in _ = None
+
+-- the seat that a key is about
+abbrev pub seat_in : Key → Option (List ℕ)
+seat_in (key.Seat name) = Some name
+seat_in _ = None
+
+-- the device that a key is about
+abbrev pub device_in : Key → Option DevNo
+device_in (key.Dev d) = Some d
+device_in _ = None
+
+-- the lock that a key is about
+abbrev pub lock_in : Key → Option LockNo
+lock_in (key.Lock l) = Some l
+lock_in _ = None
 
 -- a name put into an ascending list, where it stands once
 unfoldable pub insert : {A : Type 0} → (A → A → Bool) → A → List A → List A

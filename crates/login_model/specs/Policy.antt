@@ -103,16 +103,18 @@ on_session rules None = Some NoSuchSession ∷ []
 on_session rules (Some s) = rules s
 
 -- the ordered rules of a call, each with what it finds broken; the rules that no built call can break
--- are left out
+-- are left out, and those of calls that are not built
 abbrev pub call_rules : Setup → Trail → ConnId → Call → List (Option Rule)
 call_rules U t c (Create x) = not_root t c ∷ no_such_user U x.uid.0 ∷ nobody t x.process ∷ vt_busy t x.vt ∷ []
 call_rules U t c (Control id force) = on_session (λ s. no_such_session t s ∷ not_owner t c s ∷ controlled t c s ∷ []) (session_of id)
 call_rules U t c (Uncontrol id) = on_session (λ s. no_such_session t s ∷ not_in_control t c s ∷ []) (session_of id)
+call_rules U t c _ = []
 
 -- the ordered rules of an event
 abbrev pub rules : Setup → Trail → Event → List (Option Rule)
 rules U t (Connect c u) = too_many_links t ∷ []
 rules U t (Calls r) = call_rules U t r.who r.call
+rules U t _ = []
 
 -- denied by the first rule that is broken
 abbrev pub first_broken : List (Option Rule) → Verdict

@@ -7,7 +7,8 @@ use Rattle.login_model.specs.declared.fact.Fact.{Fact}
 use Rattle.login_model.specs.declared.fact.Fact.TheVariants.{Absent, Known}
 use Rattle.login_model.specs.declared.mark.Notice.TheVariants.{UserNew, Active}
 use Rattle.login_model.specs.Trail.{Trail, value, put, tell_all}
-use Rattle.login_model.specs.Where.{is_active, seat0}
+use Rattle.login_model.specs.Start.{seat0}
+use Rattle.login_model.specs.Where.{is_active}
 
 -- a session loses its controller, with the devices that it has taken; no device can be taken yet
 unfoldable pub release : SessId → Trail → Trail

@@ -1,23 +1,17 @@
 -- The marks so far, and the facts that they leave.
 use Rattle.std.specs.Prelude.{if◌then◌else◌, List, [], ◌∷◌}
 use Rattle.login_model.specs.declared.fact.Key.{Key}
-use Rattle.login_model.specs.declared.fact.Key.TheVariants.{Vt}
 use Rattle.login_model.specs.declared.fact.Fact.{Fact}
-use Rattle.login_model.specs.declared.fact.Fact.TheVariants.{Absent, Number}
 use Rattle.login_model.specs.declared.mark.Mark.{Mark}
 use Rattle.login_model.specs.declared.mark.Mark.TheVariants.{Set, Say}
 use Rattle.login_model.specs.declared.mark.Notice.{Notice}
 use Rattle.login_model.specs.declared.mark.Whom.TheVariants.{All}
 use Rattle.login_model.specs.Same.{same_key, same_fact}
+use Rattle.login_model.specs.Start.{start_fact}
 
 -- the marks so far, the newest first
 abbrev pub Trail : Type 0
 Trail = List Mark
-
--- what holds before the first mark: the virtual terminal 1 is current
-abbrev pub start_fact : Key → Fact
-start_fact Vt = Number 1
-start_fact _ = Absent
 
 -- the fact of the last setting of the key, or the fact at the start
 unfoldable pub value : Trail → Key → Fact

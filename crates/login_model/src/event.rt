@@ -1,7 +1,8 @@
 // What happens to the machine.
 
 use crate::call::Call;
-use login_base::{ConnId, Uid};
+use crate::hardware::Hardware;
+use login_base::{ConnId, Millis, Uid};
 
 /// A call with its caller.
 #[derive(Debug, Drop)]
@@ -19,6 +20,14 @@ pub struct Request {
 pub enum Event {
     /// A client of this user connects.
     Connect(ConnId, Uid),
+    /// A connected client's connection ends.
+    Disconnect(ConnId),
     /// A client calls.
     Call(Request),
+    /// The machine's hardware does something.
+    Hardware(Hardware),
+    /// The clock reaches this moment.
+    Tick(Millis),
+    /// The login manager stops; only disconnects follow.
+    Stop,
 }

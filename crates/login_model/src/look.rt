@@ -3,11 +3,11 @@
 ghost use Rattle.std.specs.Prelude.{◌≡◌};
 ghost use Rattle.login_model.specs.Trail.{Trail, value};
 ghost use Rattle.login_model.specs.Fresh.{next_handle};
-ghost use Rattle.login_model.specs.Names.{IsNext, session_lt, user_lt, conn_lt};
-ghost use Rattle.login_model.specs.Where.{is_session, is_user, is_connected};
+ghost use Rattle.login_model.specs.Names.{IsNext, session_lt, user_lt, conn_lt, seat_lt, device_lt, lock_lt};
+ghost use Rattle.login_model.specs.Where.{is_session, is_user, is_connected, is_seat, is_device, is_lock};
 
 use crate::fact::{Fact, Key};
-use login_base::{ConnId, HandleNo, SessId, Uid};
+use login_base::{ConnId, DevNo, HandleNo, LockNo, SeatName, SessId, Uid};
 
 /// What tells facts: it stands for a list of marks. None of its calls takes memory. Each `next` call
 /// gives the least name above the one handed in, or the least of all for None; it answers None where
@@ -31,6 +31,18 @@ pub trait Look {
     /// The next user that is not absent.
     fn next_user(&self, after: Option<Uid>) -> Option<Uid>
         ensures { IsNext user_lt (is_user (trail self.now)) after result };
+
+    /// The next seat that is present.
+    fn next_seat(&self, after: Option<SeatName>) -> Option<SeatName>
+        ensures { IsNext seat_lt (is_seat (trail self.now)) after result };
+
+    /// The next device that is present.
+    fn next_device(&self, after: Option<DevNo>) -> Option<DevNo>
+        ensures { IsNext device_lt (is_device (trail self.now)) after result };
+
+    /// The next lock that stands.
+    fn next_lock(&self, after: Option<LockNo>) -> Option<LockNo>
+        ensures { IsNext lock_lt (is_lock (trail self.now)) after result };
 
     /// The next connected connection.
     fn next_conn(&self, after: Option<ConnId>) -> Option<ConnId>

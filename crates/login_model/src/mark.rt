@@ -4,15 +4,46 @@ use crate::answer::Answer;
 use crate::event::Event;
 use crate::fact::{Fact, Key};
 use crate::rule::Verdict;
-use login_base::{ConnId, Items, SeatName, SessId, Uid};
+use login_base::{ConnId, DevNo, HandleNo, Items, SeatName, SessId, Uid};
+
+/// Why a device is paused (org.freedesktop.login1(5), PauseDevice).
+#[derive(Clone, Copy, Debug, PartialEq, Eq)]
+pub enum PauseKind {
+    /// The session is asked to let go of it, and has to acknowledge that.
+    Pause,
+    /// It was taken away.
+    Force,
+    /// It is gone.
+    Gone,
+}
 
 /// What clients are told by a signal of org.freedesktop.login1(5).
 #[derive(Clone, Copy, Debug)]
 pub enum Notice {
-    /// Manager.UserNew.
-    UserNew(Uid),
+    /// Session.PauseDevice.
+    Pause(SessId, DevNo, PauseKind),
+    /// Session.ResumeDevice.
+    Resume(SessId, DevNo, HandleNo),
+    /// Session.Lock.
+    Lock(SessId),
+    /// Session.Unlock.
+    Unlock(SessId),
     /// Manager.SessionNew.
     SessionNew(SessId),
+    /// Manager.SessionRemoved.
+    SessionRemoved(SessId),
+    /// Manager.UserNew.
+    UserNew(Uid),
+    /// Manager.UserRemoved.
+    UserRemoved(Uid),
+    /// Manager.SeatNew.
+    SeatNew(SeatName),
+    /// Manager.SeatRemoved.
+    SeatRemoved(SeatName),
+    /// Manager.PrepareForShutdown: whether it is about to begin, or is over.
+    PrepareShutdown(bool),
+    /// Manager.PrepareForSleep: whether it is about to begin, or is over.
+    PrepareSleep(bool),
     /// PropertiesChanged of the seat and of its active session before and now.
     Active(SeatName, Option<SessId>, Option<SessId>),
 }

@@ -30,6 +30,13 @@ pub enum Class {
     Background,
 }
 
+/// Which processes of a session a signal is sent to (org.freedesktop.login1(5), KillSession).
+#[derive(Clone, Copy, Debug, PartialEq, Eq)]
+pub enum KillWhom {
+    Leader,
+    All,
+}
+
 /// The texts that a session was created with.
 #[derive(Debug, Drop)]
 pub struct SessionTexts {

@@ -1,0 +1,48 @@
+-- How connections stand to the machine's seats.
+use Rattle.std.specs.Prelude.{ℕ, ◌==◌, ◌&&◌, if◌then◌else◌, Bool, false}
+use Rattle.std.specs.Option.{is_some}
+use Rattle.std.specs.List.{list_any}
+use Rattle.login_base.specs.declared.ids.ConnId.{ConnId}
+use Rattle.login_model.specs.declared.fact.Key.TheVariants.{Conn, Sess}
+use Rattle.login_model.specs.declared.fact.Fact.{Fact}
+use Rattle.login_model.specs.declared.fact.Fact.TheVariants.{Connected, Session}
+use Rattle.login_model.specs.declared.standing.Standing.{Standing}
+use Rattle.login_model.specs.declared.standing.Standing.TheVariants.{Root, Active, Inactive, Any}
+use Rattle.login_model.specs.Trail.{Trail, value}
+use Rattle.login_model.specs.Fresh.{is_open_phase}
+use Rattle.login_model.specs.Where.{sessions, is_active}
+
+-- the fact of an open session of a user
+abbrev pub is_open_of : ℕ → Fact → Bool
+is_open_of uid (Session x) = is_open_phase x.phase && (x.uid.0 == uid)
+is_open_of uid _ = false
+
+-- the fact of an open session of a user that has a seat
+abbrev pub is_seated_of : ℕ → Fact → Bool
+is_seated_of uid (Session x) = is_open_of uid (Session x) && is_some x.seat
+is_seated_of uid _ = false
+
+-- an open session of the user is active on its seat
+abbrev pub has_active : Trail → ℕ → Bool
+has_active t uid = list_any (λ s. is_open_of uid (value t (Sess s)) && is_active t s) (sessions t)
+
+-- an open session of the user has a seat
+abbrev pub has_seat : Trail → ℕ → Bool
+has_seat t uid = list_any (λ s. is_seated_of uid (value t (Sess s))) (sessions t)
+
+-- how a user's connections stand
+unfoldable pub standing_of : Trail → ℕ → Standing
+standing_of t uid =
+    if uid == 0 then Root
+    else if has_active t uid then Active
+    else if has_seat t uid then Inactive
+    else Any
+
+-- how the connection of this fact stands; one that is not connected as nobody's
+abbrev pub fact_standing : Trail → Fact → Standing
+fact_standing t (Connected u) = standing_of t u.0
+fact_standing t _ = Any
+
+-- how a connection stands
+abbrev pub standing : Trail → ConnId → Standing
+standing t c = fact_standing t (value t (Conn c))

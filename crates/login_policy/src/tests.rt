@@ -1,0 +1,133 @@
+// The default table, the names of actions and the default configuration, as they are documented.
+
+use super::ask;
+use login_base::Millis;
+use login_model::Say::{Challenge, No, Yes};
+use login_model::{
+    Action, Conf, KeyAction, OpKind, PowerAction, Qualifier, Row, Say, Standing, Table,
+};
+
+/// What the default table says to any, inactive and active connections.
+const DEFAULTS: [(&[u8], Say, Say, Say); 29] = [
+    (b"chvt", Challenge, Challenge, Yes),
+    (b"lock-sessions", Challenge, Challenge, Challenge),
+    (b"manage", Challenge, Challenge, Challenge),
+    (b"set-user-linger", Challenge, Challenge, Challenge),
+    (b"set-self-linger", Yes, Yes, Yes),
+    (b"inhibit-delay-shutdown", Yes, Yes, Yes),
+    (b"inhibit-delay-sleep", Yes, Yes, Yes),
+    (b"inhibit-block-shutdown", No, Challenge, Yes),
+    (b"inhibit-block-sleep", No, Yes, Yes),
+    (b"inhibit-block-idle", No, Yes, Yes),
+    (b"inhibit-handle-power-key", No, Yes, Yes),
+    (b"inhibit-handle-suspend-key", No, Yes, Yes),
+    (b"inhibit-handle-hibernate-key", No, Yes, Yes),
+    (b"inhibit-handle-lid-switch", No, Yes, Yes),
+    (b"power-off", Challenge, Challenge, Yes),
+    (b"reboot", Challenge, Challenge, Yes),
+    (b"halt", Challenge, Challenge, Yes),
+    (b"suspend", Challenge, Challenge, Yes),
+    (b"hibernate", Challenge, Challenge, Yes),
+    (b"power-off-multiple-sessions", Challenge, Challenge, Yes),
+    (b"reboot-multiple-sessions", Challenge, Challenge, Yes),
+    (b"halt-multiple-sessions", Challenge, Challenge, Yes),
+    (b"suspend-multiple-sessions", Challenge, Challenge, Yes),
+    (b"hibernate-multiple-sessions", Challenge, Challenge, Yes),
+    (b"power-off-ignore-inhibit", Challenge, Challenge, Challenge),
+    (b"reboot-ignore-inhibit", Challenge, Challenge, Challenge),
+    (b"halt-ignore-inhibit", Challenge, Challenge, Challenge),
+    (b"suspend-ignore-inhibit", Challenge, Challenge, Challenge),
+    (b"hibernate-ignore-inhibit", Challenge, Challenge, Challenge),
+];
+
+#[test]
+fn default_table(rt: HostRuntime) {
+    let table = Table::default();
+    for (name, any, inactive, active) in DEFAULTS {
+        let action = Action::read(name);
+        assert!(rt; action.is_some(), "a name of an action");
+        if let Some(action) = action {
+            assert!(rt; action.name() == name);
+            assert!(rt; ask(&table, action, Standing::Root) == Yes);
+            assert!(rt; ask(&table, action, Standing::Active) == active);
+            assert!(rt; ask(&table, action, Standing::Inactive) == inactive);
+            assert!(rt; ask(&table, action, Standing::Any) == any);
+        }
+    }
+}
+
+const NO_NAMES: [&[u8]; 6] = [
+    b"",
+    b"chv",
+    b"Chvt",
+    b"power-off ",
+    b"poweroff",
+    b"hybrid-sleep",
+];
+
+#[test]
+fn other_names(rt: HostRuntime) {
+    for name in NO_NAMES {
+        assert!(rt; Action::read(name).is_none());
+    }
+}
+
+#[test]
+fn rows_are_replaced(rt: HostRuntime) {
+    let mut table = Table::default();
+    let power_off = Action::Power(PowerAction::PowerOff, Qualifier::Plain);
+    let row = Row {
+        any: Yes,
+        inactive: No,
+        active: Challenge,
+    };
+    table.set_row(power_off, row);
+    assert!(rt; ask(&table, power_off, Standing::Any) == Yes);
+    assert!(rt; ask(&table, power_off, Standing::Inactive) == No);
+    assert!(rt; ask(&table, power_off, Standing::Active) == Challenge);
+    assert!(rt; ask(&table, power_off, Standing::Root) == Yes);
+    let reboot = Action::Power(PowerAction::Reboot, Qualifier::Plain);
+    assert!(rt; ask(&table, reboot, Standing::Any) == Challenge);
+}
+
+const KINDS: [(OpKind, &[u8]); 7] = [
+    (OpKind::PowerOff, b"power-off"),
+    (OpKind::Reboot, b"reboot"),
+    (OpKind::Halt, b"halt"),
+    (OpKind::Suspend, b"suspend"),
+    (OpKind::Hibernate, b"hibernate"),
+    (OpKind::HybridSleep, b"hibernate"),
+    (OpKind::SuspendThenHibernate, b"hibernate"),
+];
+
+#[test]
+fn actions_of_operations(rt: HostRuntime) {
+    for (kind, name) in KINDS {
+        let action = Action::Power(PowerAction::from(kind), Qualifier::Plain);
+        assert!(rt; action.name() == name);
+    }
+}
+
+#[test]
+fn default_configuration(rt: HostRuntime) {
+    let conf = Conf::default();
+    let wanted = Conf {
+        auto_vts: 6,
+        sessions_max: 8192,
+        inhibitors_max: 8192,
+        inhibit_delay_max: Millis(5_000),
+        user_stop_delay: Millis(10_000),
+        idle_action_delay: Millis(1_800_000),
+        handle_power_key: KeyAction::Operation(OpKind::PowerOff),
+        handle_suspend_key: KeyAction::Operation(OpKind::Suspend),
+        handle_hibernate_key: KeyAction::Operation(OpKind::Hibernate),
+        handle_lid_switch: KeyAction::Operation(OpKind::Suspend),
+        handle_lid_switch_docked: KeyAction::Ignore,
+        idle_action: KeyAction::Ignore,
+        power_key_ignore_inhibited: false,
+        suspend_key_ignore_inhibited: false,
+        hibernate_key_ignore_inhibited: false,
+        lid_switch_ignore_inhibited: true,
+    };
+    assert!(rt; conf == wanted);
+}

@@ -1,0 +1,313 @@
+// Names of one kind: what sessions, users, connections, seats, devices and locks have in common.
+
+ghost use Rattle.std.specs.Prelude.{◌≡◌, nat_lt, Bool, Option, None, Some};
+ghost use Rattle.login_model.specs.declared.fact.Key.{Key};
+ghost use Rattle.login_model.specs.declared.fact.Key.TheVariants as key_about;
+ghost use Rattle.login_model.specs.declared.fact.Fact.{Fact};
+ghost use Rattle.login_model.specs.Names.{session_lt, user_lt, conn_lt, seat_lt, device_lt, lock_lt, session_in, user_in, conn_in, seat_in, device_in, lock_in};
+ghost use Rattle.login_model.specs.Start.{seat0};
+ghost use Rattle.login_model.specs.Where.{is_session_fact, is_user_fact, is_connected_fact, is_seat_fact, is_device_fact, is_lock_fact};
+ghost use Rattle.login_model.specs.Kind.{IsOrder, AreKeys};
+ghost use Rattle.login_model.proofs.NameLaws.{number_order, session_order, user_order, conn_order, seat_order, device_order, lock_order, session_keys, user_keys, conn_keys, seat_keys, device_keys, lock_keys};
+
+use login_base::{ConnId, DevNo, LockNo, SeatName, SessId, Uid};
+use login_model::{
+    Fact, Key, is_connected_fact, is_device_fact, is_lock_fact, is_seat_fact, is_session_fact,
+    is_user_fact, seat0,
+};
+
+/// A name of a kind that has an order.
+pub trait Order: Copy {
+    ghost lt: { Self → Self → Bool };
+
+    /// Whether the name is below another.
+    fn is_below(self, other: Self) -> bool
+        ensures { result ≡ lt self other };
+
+    ghost order: { IsOrder lt };
+}
+
+/// A name that keys are about.
+pub trait Name: Order {
+    ghost name_in: { Key → Option Self };
+
+    ghost key_of: { Self → Key };
+
+    ghost is_fact: { Fact → Bool };
+
+    ghost first: { Option Self };
+
+    /// The name of this kind that a key is about.
+    fn in_key(key: &Key) -> Option<Self>
+        ensures { result ≡ name_in key.now };
+
+    /// The key that tells whether what the name stands for is there.
+    fn key(self) -> Key
+        ensures { result ≡ key_of self };
+
+    /// Whether that key's fact says that it is there.
+    fn is_there(fact: &Fact) -> bool
+        ensures { result ≡ is_fact fact.now };
+
+    /// The name whose thing is there at the start, if there is one.
+    fn at_start() -> Option<Self>
+        ensures { result ≡ first };
+
+    ghost keys: { AreKeys name_in key_of is_fact first };
+}
+
+impl Order for SessId {
+    ghost lt = { session_lt };
+
+    ghost order = { session_order };
+
+    fn is_below(self, other: SessId) -> bool {
+        self.0 < other.0
+    }
+}
+
+impl Name for SessId {
+    ghost name_in = { session_in };
+
+    ghost key_of = { key_about.Sess };
+
+    ghost is_fact = { is_session_fact };
+
+    ghost first = { None };
+
+    ghost keys = { session_keys };
+
+    fn in_key(key: &Key) -> Option<SessId> {
+        match key {
+            Key::Sess(session) => Some(*session),
+            _ => None,
+        }
+    }
+
+    fn key(self) -> Key {
+        Key::Sess(self)
+    }
+
+    fn is_there(fact: &Fact) -> bool {
+        is_session_fact(fact)
+    }
+
+    fn at_start() -> Option<SessId> {
+        None
+    }
+}
+
+impl Order for Uid {
+    ghost lt = { user_lt };
+
+    ghost order = { user_order };
+
+    fn is_below(self, other: Uid) -> bool {
+        self.0 < other.0
+    }
+}
+
+impl Name for Uid {
+    ghost name_in = { user_in };
+
+    ghost key_of = { key_about.User };
+
+    ghost is_fact = { is_user_fact };
+
+    ghost first = { None };
+
+    ghost keys = { user_keys };
+
+    fn in_key(key: &Key) -> Option<Uid> {
+        match key {
+            Key::User(user) => Some(*user),
+            _ => None,
+        }
+    }
+
+    fn key(self) -> Key {
+        Key::User(self)
+    }
+
+    fn is_there(fact: &Fact) -> bool {
+        is_user_fact(fact)
+    }
+
+    fn at_start() -> Option<Uid> {
+        None
+    }
+}
+
+impl Order for ConnId {
+    ghost lt = { conn_lt };
+
+    ghost order = { conn_order };
+
+    fn is_below(self, other: ConnId) -> bool {
+        self.0 < other.0
+    }
+}
+
+impl Name for ConnId {
+    ghost name_in = { conn_in };
+
+    ghost key_of = { key_about.Conn };
+
+    ghost is_fact = { is_connected_fact };
+
+    ghost first = { None };
+
+    ghost keys = { conn_keys };
+
+    fn in_key(key: &Key) -> Option<ConnId> {
+        match key {
+            Key::Conn(who) => Some(*who),
+            _ => None,
+        }
+    }
+
+    fn key(self) -> Key {
+        Key::Conn(self)
+    }
+
+    fn is_there(fact: &Fact) -> bool {
+        is_connected_fact(fact)
+    }
+
+    fn at_start() -> Option<ConnId> {
+        None
+    }
+}
+
+impl Order for SeatName {
+    ghost lt = { seat_lt };
+
+    ghost order = { seat_order };
+
+    fn is_below(self, other: SeatName) -> bool {
+        self.as_slice() < other.as_slice()
+    }
+}
+
+impl Name for SeatName {
+    ghost name_in = { seat_in };
+
+    ghost key_of = { key_about.Seat };
+
+    ghost is_fact = { is_seat_fact };
+
+    ghost first = { Some seat0 };
+
+    ghost keys = { seat_keys };
+
+    fn in_key(key: &Key) -> Option<SeatName> {
+        match key {
+            Key::Seat(seat) => Some(*seat),
+            _ => None,
+        }
+    }
+
+    fn key(self) -> Key {
+        Key::Seat(self)
+    }
+
+    fn is_there(fact: &Fact) -> bool {
+        is_seat_fact(fact)
+    }
+
+    fn at_start() -> Option<SeatName> {
+        Some(seat0())
+    }
+}
+
+impl Order for DevNo {
+    ghost lt = { device_lt };
+
+    ghost order = { device_order };
+
+    fn is_below(self, other: DevNo) -> bool {
+        self.major < other.major || (self.major == other.major && self.minor < other.minor)
+    }
+}
+
+impl Name for DevNo {
+    ghost name_in = { device_in };
+
+    ghost key_of = { key_about.Dev };
+
+    ghost is_fact = { is_device_fact };
+
+    ghost first = { None };
+
+    ghost keys = { device_keys };
+
+    fn in_key(key: &Key) -> Option<DevNo> {
+        match key {
+            Key::Dev(device) => Some(*device),
+            _ => None,
+        }
+    }
+
+    fn key(self) -> Key {
+        Key::Dev(self)
+    }
+
+    fn is_there(fact: &Fact) -> bool {
+        is_device_fact(fact)
+    }
+
+    fn at_start() -> Option<DevNo> {
+        None
+    }
+}
+
+impl Order for LockNo {
+    ghost lt = { lock_lt };
+
+    ghost order = { lock_order };
+
+    fn is_below(self, other: LockNo) -> bool {
+        self.0 < other.0
+    }
+}
+
+impl Name for LockNo {
+    ghost name_in = { lock_in };
+
+    ghost key_of = { key_about.Lock };
+
+    ghost is_fact = { is_lock_fact };
+
+    ghost first = { None };
+
+    ghost keys = { lock_keys };
+
+    fn in_key(key: &Key) -> Option<LockNo> {
+        match key {
+            Key::Lock(lock) => Some(*lock),
+            _ => None,
+        }
+    }
+
+    fn key(self) -> Key {
+        Key::Lock(self)
+    }
+
+    fn is_there(fact: &Fact) -> bool {
+        is_lock_fact(fact)
+    }
+
+    fn at_start() -> Option<LockNo> {
+        None
+    }
+}
+
+impl Order for u32 {
+    ghost lt = { nat_lt };
+
+    ghost order = { number_order };
+
+    fn is_below(self, other: u32) -> bool {
+        self < other
+    }
+}
