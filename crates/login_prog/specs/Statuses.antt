@@ -1,6 +1,7 @@
 -- What the top call answers, and what it says.
 use Rattle.std.specs.Prelude.{ℕ, ◌≡◌, ◌⊎◌, List, [], ◌∷◌, codes, Option, IfSome}
 use Rattle.replay.specs.Outcome.{RefusedAt, IsRecordingText}
+use Rattle.replay.specs.declared.cause.Cause.{Cause}
 use Rattle.replay.specs.Reporting.{Reported, refusal, error_line}
 
 -- the words are `replay` alone
@@ -10,11 +11,12 @@ AreReplay words = words ≡ codes "replay" ∷ []
 abbrev pub usage : List ℕ
 usage = error_line (codes "usage: login replay or login serve --dir DIR or login load N")
 
--- a line is refused, and the errors say which; the transcript of the lines before it was written
+-- a line is refused for a cause, and the errors say which and why; the transcript of the lines before it was written
 pub record RefusedSo (all before after old new : Option (List ℕ)) (fault now : ℕ) : Type 0 where
   pub number : ℕ
-  pub said : Reported old new fault now (refusal number)
-  pub line : IfSome all (λ text. RefusedAt number text before after)
+  pub cause : Cause
+  pub said : Reported old new fault now (refusal number cause)
+  pub line : IfSome all (λ text. RefusedAt number cause text before after)
 
 -- the line of a status on the errors; that of a refusal names its line
 pub record Says (status : ℕ) (old new : Option (List ℕ)) (before now : ℕ) : Type 0 where

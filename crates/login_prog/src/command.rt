@@ -65,7 +65,7 @@ pub fn run<S: Source, K: Sink, E: Sink>(
     }
     match replay_all(alloc, input, output, errors) {
         ReplayEnd::Done => 0,
-        ReplayEnd::Script(_) => 2,
+        ReplayEnd::Script(_, _) => 2,
         ReplayEnd::ReadFault => 3,
         ReplayEnd::WriteFault => 4,
         ReplayEnd::NoMemory => 5,

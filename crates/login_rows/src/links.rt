@@ -40,10 +40,10 @@ fn the_next_link_is_denied(rt: HostRuntime) -> Result<(), Fail> {
             65,
             "call 65 1 control c1 false\n",
             "",
-            "line 68: not-built\n",
+            "line 68: wrong-place\n",
             2,
         ),
-        (65, "connect 65 0\n", "", "line 68: not-built\n", 2),
+        (65, "connect 65 0\n", "", "line 68: wrong-place\n", 2),
     ];
     for (count, line, last, errors, status) in cases {
         let mut text = recording(alloc, count)?;

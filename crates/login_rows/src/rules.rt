@@ -230,6 +230,6 @@ fn texts_have_one_spelling(rt: HostRuntime) -> Result<(), Fail> {
         &SPELLING,
         &SPELLING_TRANSCRIPT,
         2,
-        "line 7: not-built\n",
+        "line 7: bad-hex\n",
     )
 }

@@ -66,7 +66,7 @@ fn recordings_that_are_cut_are_refused(rt: HostRuntime) -> Result<(), Fail> {
         let blocks = if before < 3 { 0 } else { before - 2 };
         let want = joined(alloc, &BLOCKS[..blocks])?;
         let number = before + 1;
-        let errors = format!(in alloc; "line {number}: not-built\n")?;
+        let errors = format!(in alloc; "line {number}: ended\n")?;
         for count in 0..line.len() {
             let mut text = joined(alloc, &LINES[..before])?;
             text.extend_from_slice(&line[..count])?;
@@ -90,7 +90,7 @@ fn foreign_lines_are_refused(rt: HostRuntime) -> Result<(), Fail> {
         let blocks = if before < 3 { 0 } else { before - 2 };
         let want = joined(alloc, &BLOCKS[..blocks])?;
         let number = before + 1;
-        let errors = format!(in alloc; "line {number}: not-built\n")?;
+        let errors = format!(in alloc; "line {number}: unknown-word\n")?;
         let foreign = replay(alloc, text.as_slice())?;
         assert_eq!(rt; foreign.status, 2, "at line {number}");
         assert_eq!(rt; foreign.output(), want.as_slice());

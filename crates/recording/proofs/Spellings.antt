@@ -1,8 +1,9 @@
 -- The spellings of lines: where their words part, that no line feed stands in them, and how long they are.
-use Rattle.std.proofs.Common.{◌≡◌, ℕ, ◌+◌, ◌*◌, ◌/◌, ◌%◌, ◌<◌, ◌≤◌, ◌^◌, List, [], ◌∷◌, ◌++◌, length, refl, arith, rules, ap, sym, ◌∙◌, Bool, true, false, eqb, Some, None, Result, Ok, Err, IfOk, length-append}
-use Rattle.std.specs.Fmt.{decimal}
-use Rattle.std.specs.Int.{IsInRange}
-use Rattle.std.specs.List.{slice_split, join_with_byte, flat_map, AllByRecursion}
+use Rattle.std.proofs.Common.{◌≡◌, ℕ, ℤ, pos, negsuc, suc, subst, ◌+◌, ◌*◌, ◌/◌, ◌%◌, ◌<◌, ◌≤◌, ◌^◌, List, [], ◌∷◌, ◌++◌, length, refl, arith, rules, ap, sym, ◌∙◌, Bool, true, false, eqb, Some, None, Result, Ok, Err, IfOk, length-append}
+use Rattle.std.specs.Prelude.{FitsSigned}
+use Rattle.std.specs.Fmt.{decimal, signed_decimal}
+use Rattle.std.specs.Int.{w32, IsInRange}
+use Rattle.std.specs.List.{slice_split, join_with_byte, flat_map, AllByRecursion, list_all}
 use Rattle.std.specs.Str.Parse.{AllDigits}
 use Rattle.std.proofs.lemmas.Str.Parse.{digit_from_value}
 use Rattle.std.proofs.lemmas.Fmt.{decimal_is_IsNumeral, length-decimal-le}
@@ -10,21 +11,40 @@ use Rattle.std.proofs.lemmas.List.{append_cancel_right}
 use Rattle.std.proofs.lemmas.List.Elements.{All-from_recursion}
 use Rattle.std.proofs.lemmas.List.Splits.{slice_split_none, slice_split_at, join_with_byte-slice_split}
 use Rattle.std.proofs.lemmas.Bool.Decides.{nat_tests}
+use Rattle.login_base.specs.Seat.{is_seat_name, is_seat_byte}
+use Rattle.login_base.specs.declared.ids.DevNo.{DevNo}
+use Rattle.login_model.specs.declared.operation.OpKind.{OpKind}
+use Rattle.login_model.specs.declared.operation.OpKind.TheVariants.{PowerOff, Reboot, Halt, Suspend, Hibernate, HybridSleep, SuspendThenHibernate}
+use Rattle.login_model.specs.declared.hardware.DevKind.{DevKind}
+use Rattle.login_model.specs.declared.hardware.DevKind.TheVariants.{Evdev, Drm}
+use Rattle.login_model.specs.declared.hardware.HardKey.{HardKey}
+use Rattle.login_model.specs.declared.hardware.HardKey.TheVariants as key
+use Rattle.login_model.specs.declared.hardware.Hardware.{Hardware}
+use Rattle.login_model.specs.declared.hardware.Hardware.TheVariants.{Add, Remove, Input, VtKey, Key, Dock, Exit, JobDone}
+use Rattle.login_model.specs.declared.call.PropertyName.{PropertyName}
 use Rattle.login_model.specs.declared.call.Call.{Call}
-use Rattle.login_model.specs.declared.call.Call.TheVariants.{Create, Control, Uncontrol}
+use Rattle.login_model.specs.declared.call.Call.TheVariants as call
 use Rattle.login_model.specs.declared.event.Event.{Event}
-use Rattle.login_model.specs.declared.event.Event.TheVariants.{Connect, Call as Calls}
-use Rattle.login_model.specs.Legal.{IsText, texts}
+use Rattle.login_model.specs.declared.event.Event.TheVariants.{Connect, Disconnect, Call as Calls, Hardware as Happens, Tick, Stop}
+use Rattle.login_model.specs.Legal.{IsBuilt, IsBuiltCall}
+use Rattle.login_model.specs.Texts.{IsText, texts}
 use Rattle.recording.specs.declared.line.LineFault.{LineFault}
 use Rattle.recording.specs.declared.line.LineFault.TheVariants.{NotBuilt}
-use Rattle.recording.specs.Words.{Gives}
 use Rattle.recording.specs.declared.line.Line.{Line}
-use Rattle.recording.specs.declared.line.Line.TheVariants.{Header, User, Go, Event as EventLine, End}
+use Rattle.recording.specs.declared.line.Line.TheVariants.{Header, Guid, User, Conf, Action, Go, Event as EventLine, Link, In, Hangup, End}
 use Rattle.recording.specs.Text.{stands, hex_digit, spell_byte, spell_text, spell_flag}
-use Rattle.recording.specs.Lines.{request_word, call_words, event_words, fields, spell, Fits, FitsCall, IsLine}
+use Rattle.recording.specs.Hex.{spell_pair, spell_hex, is_hex_digit, is_guid}
+use Rattle.recording.specs.CallSpelling.{operation_word, device_words, property_words, call_words, FitsCall, FitsDevice}
+use Rattle.recording.specs.EventSpelling.{device_kind_word, key_word, request_word, hardware_words, event_words, FitsHardware, Fits, IsWrittenEvent}
+use Rattle.recording.specs.Bytes.{AreBytes}
+use Rattle.recording.specs.Lines.{fields, spell, IsLine, IsWritten, Spells}
+use Rattle.recording.specs.Unbuilt.{IsUnbuilt}
+use Rattle.recording.specs.Meaning.{meant, meant_event, is_built_line, is_built, built}
 use Rattle.recording.specs.Cut.{NoLineFeed}
 use Rattle.recording.specs.Readings.{line_of}
-use Rattle.recording.proofs.ReadLines.{line_of-fields, line_of_is}
+use Rattle.recording.proofs.Texts.{both}
+use Rattle.recording.proofs.Built.{built_event, event_written, event_built}
+use Rattle.recording.proofs.ReadLines.{LineIs, line_of_is, parts, line_of-parts, behind_conf, behind_action}
 
 -- no byte of a word is a space or below
 abbrev IsWord : List ℕ → Type 0
@@ -40,8 +60,11 @@ digits_IsWord : (ds : List ℕ) → AllDigits 10 ds → IsWord ds
 digits_IsWord [] h = tt
 digits_IsWord (c ∷ cs) h = let d : IsInRange 48 57 c = digit_from_value c h.0 in (omega (arith, d), digits_IsWord cs h.1)
 
-decimal_IsWord : (n : ℕ) → n < 2 ^ 32 → IsWord (decimal n)
+decimal_IsWord : (n : ℕ) → n < 2 ^ 64 → IsWord (decimal n)
 decimal_IsWord n small = digits_IsWord (decimal n) (decimal_is_IsNumeral n (omega arith)).0.1
+
+number_IsWord : (n : ℕ) → n < 2 ^ 32 → IsWord (decimal n)
+number_IsWord n small = decimal_IsWord n (omega (arith, small))
 
 hex_above : (n : ℕ) → 32 < hex_digit n
 hex_above n = grind (arith, nat_tests)
@@ -73,51 +96,126 @@ request_word_IsWord : (quiet : Bool) → IsWord (request_word quiet)
 request_word_IsWord true = search rules
 request_word_IsWord false = search rules
 
-call_AreWords : (call : Call) → FitsCall call → AreWords (call_words call)
-call_AreWords (Create x) fits = (
-  search rules,
-  (
-    decimal_IsWord x.uid.0 fits.0,
-    (
-      decimal_IsWord x.process fits.1,
-      (
-        spell_text_IsWord x.service,
-        (
-          spell_text_IsWord x.session_type,
-          (
-            spell_text_IsWord x.class,
-            (
-              spell_text_IsWord x.desktop,
-              (
-                spell_text_IsWord x.seat,
-                (
-                  decimal_IsWord x.vt fits.2,
-                  (
-                    spell_text_IsWord x.tty,
-                    (spell_text_IsWord x.display, (spell_flag_IsWord x.remote, (spell_text_IsWord x.remote_user, (spell_text_IsWord x.remote_host, tt)))),
-                  ),
-                ),
-              ),
-            ),
-          ),
-        ),
-      ),
-    ),
-  ),
-)
-call_AreWords (Control id force) fits = (search rules, (spell_text_IsWord id, (spell_flag_IsWord force, tt)))
-call_AreWords (Uncontrol id) fits = (search rules, (spell_text_IsWord id, tt))
+signed_IsWord : (z : ℤ) → FitsSigned w32 z → IsWord (signed_decimal z)
+signed_IsWord (pos n) h = number_IsWord n (omega (arith, h.sfits))
+signed_IsWord (negsuc n) h = (omega arith, number_IsWord (suc n) (omega (arith, h.sfits)))
 
-event_AreWords : (event : Event) → Fits event → AreWords (event_words event)
-event_AreWords (Connect c u) fits = (search rules, (decimal_IsWord c.0 fits.1, (decimal_IsWord u.0 fits.2, tt)))
-event_AreWords (Calls r) fits = (request_word_IsWord r.quiet, (decimal_IsWord r.who.0 fits.1, (decimal_IsWord r.serial fits.3, call_AreWords r.call fits.4)))
+operation_IsWord : (kind : OpKind) → IsWord (operation_word kind)
+operation_IsWord PowerOff = search rules
+operation_IsWord Reboot = search rules
+operation_IsWord Halt = search rules
+operation_IsWord Suspend = search rules
+operation_IsWord Hibernate = search rules
+operation_IsWord HybridSleep = search rules
+operation_IsWord SuspendThenHibernate = search rules
 
-fields_AreWords : (line : Line) → IsLine line → AreWords (fields line)
-fields_AreWords (Header version) h = (search rules, (decimal_IsWord version (omega (arith, h)), tt))
-fields_AreWords (User u) h = (search rules, (decimal_IsWord u.uid.0 h.1, (decimal_IsWord u.gid h.2, (spell_text_IsWord u.name, tt))))
-fields_AreWords Go h = search rules
-fields_AreWords (EventLine e) h = event_AreWords e h.fits
-fields_AreWords End h = search rules
+device_kind_IsWord : (kind : DevKind) → IsWord (device_kind_word kind)
+device_kind_IsWord Evdev = search rules
+device_kind_IsWord Drm = search rules
+
+key_IsWord : (k : HardKey) → IsWord (key_word k)
+key_IsWord key.Power = search rules
+key_IsWord key.Suspend = search rules
+key_IsWord key.Hibernate = search rules
+key_IsWord key.Lid = search rules
+
+-- bytes that each pass a test which only bytes above the space do
+tested_IsWord : (p : ℕ → Bool) → ((b : ℕ) → p b ≡ true → 32 < b) → (w : List ℕ) → list_all p w ≡ true → IsWord w
+tested_IsWord p high [] h = tt
+tested_IsWord p high (b ∷ bs) h = let t = both (p b) (list_all p bs) h in (high b t.0, tested_IsWord p high bs t.1)
+
+seat_IsWord : (seat : List ℕ) → is_seat_name seat ≡ true → IsWord seat
+seat_IsWord seat h = tested_IsWord is_seat_byte high seat (both _ _ (both _ _ h).0).1
+  where
+    high : (b : ℕ) → is_seat_byte b ≡ true → 32 < b
+    high b h = grind (arith, nat_tests)
+
+guid_IsWord : (guid : List ℕ) → is_guid guid ≡ true → IsWord guid
+guid_IsWord guid h = tested_IsWord is_hex_digit high guid (both _ _ h).1
+  where
+    high : (b : ℕ) → is_hex_digit b ≡ true → 32 < b
+    high b h = grind (arith, nat_tests)
+
+hex_IsWord : (bytes : List ℕ) → IsWord (spell_hex bytes)
+unfolding spell_hex
+hex_IsWord [] = tt
+hex_IsWord (b ∷ bs) = (hex_above (b / 16), (hex_above (b % 16), hex_IsWord bs))
+
+device_AreWords : (d : DevNo) → FitsDevice d → AreWords (device_words d)
+device_AreWords d f = (number_IsWord d.major f.0, (number_IsWord d.minor f.1, tt))
+
+property_AreWords : (x : PropertyName) → AreWords (property_words x)
+property_AreWords x = (spell_text_IsWord x.path, (spell_text_IsWord x.interface, (spell_text_IsWord x.name, tt)))
+
+call_AreWords : (c : Call) → FitsCall c → AreWords (call_words c)
+call_AreWords (call.Create x) fits = (search rules, (number_IsWord x.uid.0 fits.0, (number_IsWord x.process fits.1, (spell_text_IsWord x.service, (spell_text_IsWord x.session_type, (spell_text_IsWord x.class, (spell_text_IsWord x.desktop, (spell_text_IsWord x.seat, (number_IsWord x.vt fits.2, (spell_text_IsWord x.tty, (spell_text_IsWord x.display, (spell_flag_IsWord x.remote, (spell_text_IsWord x.remote_user, (spell_text_IsWord x.remote_host, tt))))))))))))))
+call_AreWords (call.GetSession id) fits = (search rules, (spell_text_IsWord id, tt))
+call_AreWords (call.GetUser u) fits = (search rules, (number_IsWord u.0 fits, tt))
+call_AreWords (call.GetSeat seat) fits = (search rules, (spell_text_IsWord seat, tt))
+call_AreWords call.ListSessions fits = (search rules, tt)
+call_AreWords call.ListUsers fits = (search rules, tt)
+call_AreWords call.ListSeats fits = (search rules, tt)
+call_AreWords call.ListInhibitors fits = (search rules, tt)
+call_AreWords (call.Activate id) fits = (search rules, (spell_text_IsWord id, tt))
+call_AreWords (call.ActivateOnSeat id seat) fits = (search rules, (spell_text_IsWord id, (spell_text_IsWord seat, tt)))
+call_AreWords (call.Lock id) fits = (search rules, (spell_text_IsWord id, tt))
+call_AreWords (call.Unlock id) fits = (search rules, (spell_text_IsWord id, tt))
+call_AreWords call.LockAll fits = (search rules, tt)
+call_AreWords call.UnlockAll fits = (search rules, tt)
+call_AreWords (call.Kill id who signal) fits = (search rules, (spell_text_IsWord id, (spell_text_IsWord who, (signed_IsWord signal fits, tt))))
+call_AreWords (call.Terminate id) fits = (search rules, (spell_text_IsWord id, tt))
+call_AreWords (call.TerminateUser u) fits = (search rules, (number_IsWord u.0 fits, tt))
+call_AreWords (call.TerminateSeat seat) fits = (search rules, (spell_text_IsWord seat, tt))
+call_AreWords (call.SetLinger u on) fits = (search rules, (number_IsWord u.0 fits, (spell_flag_IsWord on, tt)))
+call_AreWords (call.Power kind) fits = (search rules, (operation_IsWord kind, tt))
+call_AreWords (call.Can kind) fits = (search rules, (operation_IsWord kind, tt))
+call_AreWords (call.Inhibit x) fits = (search rules, (spell_text_IsWord x.what, (spell_text_IsWord x.who, (spell_text_IsWord x.why, (spell_text_IsWord x.mode, tt)))))
+call_AreWords (call.SetIdle id on) fits = (search rules, (spell_text_IsWord id, (spell_flag_IsWord on, tt)))
+call_AreWords (call.SetLocked id on) fits = (search rules, (spell_text_IsWord id, (spell_flag_IsWord on, tt)))
+call_AreWords (call.Control id force) fits = (search rules, (spell_text_IsWord id, (spell_flag_IsWord force, tt)))
+call_AreWords (call.Uncontrol id) fits = (search rules, (spell_text_IsWord id, tt))
+call_AreWords (call.TakeDevice id d) fits = (search rules, (spell_text_IsWord id, device_AreWords d fits))
+call_AreWords (call.ReleaseDevice id d) fits = (search rules, (spell_text_IsWord id, device_AreWords d fits))
+call_AreWords (call.PauseComplete id d) fits = (search rules, (spell_text_IsWord id, device_AreWords d fits))
+call_AreWords (call.SwitchTo seat vt) fits = (search rules, (spell_text_IsWord seat, (number_IsWord vt fits, tt)))
+call_AreWords (call.SwitchToNext seat) fits = (search rules, (spell_text_IsWord seat, tt))
+call_AreWords (call.SwitchToPrevious seat) fits = (search rules, (spell_text_IsWord seat, tt))
+call_AreWords (call.KillUser u signal) fits = (search rules, (number_IsWord u.0 fits.0, (signed_IsWord signal fits.1, tt)))
+call_AreWords (call.ReadInput h) fits = (search rules, (number_IsWord h.0 fits, tt))
+call_AreWords (call.SetMode h mode) fits = (search rules, (number_IsWord h.0 fits.0, (number_IsWord mode fits.1, tt)))
+call_AreWords (call.Close h) fits = (search rules, (number_IsWord h.0 fits, tt))
+call_AreWords (call.GetProperty x) fits = (search rules, property_AreWords x)
+call_AreWords (call.GetAllProperties path interface) fits = (search rules, (spell_text_IsWord path, (spell_text_IsWord interface, tt)))
+call_AreWords (call.SetProperty x) fits = (search rules, property_AreWords x)
+call_AreWords call.Ping fits = (search rules, tt)
+call_AreWords call.GetMachineId fits = (search rules, tt)
+call_AreWords call.Hello fits = (search rules, tt)
+call_AreWords (call.GetNameOwner name) fits = (search rules, (spell_text_IsWord name, tt))
+call_AreWords (call.AddMatch rule) fits = (search rules, (spell_text_IsWord rule, tt))
+call_AreWords (call.RemoveMatch rule) fits = (search rules, (spell_text_IsWord rule, tt))
+call_AreWords call.NoCall fits = (search rules, tt)
+call_AreWords call.NoObject fits = (search rules, tt)
+call_AreWords call.NoMethod fits = (search rules, tt)
+call_AreWords call.BadArguments fits = (search rules, tt)
+
+hardware_AreWords : (x : Hardware) → FitsHardware x → AreWords (hardware_words x)
+hardware_AreWords (Add d kind seat) f = (search rules, (number_IsWord d.major f.0.0, (number_IsWord d.minor f.0.1, (device_kind_IsWord kind, (seat_IsWord seat f.1, tt)))))
+hardware_AreWords (Remove d) f = (search rules, device_AreWords d f)
+hardware_AreWords (Input d type code value) f =
+    (search rules, (number_IsWord d.major f.0.0, (number_IsWord d.minor f.0.1, (number_IsWord type (omega (arith, f.1)), (number_IsWord code (omega (arith, f.2)), (signed_IsWord value f.3, tt))))))
+hardware_AreWords (VtKey vt) f = (search rules, (number_IsWord vt f, tt))
+hardware_AreWords (Key key) f = (search rules, (key_IsWord key, tt))
+hardware_AreWords (Dock on) f = (search rules, (spell_flag_IsWord on, tt))
+hardware_AreWords (Exit id) f = (search rules, (spell_text_IsWord id, tt))
+hardware_AreWords JobDone f = search rules
+
+event_AreWords : (event : Event) → IsWrittenEvent event → AreWords (event_words event)
+event_AreWords (Connect c u) f = (search rules, (number_IsWord c.0 f.1, (number_IsWord u.0 f.2, tt)))
+event_AreWords (Disconnect c) f = (search rules, (number_IsWord c.0 f.1, tt))
+event_AreWords (Calls r) f = (request_word_IsWord r.quiet, (number_IsWord r.who.0 f.1, (number_IsWord r.serial f.3, call_AreWords r.call f.4)))
+event_AreWords (Happens x) f = hardware_AreWords x f
+event_AreWords (Tick m) f = (search rules, (decimal_IsWord m.0 f, tt))
+event_AreWords Stop f = search rules
 
 above : (b : ℕ) → 32 < b → eqb b 32 ≡ false
 above b h = grind (arith, nat_tests)
@@ -132,28 +230,76 @@ split_join w (v ∷ vs) h hs =
     slice_split_at (λ b. eqb b 32) w 32 (join_with_byte 32 (v ∷ vs)) (All-from_recursion _ w (no_space w h)) refl
     ∙ ap (λ (t : List (List ℕ)). w ∷ t) (split_join v vs hs.0 hs.1)
 
--- the words of a line are its fields again
-pub slice_split-fields : (line : Line) → IsLine line → slice_split (λ b. eqb b 32) (join_with_byte 32 (fields line)) ≡ fields line
-slice_split-fields (Header version) h = let k = fields_AreWords (Header version) h in split_join _ _ k.0 k.1
-slice_split-fields (User u) h = let k = fields_AreWords (User u) h in split_join _ _ k.0 k.1
-slice_split-fields Go h = let k = fields_AreWords Go h in split_join _ _ k.0 k.1
-slice_split-fields (EventLine (Connect c u)) h = let k = event_AreWords (Connect c u) h.fits in split_join _ _ k.0 k.1
-slice_split-fields (EventLine (Calls r)) h = let k = event_AreWords (Calls r) h.fits in split_join _ _ k.0 k.1
-slice_split-fields End h = let k = fields_AreWords End h in split_join _ _ k.0 k.1
+split_words : (ws : List (List ℕ)) → 0 < length ws → AreWords ws → slice_split (λ b. eqb b 32) (join_with_byte 32 ws) ≡ ws
+split_words [] some h = absurd (omega (arith, some))
+split_words (w ∷ ws) some h = split_join w ws h.0 h.1
+
+hardware_some : (x : Hardware) → 0 < length (hardware_words x)
+hardware_some (Add d kind seat) = omega arith
+hardware_some (Remove d) = omega arith
+hardware_some (Input d type code value) = omega arith
+hardware_some (VtKey vt) = omega arith
+hardware_some (Key key) = omega arith
+hardware_some (Dock on) = omega arith
+hardware_some (Exit id) = omega arith
+hardware_some JobDone = omega arith
+
+event_some : (e : Event) → 0 < length (event_words e)
+event_some (Connect c u) = omega arith
+event_some (Disconnect c) = omega arith
+event_some (Calls r) = omega arith
+event_some (Happens x) = hardware_some x
+event_some (Tick m) = omega arith
+event_some Stop = omega arith
+
+line_AreWords : (line : Line) → IsLine line → AreWords (fields line)
+line_AreWords (Header version) h = (search rules, (number_IsWord version (omega (arith, h)), tt))
+line_AreWords (User u) h = (search rules, (number_IsWord u.uid.0 h.1, (number_IsWord u.gid h.2, (spell_text_IsWord u.name, tt))))
+line_AreWords Go h = search rules
+line_AreWords (EventLine e) h = event_AreWords e (event_written e h.fits)
+line_AreWords End h = search rules
+line_AreWords _ h = absurd h
+
+-- the text of a line is cut into its parts
+pub slice_split-fields : (line : Line) → IsWritten line → slice_split (λ b. eqb b 32) (join_with_byte 32 (fields line)) ≡ parts line
+slice_split-fields (Header version) h = split_words _ (omega arith) (line_AreWords (Header version) h)
+slice_split-fields (Guid guid) h = split_words (fields (Guid guid)) (omega arith) (search rules, (guid_IsWord guid h, tt))
+slice_split-fields (User u) h = split_words _ (omega arith) (line_AreWords (User u) h)
+slice_split-fields (Conf []) h = split_words (fields (Conf [])) (omega arith) (search rules)
+slice_split-fields (Conf (b ∷ bs)) h = behind_conf (b ∷ bs)
+slice_split-fields (Action text) h = behind_action text
+slice_split-fields Go h = split_words _ (omega arith) (line_AreWords Go h)
+slice_split-fields (EventLine e) h = split_words (event_words e) (event_some e) (event_AreWords e h)
+slice_split-fields (Link c u) h = split_words (fields (Link c u)) (omega arith) (search rules, (number_IsWord c.0 h.1, (number_IsWord u.0 h.2, tt)))
+slice_split-fields (In c bytes) h = split_words (fields (In c bytes)) (omega arith) (search rules, (number_IsWord c.0 h.1, (hex_IsWord bytes, tt)))
+slice_split-fields (Hangup c) h = split_words (fields (Hangup c)) (omega arith) (search rules, (number_IsWord c.0 h.1, tt))
+slice_split-fields End h = split_words _ (omega arith) (line_AreWords End h)
 
 -- a text before a line feed is spelled so only by the line that its words say
-pub line_of-text : (text : List ℕ) (line : Line) → IsLine line → text ++ 10 ∷ [] ≡ spell line → line_of (slice_split (λ b. eqb b 32) text) ≡ Some line
+pub line_of-text : (text : List ℕ) (line : Line) → IsWritten line → text ++ 10 ∷ [] ≡ spell line → line_of (slice_split (λ b. eqb b 32) text) ≡ Some line
 line_of-text text line h e =
     let same : text ≡ join_with_byte 32 (fields line) = append_cancel_right text (join_with_byte 32 (fields line)) (10 ∷ []) e in
-    ap line_of (ap (slice_split (λ b. eqb b 32)) same ∙ slice_split-fields line h) ∙ line_of-fields line h
+    ap line_of (ap (slice_split (λ b. eqb b 32)) same ∙ slice_split-fields line h) ∙ line_of-parts line h
 
--- one spelling, one line
-pub spell_injective : (l m : Line) → IsLine l → IsLine m → spell l ≡ spell m → l ≡ m
-spell_injective l m g h e =
+-- a line that is built is written
+pub line_written : (line : Line) → IsLine line → IsWritten line
+line_written (Header version) h = h
+line_written (User u) h = h
+line_written Go h = tt
+line_written (EventLine e) h = event_written e h.fits
+line_written End h = tt
+line_written _ h = absurd h
+
+-- one spelling, one line, of all lines that are written
+pub written_injective : (l m : Line) → IsWritten l → IsWritten m → spell l ≡ spell m → l ≡ m
+written_injective l m g h e =
     let a = line_of-text (join_with_byte 32 (fields l)) l g refl in
     let b = line_of-text (join_with_byte 32 (fields l)) m h e in
     let same : Some l ≡ Some m = sym a ∙ b in
     cc
+
+pub spell_injective : (l m : Line) → IsLine l → IsLine m → spell l ≡ spell m → l ≡ m
+spell_injective l m g h e = written_injective l m (line_written l g) (line_written m h) e
 
 no_feed_in : (w : List ℕ) (rest : List ℕ) → IsWord w → NoLineFeed rest → NoLineFeed (w ++ rest)
 no_feed_in [] rest h k = k
@@ -170,7 +316,7 @@ no_feed_join (w ∷ v ∷ vs) h = no_feed_in w (32 ∷ join_with_byte 32 (v ∷ 
 
 -- a line's words have no line feed
 pub fields_no_feed : (line : Line) → IsLine line → NoLineFeed (join_with_byte 32 (fields line))
-fields_no_feed line h = no_feed_join (fields line) (fields_AreWords line h)
+fields_no_feed line h = no_feed_join (fields line) (line_AreWords line h)
 
 -- the bytes of words, with one byte after each
 abbrev size : List (List ℕ) → ℕ
@@ -209,10 +355,10 @@ request_word_short : (quiet : Bool) → length (request_word quiet) ≤ 4
 request_word_short true = omega arith
 request_word_short false = omega arith
 
-call_short : (call : Call) → FitsCall call → AllByRecursion (IsText 512) (texts call) → size (call_words call) ≤ 16000
-call_short (Create x) f t =
+call_short : (c : Call) → IsBuiltCall c → FitsCall c → AllByRecursion (IsText 512) (texts c) → size (call_words c) ≤ 16000
+call_short (call.Create x) b f t =
     let a = decimal_short x.uid.0 f.0 in
-    let b = decimal_short x.process f.1 in
+    let o = decimal_short x.process f.1 in
     let c = spell_text_short 512 x.service t.0 in
     let d = spell_text_short 512 x.session_type t.1.0 in
     let e = spell_text_short 512 x.class t.1.1.0 in
@@ -225,17 +371,19 @@ call_short (Create x) f t =
     let m = spell_text_short 512 x.remote_user t.1.1.1.1.1.1.1.0 in
     let n = spell_text_short 512 x.remote_host t.1.1.1.1.1.1.1.1.0 in
     omega arith
-call_short (Control id force) f t = let a = spell_text_short 512 id t.0 in let b = spell_flag_short force in omega arith
-call_short (Uncontrol id) f t = let a = spell_text_short 512 id t.0 in omega arith
+call_short (call.Control id force) b f t = let a = spell_text_short 512 id t.0 in let o = spell_flag_short force in omega arith
+call_short (call.Uncontrol id) b f t = let a = spell_text_short 512 id t.0 in omega arith
+call_short _ b f t = absurd b
 
-event_short : (event : Event) → Fits event → size (event_words event) ≤ 16100
-event_short (Connect c u) f = let a = decimal_short c.0 f.1 in let b = decimal_short u.0 f.2 in omega arith
-event_short (Calls r) f =
-    let a = request_word_short r.quiet in
-    let b = decimal_short r.who.0 f.1 in
-    let c = decimal_short r.serial f.3 in
-    let d = call_short r.call f.4 f.5 in
+event_short : (event : Event) → IsBuilt event → Fits event → size (event_words event) ≤ 16100
+event_short (Connect c u) b f = let x = decimal_short c.0 f.1 in let y = decimal_short u.0 f.2 in omega arith
+event_short (Calls r) b f =
+    let x = request_word_short r.quiet in
+    let y = decimal_short r.who.0 f.1 in
+    let z = decimal_short r.serial f.3 in
+    let d = call_short r.call b.1 f.4 f.5 in
     omega arith
+event_short _ b f = absurd b
 
 fields_short : (line : Line) → IsLine line → size (fields line) ≤ 16100
 fields_short (Header version) h = let a = decimal_short version (omega (arith, h)) in omega arith
@@ -245,8 +393,9 @@ fields_short (User u) h =
     let c = spell_text_short 255 u.name h.3 in
     omega arith
 fields_short Go h = omega arith
-fields_short (EventLine e) h = event_short e h.fits
+fields_short (EventLine e) h = event_short e h.built h.fits
 fields_short End h = omega arith
+fields_short _ h = absurd h
 
 -- a line fits where 16385 bytes do
 pub spell_short : (line : Line) → IsLine line → length (spell line) ≤ 16385
@@ -255,16 +404,41 @@ spell_short line h =
     let b = fields_short line h in
     simp length-append (omega arith)
 
--- what is read of a text is the line that is spelled so
-pub read_found : (bytes text : List ℕ) (r : Result Line LineFault) → bytes ≡ text ++ 10 ∷ [] → Gives (line_of (slice_split (λ b. eqb b 32) text)) r → IfOk r (λ line. (bytes ≡ spell line) × IsLine line)
-read_found bytes text (Ok line) e g =
-    let h = line_of_is (slice_split (λ b. eqb b 32) text) line g in
-    (e ∙ ap (λ (t : List ℕ). t ++ 10 ∷ []) (sym (join_with_byte-slice_split 32 text) ∙ ap (join_with_byte 32) h.words_are), h.is_line)
-read_found bytes text (Err fault) e g = tt
+-- what is read of a text is a line that is written so
+pub text_is : (text : List ℕ) (line : Line) → line_of (slice_split (λ b. eqb b 32) text) ≡ Some line → LineIs line (slice_split (λ b. eqb b 32) text)
+text_is text line e = line_of_is (slice_split (λ b. eqb b 32) text) line e
 
--- where nothing is read, no line is spelled so
-pub read_not_built : (bytes text : List ℕ) (r : Result Line LineFault) → bytes ≡ text ++ 10 ∷ [] → Gives (line_of (slice_split (λ b. eqb b 32) text)) r → r ≡ Err NotBuilt → (line : Line) → IsLine line → bytes ≡ spell line → ⊥
-read_not_built bytes text r e g n line h f =
-    let none : line_of (slice_split (λ b. eqb b 32) text) ≡ None = rw n at g in
-    let some = line_of-text text line h (sym e ∙ f) in
-    cc
+pub text_spells : (text : List ℕ) (line : Line) → line_of (slice_split (λ b. eqb b 32) text) ≡ Some line → length text ≤ 16384 → Spells line (text ++ 10 ∷ [])
+text_spells text line e short =
+    let back = join_with_byte-slice_split 32 text in
+    subst (λ (t : List ℕ). Spells line (t ++ 10 ∷ [])) back ((text_is text line e).spells (omega (arith, short, ap length back)))
+
+pub text_written : (text : List ℕ) (line : Line) → line_of (slice_split (λ b. eqb b 32) text) ≡ Some line → AreBytes text → IsWritten line
+text_written text line e bytes =
+    let back = join_with_byte-slice_split 32 text in
+    (text_is text line e).written (subst AreBytes (sym back) bytes) (ap (slice_split (λ b. eqb b 32)) back)
+
+-- a written line that is built means itself, and is one of a recording
+pub built_line : (line : Line) → IsWritten line → is_built_line line ≡ true → (meant line ≡ line) × IsLine line
+built_line (Header version) w b = (refl, w)
+built_line (User u) w b = (refl, w)
+built_line Go w b = (refl, tt)
+built_line (EventLine e) w b =
+    let p = both (is_built e) (is_built (meant_event e)) b in
+    let t = built_event e w p.0 p.1 in
+    (ap EventLine t.0, t.1)
+built_line End w b = (refl, tt)
+built_line _ w b = cc
+
+pub line_built : (line : Line) → IsLine line → built line ≡ Ok line
+line_built (Header version) h = refl
+line_built (User u) h = refl
+line_built Go h = refl
+line_built (EventLine e) h = let t = event_built e h in rw (t.1, t.0) refl
+line_built End h = refl
+line_built _ h = absurd h
+
+-- a line that is built stands as its spelling alone
+pub spelled_so : (line : Line) (bytes : List ℕ) → Spells line bytes → IsLine line → bytes ≡ spell line
+spelled_so line bytes (Spells.plain l short) h = refl
+spelled_so line bytes Spells.empty h = absurd h

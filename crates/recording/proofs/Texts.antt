@@ -8,14 +8,14 @@ use Rattle.std.proofs.lemmas.Bool.Decides.{nat_tests}
 use Rattle.std.proofs.lemmas.Slice.Eq.{bytes_eq-Decides}
 use Rattle.std.proofs.Math.Utf8.{encode, encodes, scalar, scalars}
 use borrow.Author.Tests.{ltb-true}
-use Rattle.login_model.specs.Legal.{IsText}
+use Rattle.login_model.specs.Texts.{IsText}
 use Rattle.recording.specs.Text.{stands, hex_digit, spell_byte, spell_text}
 use Rattle.recording.specs.Bytes.{AreBytes}
-use Rattle.recording.specs.declared.line.LineFault.{LineFault}
-use Rattle.recording.specs.declared.line.LineFault.TheVariants.{NotBuilt, NoMemory}
+use Rattle.recording.specs.declared.word.Misread.{Misread}
+use Rattle.recording.specs.declared.word.Misread.TheVariants.{Misfit, NoMemory}
 use Rattle.recording.specs.Words.{Gives, Plain, unspelled, hex_value, is_text, text_of}
 
-hex_value-hex_digit : (n : ℕ) → n < 16 → hex_value (hex_digit n) ≡ n
+pub hex_value-hex_digit : (n : ℕ) → n < 16 → hex_value (hex_digit n) ≡ n
 hex_value-hex_digit n small = grind (arith, nat_tests)
 
 stands_percent : (b : ℕ) → stands b ≡ true → eqb b 37 ≡ false
@@ -221,6 +221,6 @@ text_of-no_text most word text other g e none = text_of_none most word by
         none (subst (IsText most) same h)
 
 -- where no bytes were found, no text is
-pub text_of-fault : (most : ℕ) (word : List ℕ) (e : LineFault) → (word ≡ 37 ∷ [] → ⊥) → (e ≡ NotBuilt → (text : List ℕ) → AreBytes text → word ≡ flat_map spell_byte text → ⊥) → Gives (text_of most word) (Err e)
-text_of-fault most word NotBuilt other none = text_of-no_bytes most word other (none refl)
+pub text_of-fault : (most : ℕ) (word : List ℕ) (e : Misread) → (word ≡ 37 ∷ [] → ⊥) → (e ≡ Misfit → (text : List ℕ) → AreBytes text → word ≡ flat_map spell_byte text → ⊥) → Gives (text_of most word) (Err e)
+text_of-fault most word Misfit other none = text_of-no_bytes most word other (none refl)
 text_of-fault most word NoMemory other none = tt

@@ -5,19 +5,6 @@ use Rattle.std.specs.Fmt.{decimal}
 use Rattle.login_base.specs.declared.ids.SessId.{SessId}
 use Rattle.login_base.specs.declared.ids.Uid.{Uid}
 use Rattle.login_base.specs.SessionId.{session_text}
-use Rattle.login_model.specs.declared.fact.Key.{Key}
-use Rattle.login_model.specs.declared.fact.Key.TheVariants.{Conn, Sess, Ctl, User, Owner, Vt}
-use Rattle.login_model.specs.declared.fact.Fact.{Fact}
-use Rattle.login_model.specs.declared.fact.Fact.TheVariants as fact
-use Rattle.login_model.specs.declared.fact.Owner.{Owner as Owned}
-use Rattle.login_model.specs.declared.fact.Owner.TheVariants.{Fifo}
-use Rattle.login_model.specs.declared.session.Session.{Session}
-use Rattle.login_model.specs.declared.session.SessionType.{SessionType}
-use Rattle.login_model.specs.declared.session.SessionType.TheVariants.{Unspecified, Tty, X11, Wayland, Mir, Web}
-use Rattle.login_model.specs.declared.session.Class.{Class}
-use Rattle.login_model.specs.declared.session.Class.TheVariants as class
-use Rattle.login_model.specs.declared.session.Phase.{Phase}
-use Rattle.login_model.specs.declared.session.Phase.TheVariants.{Open, Closing, Gone}
 use Rattle.login_model.specs.declared.rule.Limit.{Limit}
 use Rattle.login_model.specs.declared.rule.Limit.TheVariants.{Links}
 use Rattle.login_model.specs.declared.rule.Rule.{Rule}
@@ -26,81 +13,11 @@ use Rattle.login_model.specs.declared.rule.Verdict.{Verdict}
 use Rattle.login_model.specs.declared.rule.Verdict.TheVariants.{Granted, Denied}
 use Rattle.login_model.specs.declared.answer.Answer.{Answer}
 use Rattle.login_model.specs.declared.answer.Answer.TheVariants.{Nothing, Created}
-use Rattle.login_model.specs.declared.mark.Notice.{Notice}
-use Rattle.login_model.specs.declared.mark.Notice.TheVariants.{UserNew, SessionNew, Active}
-use Rattle.login_model.specs.declared.mark.Whom.{Whom}
-use Rattle.login_model.specs.declared.mark.Whom.TheVariants.{One, All}
 use Rattle.login_model.specs.declared.mark.Mark.{Mark}
-use Rattle.login_model.specs.declared.mark.Mark.TheVariants.{Set, Say}
 use Rattle.login_model.specs.declared.mark.Entry.{Entry}
 use Rattle.recording.specs.Text.{spell_text}
+pub use Rattle.recording.specs.MarkWords.{key_words, fact_words, notice_words, mark_words}
 use Rattle.recording.specs.Lines.{event_words}
-
-abbrev pub or_dash : Option (List ℕ) → List ℕ
-or_dash (Some word) = word
-or_dash None = codes "-"
-
--- a session's id, or `-` for none
-abbrev pub session_or_dash : Option SessId → List ℕ
-session_or_dash (Some s) = session_text s
-session_or_dash None = codes "-"
-
-abbrev pub type_word : SessionType → List ℕ
-type_word Unspecified = codes "unspecified"
-type_word Tty = codes "tty"
-type_word X11 = codes "x11"
-type_word Wayland = codes "wayland"
-type_word Mir = codes "mir"
-type_word Web = codes "web"
-
-abbrev pub class_word : Class → List ℕ
-class_word class.User = codes "user"
-class_word class.Greeter = codes "greeter"
-class_word class.LockScreen = codes "lock-screen"
-class_word class.Background = codes "background"
-
-abbrev pub key_words : Key → List (List ℕ)
-key_words (Conn c) = codes "conn" ∷ decimal c.0 ∷ []
-key_words (Sess s) = codes "sess" ∷ session_text s ∷ []
-key_words (Ctl s) = codes "ctl" ∷ session_text s ∷ []
-key_words (User u) = codes "user" ∷ decimal u.0 ∷ []
-key_words (Owner h) = codes "owner" ∷ decimal h.0 ∷ []
-key_words Vt = codes "vt" ∷ []
-
--- how a key prints that nothing is there
-abbrev pub absent_word : Key → List ℕ
-absent_word (Ctl s) = codes "-"
-absent_word _ = codes "absent"
-
-abbrev pub session_words_at : Phase → Session → List (List ℕ)
-session_words_at Open x = codes "open" ∷ decimal x.uid.0 ∷ or_dash x.seat ∷ decimal x.vt ∷ type_word x.session_type ∷ class_word x.class ∷ []
-session_words_at Closing x = codes "closing" ∷ []
-session_words_at Gone x = codes "gone" ∷ []
-
-abbrev pub owner_words : Owned → List (List ℕ)
-owner_words (Fifo c s) = codes "fifo" ∷ decimal c.0 ∷ session_text s ∷ []
-
-abbrev pub fact_words : Key → Fact → List (List ℕ)
-fact_words k fact.Absent = absent_word k ∷ []
-fact_words k (fact.Connected u) = decimal u.0 ∷ []
-fact_words k (fact.Session x) = session_words_at x.phase x
-fact_words k (fact.Controller c) = decimal c.0 ∷ []
-fact_words k fact.Known = codes "known" ∷ []
-fact_words k (fact.Owned o) = owner_words o
-fact_words k (fact.Number n) = decimal n ∷ []
-
-abbrev pub notice_words : Notice → List (List ℕ)
-notice_words (UserNew u) = codes "user-new" ∷ decimal u.0 ∷ []
-notice_words (SessionNew s) = codes "session-new" ∷ session_text s ∷ []
-notice_words (Active seat old new) = codes "active" ∷ seat ∷ session_or_dash old ∷ session_or_dash new ∷ []
-
-abbrev pub whom_words : Whom → List (List ℕ)
-whom_words (One c) = codes "say" ∷ decimal c.0 ∷ []
-whom_words All = codes "all" ∷ []
-
-abbrev pub mark_words : Mark → List (List ℕ)
-mark_words (Set k x) = codes "set" ∷ (key_words k ++ fact_words k x)
-mark_words (Say w n) = whom_words w ++ notice_words n
 
 abbrev pub limit_words : Limit → List (List ℕ)
 limit_words Links = codes "links" ∷ codes "64" ∷ []

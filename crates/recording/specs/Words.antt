@@ -1,17 +1,27 @@
 -- What the words of a line say.
-use Rattle.std.specs.Prelude.{ℕ, ◌≡◌, ◌+◌, ◌-◌, ◌*◌, ◌==◌, ◌&&◌, not, nat_le, nat_lt, Bool, true, false, if◌then◌else◌, Option, Some, None, Result, Ok, Err, List, [], ◌∷◌, length, codes}
+use Rattle.std.specs.Prelude.{ℕ, ℤ, pos, negsuc, ◌^◌, ◌≡◌, ◌+◌, ◌-◌, ◌*◌, ◌==◌, ◌&&◌, not, nat_le, nat_lt, Bool, true, false, if◌then◌else◌, Option, Some, None, Result, Ok, Err, List, [], ◌∷◌, length, codes}
 use Rattle.std.specs.List.{list_all}
 use Rattle.std.specs.Option.{option_and_then}
 use Rattle.std.specs.Str.{bytes_eq, is_utf8}
 use Rattle.login_base.specs.Number.{number_of}
-use Rattle.recording.specs.declared.line.LineFault.{LineFault}
-use Rattle.recording.specs.declared.line.LineFault.TheVariants.{NotBuilt, NoMemory}
+use Rattle.recording.specs.declared.word.Misread.{Misread}
+use Rattle.recording.specs.declared.word.Misread.TheVariants.{Misfit, NoMemory}
+use Rattle.login_model.specs.declared.operation.OpKind.{OpKind}
+use Rattle.login_model.specs.declared.operation.OpKind.TheVariants.{PowerOff, Reboot, Halt, Suspend, Hibernate, HybridSleep, SuspendThenHibernate}
+use Rattle.login_model.specs.declared.hardware.DevKind.{DevKind}
+use Rattle.login_model.specs.declared.hardware.DevKind.TheVariants.{Evdev, Drm}
+use Rattle.login_model.specs.declared.hardware.HardKey.{HardKey}
+use Rattle.login_model.specs.declared.hardware.HardKey.TheVariants as key
+use Rattle.std.specs.Fmt.{decimal}
+use Rattle.std.specs.Str.Parse.{digits_value}
+use Rattle.login_base.specs.Seat.{is_seat_name}
 use Rattle.recording.specs.Text.{spell_text}
+use Rattle.recording.specs.Hex.{spell_hex, is_hex_digit, is_guid}
 
 -- a reading gives the value that there is, or finds none; want of memory may come at any time
-abbrev pub Gives : {T : Type 0} → Option T → Result T LineFault → Type 0
+abbrev pub Gives : {T : Type 0} → Option T → Result T Misread → Type 0
 Gives o (Ok x) = o ≡ Some x
-Gives o (Err NotBuilt) = o ≡ None
+Gives o (Err Misfit) = o ≡ None
 Gives o (Err NoMemory) = Unit {0}
 
 -- a number above 0
@@ -20,6 +30,66 @@ above_zero n = if n == 0 then None else Some n
 
 abbrev pub positive_of : List ℕ → Option ℕ
 positive_of word = option_and_then above_zero (number_of word)
+
+-- the number, where it is below this bound
+abbrev pub if_below : ℕ → ℕ → Option ℕ
+if_below bound n = if nat_lt n bound then Some n else None
+
+-- a number below 2^16
+abbrev pub small_of : List ℕ → Option ℕ
+small_of word = option_and_then (if_below (2 ^ 16)) (number_of word)
+
+-- the number below 2^64 whose decimal spelling the word is, without sign or leading zeros
+unfoldable pub moment_of : List ℕ → Option ℕ
+moment_of word =
+    if nat_lt (digits_value 10 word) (2 ^ 64) && bytes_eq (decimal (digits_value 10 word)) word
+    then Some (digits_value 10 word) else None
+
+-- a number of 31 bits as a signed one
+abbrev pub from_zero : ℕ → Option ℤ
+from_zero n = if nat_lt n (2 ^ 31) then Some (pos n) else None
+
+-- the negative of a number from 1 to 2^31
+abbrev pub negative : ℕ → Option ℤ
+negative n = if nat_le 1 n && nat_le n (2 ^ 31) then Some (negsuc (n - 1)) else None
+
+-- a signed number of 32 bits: a number, or `-` and one that is not 0
+abbrev pub signed_of : List ℕ → Option ℤ
+signed_of [] = None
+signed_of (b ∷ bs) = if b == 45 then option_and_then negative (number_of bs) else option_and_then from_zero (number_of (b ∷ bs))
+
+abbrev pub device_kind_of : List ℕ → Option DevKind
+device_kind_of word =
+    if bytes_eq word (codes "evdev") then Some Evdev
+    else if bytes_eq word (codes "drm") then Some Drm
+    else None
+
+abbrev pub key_of : List ℕ → Option HardKey
+key_of word =
+    if bytes_eq word (codes "power") then Some key.Power
+    else if bytes_eq word (codes "suspend") then Some key.Suspend
+    else if bytes_eq word (codes "hibernate") then Some key.Hibernate
+    else if bytes_eq word (codes "lid") then Some key.Lid
+    else None
+
+abbrev pub operation_of : List ℕ → Option OpKind
+operation_of word =
+    if bytes_eq word (codes "poweroff") then Some PowerOff
+    else if bytes_eq word (codes "reboot") then Some Reboot
+    else if bytes_eq word (codes "halt") then Some Halt
+    else if bytes_eq word (codes "suspend") then Some Suspend
+    else if bytes_eq word (codes "hibernate") then Some Hibernate
+    else if bytes_eq word (codes "hybrid-sleep") then Some HybridSleep
+    else if bytes_eq word (codes "suspend-then-hibernate") then Some SuspendThenHibernate
+    else None
+
+-- the name of a seat, which stands as it is
+unfoldable pub seat_of : List ℕ → Option (List ℕ)
+seat_of word = if is_seat_name word then Some word else None
+
+-- the identity of a server
+abbrev pub guid_of : List ℕ → Option (List ℕ)
+guid_of word = if is_guid word then Some word else None
 
 abbrev pub flag_of : List ℕ → Option Bool
 flag_of word =
@@ -52,3 +122,14 @@ unfoldable pub text_of : ℕ → List ℕ → Option (List ℕ)
 text_of most word =
     if is_text most (unspelled Plain word) && bytes_eq (spell_text (unspelled Plain word)) word
     then Some (unspelled Plain word) else None
+
+-- the bytes that pairs of hex digits stand for, whatever the digits are
+abbrev pub unhexed : List ℕ → List ℕ
+unhexed (high ∷ low ∷ rest) = (16 * hex_value high + hex_value low) ∷ unhexed rest
+unhexed _ = []
+
+-- the bytes, one at least, whose spelling in hex the word is
+unfoldable pub hex_of : List ℕ → Option (List ℕ)
+hex_of word =
+    if not (length word == 0) && list_all is_hex_digit word && bytes_eq (spell_hex (unhexed word)) word
+    then Some (unhexed word) else None

@@ -2,221 +2,232 @@
 
 ghost use Rattle.std.specs.Prelude.{◌≡◌, map};
 ghost use Rattle.recording.specs.Words.{Gives};
-ghost use Rattle.recording.specs.Readings.{owner_of, purpose_of, place_of, origin_of, creation_from, creation_of, create_of, control_of, uncontrol_of, call_of};
+ghost use Rattle.recording.specs.CallReadings.{kill_of, inhibition_of, property_of, alone, manager_call_of, session_call_of, seat_call_of, other_call_of, call_of};
 
-use crate::line::LineFault;
-use crate::word::{flag, is_word, number, text};
-use login_base::{Uid, Word};
-use login_model::{Call, Creation};
+use crate::arguments::{
+    number_flag, number_signed, one_number, one_operation, one_text, text_device, text_flag,
+    text_number, two_numbers, two_texts,
+};
+use crate::creation::read_creation;
+use crate::word::{LONGEST_TEXT, Misread, is_word, signed, text};
+use login_base::{HandleNo, Uid};
+use login_model::{Call, Inhibition, PropertyName};
 use std::alloc::Global;
 
-/// The most bytes of a text that a call has.
-const MOST: usize = 512;
-
-/// Whose a session is.
-#[derive(Drop)]
-struct Owner {
-    uid: Uid,
-    process: u32,
-    service: Word,
-}
-
-/// What a session is for.
-#[derive(Drop)]
-struct Purpose {
-    session_type: Word,
-    class: Word,
-    desktop: Word,
-}
-
-/// Where a session's user is.
-#[derive(Drop)]
-struct Origin {
-    display: Word,
-    remote: bool,
-    user: Word,
-    host: Word,
-}
-
-/// Where a session is.
-#[derive(Drop)]
-struct Place {
-    seat: Word,
-    vt: u32,
-    tty: Word,
-    origin: Origin,
-}
-
-fn read_owner(alloc: Global, uid: &[u8], process: &[u8], service: &[u8]) -> Result<Owner, LineFault>
-    ensures { Gives (owner_of uid.now process.now service.now) result }
+fn read_kill(alloc: Global, words: &[&[u8]]) -> Result<Call, Misread>
+    ensures { Gives (kill_of (map (λ word. word.now) words.now)) result }
 {
-    let uid = Uid(number(uid)?);
-    let process = number(process)?;
-    let service = text(alloc, service, MOST)?;
-    Ok(Owner {
-        uid,
-        process,
-        service,
-    })
-}
-
-fn read_purpose(
-    alloc: Global,
-    session_type: &[u8],
-    class: &[u8],
-    desktop: &[u8],
-) -> Result<Purpose, LineFault>
-    ensures { Gives (purpose_of session_type.now class.now desktop.now) result }
-{
-    let session_type = text(alloc, session_type, MOST)?;
-    let class = text(alloc, class, MOST)?;
-    let desktop = text(alloc, desktop, MOST)?;
-    Ok(Purpose {
-        session_type,
-        class,
-        desktop,
-    })
-}
-
-fn read_origin(alloc: Global, words: &[&[u8]]) -> Result<Origin, LineFault>
-    ensures { Gives (origin_of (map (λ word. word.now) words.now)) result }
-{
-    let [display, remote, user, host] = words else {
-        return Err(LineFault::NotBuilt);
+    let [id, who, signal] = words else {
+        return Err(Misread::Misfit);
     };
-    let display = text(alloc, display, MOST)?;
-    let remote = flag(remote)?;
-    let user = text(alloc, user, MOST)?;
-    let host = text(alloc, host, MOST)?;
-    Ok(Origin {
-        display,
-        remote,
-        user,
-        host,
-    })
+    let id = text(alloc, id, LONGEST_TEXT)?;
+    let who = text(alloc, who, LONGEST_TEXT)?;
+    let signal = signed(signal)?;
+    Ok(Call::Kill(id, who, signal))
 }
 
-fn read_place(alloc: Global, words: &[&[u8]]) -> Result<Place, LineFault>
-    ensures { Gives (place_of (map (λ word. word.now) words.now)) result }
+fn read_inhibition(alloc: Global, words: &[&[u8]]) -> Result<Inhibition, Misread>
+    ensures { Gives (inhibition_of (map (λ word. word.now) words.now)) result }
 {
-    let [seat, vt, tty, words @ ..] = words else {
-        return Err(LineFault::NotBuilt);
+    let [what, who, why, mode] = words else {
+        return Err(Misread::Misfit);
     };
-    let seat = text(alloc, seat, MOST)?;
-    let vt = number(vt)?;
-    let tty = text(alloc, tty, MOST)?;
-    let origin = read_origin(alloc, words)?;
-    Ok(Place {
-        seat,
-        vt,
-        tty,
-        origin,
+    let what = text(alloc, what, LONGEST_TEXT)?;
+    let who = text(alloc, who, LONGEST_TEXT)?;
+    let why = text(alloc, why, LONGEST_TEXT)?;
+    let mode = text(alloc, mode, LONGEST_TEXT)?;
+    Ok(Inhibition {
+        what,
+        who,
+        why,
+        mode,
     })
 }
 
-fn creation_from(owner: Owner, purpose: Purpose, place: Place) -> Creation
-    ensures { result ≡ creation_from owner purpose place }
+fn read_property(alloc: Global, words: &[&[u8]]) -> Result<PropertyName, Misread>
+    ensures { Gives (property_of (map (λ word. word.now) words.now)) result }
 {
-    let Owner {
-        uid,
-        process,
-        service,
-    } = owner;
-    let Purpose {
-        session_type,
-        class,
-        desktop,
-    } = purpose;
-    let Place {
-        seat,
-        vt,
-        tty,
-        origin,
-    } = place;
-    let Origin {
-        display,
-        remote,
-        user,
-        host,
-    } = origin;
-    Creation {
-        uid,
-        process,
-        service,
-        session_type,
-        class,
-        desktop,
-        seat,
-        vt,
-        tty,
-        display,
-        remote,
-        remote_user: user,
-        remote_host: host,
+    let [path, interface, name] = words else {
+        return Err(Misread::Misfit);
+    };
+    let path = text(alloc, path, LONGEST_TEXT)?;
+    let interface = text(alloc, interface, LONGEST_TEXT)?;
+    let name = text(alloc, name, LONGEST_TEXT)?;
+    Ok(PropertyName {
+        path,
+        interface,
+        name,
+    })
+}
+
+/// The call, where it has no argument.
+fn read_alone(call: Call, words: &[&[u8]]) -> Result<Call, Misread>
+    ensures { Gives (alone call (map (λ word. word.now) words.now)) result }
+{
+    if words.is_empty() {
+        Ok(call)
+    } else {
+        Err(Misread::Misfit)
     }
 }
 
-/// What a session is created with.
-fn read_creation(alloc: Global, words: &[&[u8]]) -> Result<Creation, LineFault>
-    ensures { Gives (creation_of (map (λ word. word.now) words.now)) result }
+/// A call of the bus itself, of a property, or a word for another message.
+#[tactic(auto, unfolding(crate::specs::CallReadings::other_call_of))]
+fn read_other_call(alloc: Global, word: &[u8], words: &[&[u8]]) -> Result<Call, Misread>
+    ensures { Gives (other_call_of word.now (map (λ word. word.now) words.now)) result }
 {
-    let [
-        uid,
-        process,
-        service,
-        session_type,
-        class,
-        desktop,
-        words @ ..,
-    ] = words
-    else {
-        return Err(LineFault::NotBuilt);
-    };
-    let owner = read_owner(alloc, uid, process, service)?;
-    let purpose = read_purpose(alloc, session_type, class, desktop)?;
-    let place = read_place(alloc, words)?;
-    Ok(creation_from(owner, purpose, place))
+    if is_word(word, b"get") {
+        Ok(Call::GetProperty(read_property(alloc, words)?))
+    } else if is_word(word, b"get-all") {
+        let (path, interface) = two_texts(alloc, words)?;
+        Ok(Call::GetAllProperties(path, interface))
+    } else if is_word(word, b"set") {
+        Ok(Call::SetProperty(read_property(alloc, words)?))
+    } else if is_word(word, b"ping") {
+        read_alone(Call::Ping, words)
+    } else if is_word(word, b"machine-id") {
+        read_alone(Call::GetMachineId, words)
+    } else if is_word(word, b"hello") {
+        read_alone(Call::Hello, words)
+    } else if is_word(word, b"owner") {
+        Ok(Call::GetNameOwner(one_text(alloc, words)?))
+    } else if is_word(word, b"add-match") {
+        Ok(Call::AddMatch(one_text(alloc, words)?))
+    } else if is_word(word, b"remove-match") {
+        Ok(Call::RemoveMatch(one_text(alloc, words)?))
+    } else if is_word(word, b"nothing") {
+        read_alone(Call::NoCall, words)
+    } else if is_word(word, b"no-object") {
+        read_alone(Call::NoObject, words)
+    } else if is_word(word, b"no-method") {
+        read_alone(Call::NoMethod, words)
+    } else if is_word(word, b"bad-args") {
+        read_alone(Call::BadArguments, words)
+    } else {
+        Err(Misread::Misfit)
+    }
 }
 
-fn read_create(alloc: Global, words: &[&[u8]]) -> Result<Call, LineFault>
-    ensures { Gives (create_of (map (λ word. word.now) words.now)) result }
+/// A call of a seat, a user or the machine, or one of the others.
+#[tactic(auto, unfolding(crate::specs::CallReadings::seat_call_of))]
+fn read_seat_call(alloc: Global, word: &[u8], words: &[&[u8]]) -> Result<Call, Misread>
+    ensures { Gives (seat_call_of word.now (map (λ word. word.now) words.now)) result }
 {
-    Ok(Call::Create(read_creation(alloc, words)?))
+    if is_word(word, b"switch") {
+        let (seat, vt) = text_number(alloc, words)?;
+        Ok(Call::SwitchTo(seat, vt))
+    } else if is_word(word, b"next") {
+        Ok(Call::SwitchToNext(one_text(alloc, words)?))
+    } else if is_word(word, b"prev") {
+        Ok(Call::SwitchToPrevious(one_text(alloc, words)?))
+    } else if is_word(word, b"terminate-seat") {
+        Ok(Call::TerminateSeat(one_text(alloc, words)?))
+    } else if is_word(word, b"terminate-user") {
+        Ok(Call::TerminateUser(Uid(one_number(words)?)))
+    } else if is_word(word, b"kill-user") {
+        let (uid, signal) = number_signed(words)?;
+        Ok(Call::KillUser(Uid(uid), signal))
+    } else if is_word(word, b"linger") {
+        let (uid, on) = number_flag(words)?;
+        Ok(Call::SetLinger(Uid(uid), on))
+    } else if is_word(word, b"read") {
+        Ok(Call::ReadInput(HandleNo(one_number(words)?)))
+    } else if is_word(word, b"set-mode") {
+        let (handle, mode) = two_numbers(words)?;
+        Ok(Call::SetMode(HandleNo(handle), mode))
+    } else if is_word(word, b"close") {
+        Ok(Call::Close(HandleNo(one_number(words)?)))
+    } else {
+        read_other_call(alloc, word, words)
+    }
 }
 
-fn read_control(alloc: Global, words: &[&[u8]]) -> Result<Call, LineFault>
-    ensures { Gives (control_of (map (λ word. word.now) words.now)) result }
+/// A call of a session, or one of the others.
+#[tactic(auto, unfolding(crate::specs::CallReadings::session_call_of))]
+fn read_session_call(alloc: Global, word: &[u8], words: &[&[u8]]) -> Result<Call, Misread>
+    ensures { Gives (session_call_of word.now (map (λ word. word.now) words.now)) result }
 {
-    let [id, force] = words else {
-        return Err(LineFault::NotBuilt);
-    };
-    let id = text(alloc, id, MOST)?;
-    Ok(Call::Control(id, flag(force)?))
+    if is_word(word, b"activate") {
+        Ok(Call::Activate(one_text(alloc, words)?))
+    } else if is_word(word, b"activate-on") {
+        let (id, seat) = two_texts(alloc, words)?;
+        Ok(Call::ActivateOnSeat(id, seat))
+    } else if is_word(word, b"lock") {
+        Ok(Call::Lock(one_text(alloc, words)?))
+    } else if is_word(word, b"unlock") {
+        Ok(Call::Unlock(one_text(alloc, words)?))
+    } else if is_word(word, b"kill") {
+        read_kill(alloc, words)
+    } else if is_word(word, b"terminate") {
+        Ok(Call::Terminate(one_text(alloc, words)?))
+    } else if is_word(word, b"idle") {
+        let (id, on) = text_flag(alloc, words)?;
+        Ok(Call::SetIdle(id, on))
+    } else if is_word(word, b"locked") {
+        let (id, on) = text_flag(alloc, words)?;
+        Ok(Call::SetLocked(id, on))
+    } else if is_word(word, b"control") {
+        let (id, force) = text_flag(alloc, words)?;
+        Ok(Call::Control(id, force))
+    } else if is_word(word, b"uncontrol") {
+        Ok(Call::Uncontrol(one_text(alloc, words)?))
+    } else if is_word(word, b"take") {
+        let (id, device) = text_device(alloc, words)?;
+        Ok(Call::TakeDevice(id, device))
+    } else if is_word(word, b"release") {
+        let (id, device) = text_device(alloc, words)?;
+        Ok(Call::ReleaseDevice(id, device))
+    } else if is_word(word, b"paused") {
+        let (id, device) = text_device(alloc, words)?;
+        Ok(Call::PauseComplete(id, device))
+    } else {
+        read_seat_call(alloc, word, words)
+    }
 }
 
-fn read_uncontrol(alloc: Global, words: &[&[u8]]) -> Result<Call, LineFault>
-    ensures { Gives (uncontrol_of (map (λ word. word.now) words.now)) result }
+/// A call of the manager, or one of the others.
+#[tactic(auto, unfolding(crate::specs::CallReadings::manager_call_of))]
+fn read_manager_call(alloc: Global, word: &[u8], words: &[&[u8]]) -> Result<Call, Misread>
+    ensures { Gives (manager_call_of word.now (map (λ word. word.now) words.now)) result }
 {
-    let [id] = words else {
-        return Err(LineFault::NotBuilt);
-    };
-    Ok(Call::Uncontrol(text(alloc, id, MOST)?))
+    if is_word(word, b"create") {
+        Ok(Call::Create(read_creation(alloc, words)?))
+    } else if is_word(word, b"get-session") {
+        Ok(Call::GetSession(one_text(alloc, words)?))
+    } else if is_word(word, b"get-user") {
+        Ok(Call::GetUser(Uid(one_number(words)?)))
+    } else if is_word(word, b"get-seat") {
+        Ok(Call::GetSeat(one_text(alloc, words)?))
+    } else if is_word(word, b"list-sessions") {
+        read_alone(Call::ListSessions, words)
+    } else if is_word(word, b"list-users") {
+        read_alone(Call::ListUsers, words)
+    } else if is_word(word, b"list-seats") {
+        read_alone(Call::ListSeats, words)
+    } else if is_word(word, b"list-inhibitors") {
+        read_alone(Call::ListInhibitors, words)
+    } else if is_word(word, b"lock-all") {
+        read_alone(Call::LockAll, words)
+    } else if is_word(word, b"unlock-all") {
+        read_alone(Call::UnlockAll, words)
+    } else if is_word(word, b"power") {
+        Ok(Call::Power(one_operation(words)?))
+    } else if is_word(word, b"can") {
+        Ok(Call::Can(one_operation(words)?))
+    } else if is_word(word, b"inhibit") {
+        Ok(Call::Inhibit(read_inhibition(alloc, words)?))
+    } else {
+        read_session_call(alloc, word, words)
+    }
 }
 
 /// A call with its arguments.
-pub(crate) fn read_call(alloc: Global, words: &[&[u8]]) -> Result<Call, LineFault>
+#[tactic(auto, unfolding(crate::specs::CallReadings::call_of))]
+pub(crate) fn read_call(alloc: Global, words: &[&[u8]]) -> Result<Call, Misread>
     ensures { Gives (call_of (map (λ word. word.now) words.now)) result }
 {
     let Some((word, words)) = words.split_first() else {
-        return Err(LineFault::NotBuilt);
+        return Err(Misread::Misfit);
     };
-    if is_word(word, b"create") {
-        read_create(alloc, words)
-    } else if is_word(word, b"control") {
-        read_control(alloc, words)
-    } else if is_word(word, b"uncontrol") {
-        read_uncontrol(alloc, words)
-    } else {
-        Err(LineFault::NotBuilt)
-    }
+    read_manager_call(alloc, word, words)
 }

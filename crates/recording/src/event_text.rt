@@ -1,67 +1,82 @@
 // How events are printed.
 
 ghost use Rattle.std.specs.Prelude.{◌≡◌, ◌++◌, ◌∷◌, OnOk};
-ghost use Rattle.recording.specs.Lines.{call_words, request_word, event_words};
-ghost use Rattle.recording.specs.CallWords.{purpose_words, place_words};
+ghost use Rattle.recording.specs.EventSpelling.{device_kind_word, key_word, request_word, hardware_words, event_words};
 ghost use Rattle.recording.specs.Spaced.{spaced};
 
+use crate::call_text::{push_call, push_device, push_numbered};
 use crate::line_text::LineText;
 use login_base::NoMemory;
-use login_model::{Call, Creation, Event};
-
-/// Adds whose a session is and what it is for.
-fn push_purpose(text: &mut LineText, x: &Creation) -> Result<(), NoMemory>
-    ensures { OnOk result (text.new ≡ text.old ++ spaced (purpose_words x.now)) }
-{
-    text.number(x.uid.0)?;
-    text.number(x.process)?;
-    text.text(x.service.as_slice())?;
-    text.text(x.session_type.as_slice())?;
-    text.text(x.class.as_slice())?;
-    text.text(x.desktop.as_slice())
-}
-
-/// Adds where a session is and where its user is.
-fn push_place(text: &mut LineText, x: &Creation) -> Result<(), NoMemory>
-    ensures { OnOk result (text.new ≡ text.old ++ spaced (place_words x.now)) }
-{
-    text.text(x.seat.as_slice())?;
-    text.number(x.vt)?;
-    text.text(x.tty.as_slice())?;
-    text.text(x.display.as_slice())?;
-    text.flag(x.remote)?;
-    text.text(x.remote_user.as_slice())?;
-    text.text(x.remote_host.as_slice())
-}
-
-fn push_call(text: &mut LineText, call: &Call) -> Result<(), NoMemory>
-    ensures { OnOk result (text.new ≡ text.old ++ spaced (call_words call.now)) }
-{
-    match call {
-        Call::Create(x) => {
-            text.push(b" create")?;
-            push_purpose(text, x)?;
-            push_place(text, x)
-        }
-        Call::Control(id, force) => {
-            text.push(b" control")?;
-            text.text(id.as_slice())?;
-            text.flag(*force)
-        }
-        Call::Uncontrol(id) => {
-            text.push(b" uncontrol")?;
-            text.text(id.as_slice())
-        }
-    }
-}
+use login_model::{DevKind, Event, HardKey, Hardware};
 
 fn push_request_word(text: &mut LineText, quiet: bool) -> Result<(), NoMemory>
     ensures { OnOk result (text.new ≡ text.old ++ 32 ∷ request_word quiet) }
 {
     if quiet {
-        text.push(b" send")
+        text.word(b"send")
     } else {
-        text.push(b" call")
+        text.word(b"call")
+    }
+}
+
+pub(crate) fn push_device_kind(text: &mut LineText, kind: DevKind) -> Result<(), NoMemory>
+    ensures { OnOk result (text.new ≡ text.old ++ 32 ∷ device_kind_word kind) }
+{
+    match kind {
+        DevKind::Evdev => text.word(b"evdev"),
+        DevKind::Drm => text.word(b"drm"),
+    }
+}
+
+fn push_key(text: &mut LineText, key: HardKey) -> Result<(), NoMemory>
+    ensures { OnOk result (text.new ≡ text.old ++ 32 ∷ key_word key) }
+{
+    match key {
+        HardKey::Power => text.word(b"power"),
+        HardKey::Suspend => text.word(b"suspend"),
+        HardKey::Hibernate => text.word(b"hibernate"),
+        HardKey::Lid => text.word(b"lid"),
+    }
+}
+
+fn push_hardware(text: &mut LineText, hardware: &Hardware) -> Result<(), NoMemory>
+    ensures { OnOk result (text.new ≡ text.old ++ spaced (hardware_words hardware.now)) }
+{
+    match hardware {
+        Hardware::Add(device, kind, seat) => {
+            text.word(b"add")?;
+            push_device(text, *device)?;
+            push_device_kind(text, *kind)?;
+            text.word(seat.as_slice())
+        }
+        Hardware::Remove(device) => {
+            text.word(b"remove")?;
+            push_device(text, *device)
+        }
+        Hardware::Input(device, input_type, code, value) => {
+            text.word(b"input")?;
+            push_device(text, *device)?;
+            text.number(u32::from(*input_type))?;
+            text.number(u32::from(*code))?;
+            text.signed(*value)
+        }
+        Hardware::VtKey(vt) => {
+            text.word(b"vtkey")?;
+            text.number(*vt)
+        }
+        Hardware::Key(key) => {
+            text.word(b"key")?;
+            push_key(text, *key)
+        }
+        Hardware::Dock(on) => {
+            text.word(b"dock")?;
+            text.flag(*on)
+        }
+        Hardware::Exit(id) => {
+            text.word(b"exit")?;
+            text.text(id.as_slice())
+        }
+        Hardware::JobDone => text.word(b"jobdone"),
     }
 }
 
@@ -71,15 +86,22 @@ pub(crate) fn push_event(text: &mut LineText, event: &Event) -> Result<(), NoMem
 {
     match event {
         Event::Connect(who, uid) => {
-            text.push(b" connect")?;
+            text.word(b"connect")?;
             text.number(who.0)?;
             text.number(uid.0)
         }
+        Event::Disconnect(who) => push_numbered(text, b"disconnect", who.0),
         Event::Call(request) => {
             push_request_word(text, request.quiet)?;
             text.number(request.who.0)?;
             text.number(request.serial)?;
             push_call(text, &request.call)
         }
+        Event::Hardware(hardware) => push_hardware(text, hardware),
+        Event::Tick(moment) => {
+            text.word(b"tick")?;
+            text.moment(moment.0)
+        }
+        Event::Stop => text.word(b"stop"),
     }
 }

@@ -1,17 +1,28 @@
 //! Recordings and transcripts: how their lines are read from a source, spelled, read and printed.
 #![tactic(auto)]
 
+mod arguments;
 mod call;
+mod call_text;
+mod cause;
+mod creation;
 mod entry;
 mod event;
 mod event_text;
+mod fact_text;
+mod key_text;
+mod law;
 mod line;
 mod line_reader;
 mod line_text;
 mod mark_text;
+mod meaning;
+mod notice_text;
+mod shape;
 mod verdict_text;
 mod word;
 
 pub use entry::{WriteEnd, entry_text, write_entry};
+pub use law::one_grammar;
 pub use line::{Line, LineFault, read_line};
 pub use line_reader::{LineReader, Next};

@@ -1,59 +1,107 @@
 // The lines of a recording.
 
-ghost use Rattle.std.specs.Prelude.{◌≡◌, ◌++◌, ◌∷◌, [], map, IfOk, ◌==◌};
-ghost use Rattle.std.specs.List.{slice_split};
+ghost use Rattle.std.specs.Prelude.{◌≡◌, ◌≢◌, ◌⊎◌, Ok, Err, ◌++◌, ◌∷◌, [], map, IfOk, ◌==◌, Some, None};
+ghost use Rattle.std.specs.List.{slice_split, join_with_byte};
 ghost use Rattle.recording.specs.Lines.{spell, IsLine};
+ghost use Rattle.recording.specs.Unbuilt.{IsUnbuilt};
+ghost use Rattle.recording.specs.Causes.{line_fault, words_fault};
+ghost use Rattle.recording.specs.Finding.{Finds};
+ghost use Rattle.recording.specs.Meaning.{built};
 ghost use Rattle.recording.specs.Words.{Gives};
-ghost use Rattle.recording.specs.Readings.{built_of, header_of, user_of, alone, line_of};
+ghost use Rattle.recording.specs.CallReadings.{alone};
+ghost use Rattle.recording.specs.Readings.{header_of, guid_line_of, user_of, conf_of, action_of, link_of, in_of, line_of};
 
-use crate::event::{is_built, read_event};
-use crate::word::{is_word, number, positive, text};
-use login_base::Uid;
+use crate::cause::words_fault;
+use crate::event::{read_connection, read_event};
+use crate::meaning::{is_built, meant};
+use crate::word::{Misread, guid, hex, is_word, number, positive, text};
+use login_base::{Bytes, ConnId, Uid, Word};
 use login_model::{Event, UserRow};
 use std::alloc::{AllocError, Global};
 
 /// The most bytes of a user's name.
 const MOST: usize = 255;
 
+/// The most bytes of a line without its line feed.
+const LONGEST: usize = 16384;
+
 /// A line of a recording.
 #[derive(Debug, Drop)]
 pub enum Line {
     /// The first line, with the version of the form.
     Header(u8),
+    /// The identity of the server: 32 hex digits.
+    Guid(Word),
     /// A user of the machine.
     User(UserRow),
+    /// A line of the configuration, as it is written.
+    Conf(Bytes),
+    /// A line of the table of actions: four words, as they are written.
+    Action(Bytes),
     /// The setup is whole; events follow.
     Go,
     Event(Event),
+    /// A link of this user opens.
+    Link(ConnId, Uid),
+    /// Bytes come in on a link.
+    In(ConnId, Bytes),
+    /// The input of a link ends.
+    Hangup(ConnId),
     End,
 }
 
-/// Why a line is not read.
+/// Why a line is not read. Where several hold, the first from the left of the line counts, behind its
+/// length and its line feed.
 #[derive(Clone, Copy, Debug, PartialEq, Eq)]
 pub enum LineFault {
-    /// The line is none of the built forms.
+    /// A word is none of a fixed set.
+    UnknownWord,
+    /// A word is no number within its type, or a 0 that may not be.
+    BadNumber,
+    /// A word is no text, or no bytes in hex.
+    BadHex,
+    /// The line ends where a word must stand.
+    MissingWord,
+    /// A word stands behind the last one.
+    ExtraWord,
+    /// There are more than 16384 bytes before the line feed.
+    TooLong,
+    /// A word is no name of a seat, or a name or an id that is too long.
+    BadName,
+    /// There is no line feed.
+    Ended,
+    /// The line is one of the grammar, but not of this stage.
     NotBuilt,
     NoMemory,
 }
 
-fn read_header(words: &[&[u8]]) -> Result<Line, LineFault>
+fn read_header(words: &[&[u8]]) -> Result<Line, Misread>
     ensures { Gives (header_of (map (λ word. word.now) words.now)) result }
 {
     let [version] = words else {
-        return Err(LineFault::NotBuilt);
+        return Err(Misread::Misfit);
     };
     if is_word(version, b"1") {
         Ok(Line::Header(1))
     } else {
-        Err(LineFault::NotBuilt)
+        Err(Misread::Misfit)
     }
 }
 
-fn read_user(alloc: Global, words: &[&[u8]]) -> Result<Line, LineFault>
+fn read_guid(alloc: Global, words: &[&[u8]]) -> Result<Line, Misread>
+    ensures { Gives (guid_line_of (map (λ word. word.now) words.now)) result }
+{
+    let [word] = words else {
+        return Err(Misread::Misfit);
+    };
+    Ok(Line::Guid(guid(alloc, word)?))
+}
+
+fn read_user(alloc: Global, words: &[&[u8]]) -> Result<Line, Misread>
     ensures { Gives (user_of (map (λ word. word.now) words.now)) result }
 {
     let [uid, gid, name] = words else {
-        return Err(LineFault::NotBuilt);
+        return Err(Misread::Misfit);
     };
     let uid = Uid(positive(uid)?);
     let gid = number(gid)?;
@@ -61,22 +109,114 @@ fn read_user(alloc: Global, words: &[&[u8]]) -> Result<Line, LineFault>
     Ok(Line::User(UserRow { uid, gid, name }))
 }
 
+/// The words with a space between any two.
+fn joined(alloc: Global, words: &[&[u8]]) -> Result<Bytes, Misread>
+    ensures { Gives (Some (join_with_byte 32 (map (λ word. word.now) words.now))) result }
+{
+    let mut bytes = Vec::new(alloc);
+    let mut is_first = true;
+    for word in words {
+        if !is_first && bytes.push(b' ').is_err() {
+            return Err(Misread::NoMemory);
+        }
+        if bytes.extend_from_slice(word).is_err() {
+            return Err(Misread::NoMemory);
+        }
+        is_first = false;
+    }
+    Ok(Bytes::from_vec(bytes))
+}
+
+/// A line of the configuration: all bytes behind its first space, if there is one.
+fn read_conf(alloc: Global, words: &[&[u8]]) -> Result<Line, Misread>
+    ensures { Gives (conf_of (map (λ word. word.now) words.now)) result }
+{
+    Ok(Line::Conf(joined(alloc, words)?))
+}
+
+fn read_action(alloc: Global, words: &[&[u8]]) -> Result<Line, Misread>
+    ensures { Gives (action_of (map (λ word. word.now) words.now)) result }
+{
+    if words.len() == 4 {
+        Ok(Line::Action(joined(alloc, words)?))
+    } else {
+        Err(Misread::Misfit)
+    }
+}
+
+fn read_link(words: &[&[u8]]) -> Result<Line, Misread>
+    ensures { Gives (link_of (map (λ word. word.now) words.now)) result }
+{
+    let [who, uid] = words else {
+        return Err(Misread::Misfit);
+    };
+    let who = positive(who)?;
+    let uid = number(uid)?;
+    Ok(Line::Link(ConnId(who), Uid(uid)))
+}
+
+fn read_in(alloc: Global, words: &[&[u8]]) -> Result<Line, Misread>
+    ensures { Gives (in_of (map (λ word. word.now) words.now)) result }
+{
+    let [who, bytes] = words else {
+        return Err(Misread::Misfit);
+    };
+    let who = positive(who)?;
+    let bytes = hex(alloc, bytes)?;
+    Ok(Line::In(ConnId(who), bytes))
+}
+
 /// The line, where no word follows its first.
-fn read_alone(line: Line, words: &[&[u8]]) -> Result<Line, LineFault>
+fn read_alone(line: Line, words: &[&[u8]]) -> Result<Line, Misread>
     ensures { Gives (alone line (map (λ word. word.now) words.now)) result }
 {
     if words.is_empty() {
         Ok(line)
     } else {
-        Err(LineFault::NotBuilt)
+        Err(Misread::Misfit)
     }
 }
 
-/// The line of a built event.
-fn read_built(alloc: Global, words: &[&[u8]]) -> Result<Line, LineFault>
-    ensures { Gives (built_of (map (λ word. word.now) words.now)) result }
+/// A line, as it is written.
+fn read_words(alloc: Global, all: &[&[u8]]) -> Result<Line, Misread>
+    ensures { Gives (line_of (map (λ word. word.now) all.now)) result }
 {
-    let event = read_event(alloc, words)?;
+    let Some((word, words)) = all.split_first() else {
+        return Err(Misread::Misfit);
+    };
+    if is_word(word, b"login-recording") {
+        read_header(words)
+    } else if is_word(word, b"guid") {
+        read_guid(alloc, words)
+    } else if is_word(word, b"user") {
+        read_user(alloc, words)
+    } else if is_word(word, b"conf") {
+        read_conf(alloc, words)
+    } else if is_word(word, b"action") {
+        read_action(alloc, words)
+    } else if is_word(word, b"go") {
+        read_alone(Line::Go, words)
+    } else if is_word(word, b"link") {
+        read_link(words)
+    } else if is_word(word, b"in") {
+        read_in(alloc, words)
+    } else if is_word(word, b"hangup") {
+        Ok(Line::Hangup(read_connection(words)?))
+    } else if is_word(word, b"end") {
+        read_alone(Line::End, words)
+    } else {
+        Ok(Line::Event(read_event(alloc, all)?))
+    }
+}
+
+/// The line of an event of this stage.
+fn built_event(event: Event) -> Result<Line, LineFault>
+    ensures { result ≡ built (Line.Event event) }
+{
+    if !is_built(&event) {
+        return Err(LineFault::NotBuilt);
+    }
+    let event = meant(event);
     if is_built(&event) {
         Ok(Line::Event(event))
     } else {
@@ -84,22 +224,17 @@ fn read_built(alloc: Global, words: &[&[u8]]) -> Result<Line, LineFault>
     }
 }
 
-fn read_words(alloc: Global, words: &[&[u8]]) -> Result<Line, LineFault>
-    ensures { Gives (line_of (map (λ word. word.now) words.now)) result }
+/// What a written line means, if it is of this stage.
+fn built(line: Line) -> Result<Line, LineFault>
+    ensures { result ≡ built line }
 {
-    let Some((word, rest)) = words.split_first() else {
-        return Err(LineFault::NotBuilt);
-    };
-    if is_word(word, b"login-recording") {
-        read_header(rest)
-    } else if is_word(word, b"user") {
-        read_user(alloc, rest)
-    } else if is_word(word, b"go") {
-        read_alone(Line::Go, rest)
-    } else if is_word(word, b"end") {
-        read_alone(Line::End, rest)
-    } else {
-        read_built(alloc, words)
+    match line {
+        Line::Header(version) => Ok(Line::Header(version)),
+        Line::User(user) => Ok(Line::User(user)),
+        Line::Go => Ok(Line::Go),
+        Line::End => Ok(Line::End),
+        Line::Event(event) => built_event(event),
+        _ => Err(LineFault::NotBuilt),
     }
 }
 
@@ -110,82 +245,45 @@ fn words(alloc: Global, text: &[u8]) -> Result<Vec<&[u8]>, AllocError>
     text.split(|b| *b == 32).collect(alloc)
 }
 
-/// Reads a line, with its line feed.
+/// Why a line of these words is refused, which is not read.
+fn refusal(alloc: Global, words: &[&[u8]]) -> LineFault
+    requires { line_of (map (λ word. word.now) words.now) ≡ None }
+    ensures { Finds (words_fault (map (λ word. word.now) words.now)) (Some result) }
+{
+    match words_fault(alloc, words) {
+        Some(fault) => fault,
+        None => LineFault::UnknownWord,
+    }
+}
+
+/// Reads a line, with its line feed if it has one: the bytes through the first line feed, or all that
+/// there are, if there is none.
 pub fn read_line(alloc: Global, bytes: &[u8]) -> Result<Line, LineFault>
     ensures found { IfOk result (λ line. (bytes.now ≡ spell line) × IsLine line) }
-    ensures not_built { result ≡ Err LineFault.NotBuilt → (line : Line) → IsLine line → bytes.now ≡ spell line → ⊥ }
+    ensures read { (line : Line) → IsLine line → bytes.now ≡ spell line → (result ≡ Ok line) ⊎ (result ≡ Err LineFault.NoMemory) }
+    ensures not_built { result ≡ Err LineFault.NotBuilt → IsUnbuilt bytes.now }
+    ensures unbuilt { IsUnbuilt bytes.now → (result ≡ Err LineFault.NotBuilt) ⊎ (result ≡ Err LineFault.NoMemory) }
+    ensures cause { (fault : LineFault) → result ≡ Err fault → fault ≢ LineFault.NoMemory → fault ≢ LineFault.NotBuilt → line_fault bytes.now ≡ Some fault }
 {
     let Some((last, text)) = bytes.split_last() else {
-        return Err(LineFault::NotBuilt);
+        return Err(LineFault::Ended);
     };
-    if *last != b'\n' {
-        return Err(LineFault::NotBuilt);
+    let is_whole = *last == b'\n';
+    if text.len() > LONGEST || (!is_whole && bytes.len() > LONGEST) {
+        return Err(LineFault::TooLong);
+    }
+    if !is_whole {
+        return Err(LineFault::Ended);
     }
     let Ok(words) = words(alloc, text) else {
         return Err(LineFault::NoMemory);
     };
-    read_words(alloc, &words)
+    match read_words(alloc, &words) {
+        Ok(line) => built(line),
+        Err(Misread::Misfit) => Err(refusal(alloc, &words)),
+        Err(Misread::NoMemory) => Err(LineFault::NoMemory),
+    }
 }
 
 #[cfg(test)]
-mod tests {
-    use super::*;
-    use login_model::Call;
-    use std::test::Fail;
-
-    /// Whether the text and a line feed is a line.
-    fn is_read(alloc: Global, text: &str) -> Result<bool, Fail> {
-        let line = format!(in alloc; "{text}\n")?;
-        Ok(read_line(alloc, line.as_bytes()).is_ok())
-    }
-
-    #[test]
-    fn reads_each_kind_of_line(rt: HostRuntime) -> Result<(), Fail> {
-        let lines =
-            "login-recording 1/user 1000 1000 alice/user 4294967295 0 %/user 7 7 %25%20%7f%c3%a9/go/connect 3 0/call 3 1 create 1000 1 login tty user % seat0 1 tty1 % false % %/call 1 1 control c1 false/call 1 2 uncontrol c1/end";
-        for line in lines.split('/') {
-            assert!(rt; is_read(rt.alloc(), line)?, "{line}");
-        }
-        Ok(())
-    }
-
-    #[test]
-    fn refuses_what_is_no_line(rt: HostRuntime) -> Result<(), Fail> {
-        let lines =
-            "/go / go/go x/frob/call 1 1 frob/login-recording 01/login-recording 2/user 0 0 x/user 1000 1000/user 1 1 a b/user 01000 1000 a/user +1 1 a/user 4294967296 0 a/user 1 1 /user 1 1 %41/user 1 1 %2F/user 1 1 %C3%A9/user 1 1 %c3/user 1 1 %ff/user 1 1 %00/user 1 1 é/connect  1 1000/connect 0 1000/connect 1/call 1 0 uncontrol c1/call 1 1 control c1 true/send 1 1 uncontrol c1/call 3 1 create 1000 1 login x11 user % seat0 1 tty1 % false % %/call 3 1 create 1000 1 login tty user % seat0 64 tty1 % false % %/call 3 1 create 1000 1 login tty user % seat0 1 tty1 % false % % %";
-        for line in lines.split('/') {
-            assert!(rt; !is_read(rt.alloc(), line)?, "{line}");
-        }
-        assert!(rt; read_line(rt.alloc(), b"go").is_err());
-        Ok(())
-    }
-
-    #[test]
-    fn reads_the_values_of_a_call(rt: HostRuntime) -> Result<(), Fail> {
-        let Line::Event(Event::Call(request)) = read_line(
-            rt.alloc(),
-            b"call 3 9 control c%20 false\n",
-        )?
-        else {
-            return Err(Fail::new("no call"));
-        };
-        assert_eq!(rt;
-            (request.who.0, request.serial, request.quiet),
-            (3, 9, false)
-        );
-        assert!(rt;
-            matches!(&request.call, Call::Control(id, false) if id.as_slice() == b"c ".as_slice())
-        );
-        Ok(())
-    }
-
-    #[test]
-    fn a_text_has_at_most_512_bytes(rt: HostRuntime) -> Result<(), Fail> {
-        for (count, expected) in [(512, true), (513, false)] {
-            let id = String::from_utf8(vec![in rt.alloc(); b'x'; count]?)?;
-            let line = format!(in rt.alloc(); "call 1 1 uncontrol {id}")?;
-            assert_eq!(rt; is_read(rt.alloc(), &line)?, expected);
-        }
-        Ok(())
-    }
-}
+mod tests;

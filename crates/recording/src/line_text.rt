@@ -1,7 +1,7 @@
 // The text of lines while it is printed.
 
 ghost use Rattle.std.specs.Prelude.{◌≡◌, ◌<◌, ◌++◌, ◌∷◌, [], OnOk};
-ghost use Rattle.std.specs.Fmt.{decimal};
+ghost use Rattle.std.specs.Fmt.{decimal, signed_decimal};
 ghost use Rattle.std.specs.List.{flat_map};
 ghost use Rattle.login_base.specs.SessionId.{session_text};
 ghost use Rattle.recording.specs.Text.{hex_digit, spell_byte, spell_text, spell_flag};
@@ -48,6 +48,11 @@ impl LineText {
         }
     }
 
+    /// The allocator of the text.
+    pub(crate) fn alloc(&self) -> Global {
+        self.alloc
+    }
+
     pub(crate) fn into_word(self) -> Word
         ensures { result ≡ self }
     {
@@ -61,6 +66,14 @@ impl LineText {
     {
         self.bytes.extend_from_slice(bytes)?;
         Ok(())
+    }
+
+    /// Adds a space and a word as it is.
+    pub(crate) fn word(&mut self, word: &[u8]) -> Result<(), NoMemory>
+        ensures { OnOk result (self.new ≡ self.old ++ 32 ∷ word.now) }
+    {
+        self.push(b" ")?;
+        self.push(word)
     }
 
     /// Adds a number in decimal.
@@ -77,6 +90,24 @@ impl LineText {
     {
         self.push(b" ")?;
         self.digits(n)
+    }
+
+    /// Adds a space and a number of 64 bits in decimal.
+    pub(crate) fn moment(&mut self, n: u64) -> Result<(), NoMemory>
+        ensures { OnOk result (self.new ≡ self.old ++ 32 ∷ decimal n) }
+    {
+        self.push(b" ")?;
+        let text = format!(in self.alloc; "{n}")?;
+        self.push(text.as_bytes())
+    }
+
+    /// Adds a space and a signed number in decimal.
+    pub(crate) fn signed(&mut self, n: i32) -> Result<(), NoMemory>
+        ensures { OnOk result (self.new ≡ self.old ++ 32 ∷ signed_decimal n) }
+    {
+        self.push(b" ")?;
+        let text = format!(in self.alloc; "{n}")?;
+        self.push(text.as_bytes())
     }
 
     /// Adds a space and a session's id.

@@ -1,17 +1,30 @@
 // How single words of a line are read.
 
 ghost use Rattle.std.specs.Prelude.{◌≡◌, ◌<◌, ◌≤◌, ◌/◌, ◌%◌, ◌++◌, [], ℕ, List, None, Some, IfOk, IfErr, IfSome, IfNone, IsTrue, ◌↔◌};
-ghost use Rattle.std.specs.List.{flat_map};
+ghost use Rattle.std.specs.List.{flat_map, list_all};
 ghost use Rattle.std.specs.Str.{bytes_eq};
 ghost use Rattle.login_base.specs.Number.{number_of};
-ghost use Rattle.login_model.specs.Legal.{IsText};
+ghost use Rattle.login_model.specs.Texts.{IsText};
 ghost use Rattle.recording.specs.Text.{stands, spell_byte, spell_text, hex_digit};
 ghost use Rattle.recording.specs.Bytes.{AreBytes};
-ghost use Rattle.recording.specs.Words.{Gives, positive_of, flag_of, text_of};
+ghost use Rattle.login_base.specs.Plain.{IsPlain};
+ghost use Rattle.recording.specs.Hex.{is_hex_digit, is_guid};
+ghost use Rattle.recording.specs.Words.{Gives, positive_of, small_of, from_zero, negative, signed_of, moment_of, flag_of, text_of, hex_of, guid_of, seat_of, device_kind_of, key_of, operation_of};
 
-use crate::line::LineFault;
-use login_base::Word;
+use login_base::{Bytes, SeatName, Word};
+use login_model::{DevKind, HardKey, OpKind};
 use std::alloc::Global;
+
+/// The most bytes of a text that a line can hold.
+pub(crate) const LONGEST_TEXT: usize = 16384;
+
+/// Why words are not read.
+#[derive(Clone, Copy, Debug, PartialEq, Eq)]
+pub(crate) enum Misread {
+    /// They say no value of the form that is asked for.
+    Misfit,
+    NoMemory,
+}
 
 /// Whether a word is this one.
 pub(crate) fn is_word(word: &[u8], expected: &[u8]) -> bool
@@ -21,28 +34,28 @@ pub(crate) fn is_word(word: &[u8], expected: &[u8]) -> bool
 }
 
 /// A number below 2^32.
-pub(crate) fn number(word: &[u8]) -> Result<u32, LineFault>
+pub(crate) fn number(word: &[u8]) -> Result<u32, Misread>
     ensures { Gives (number_of word.now) result }
 {
     match login_base::read_number(word) {
         Some(n) => Ok(n),
-        None => Err(LineFault::NotBuilt),
+        None => Err(Misread::Misfit),
     }
 }
 
 /// A number above 0 and below 2^32.
-pub(crate) fn positive(word: &[u8]) -> Result<u32, LineFault>
+pub(crate) fn positive(word: &[u8]) -> Result<u32, Misread>
     ensures { Gives (positive_of word.now) result }
 {
     let n = number(word)?;
     if n == 0 {
-        return Err(LineFault::NotBuilt);
+        return Err(Misread::Misfit);
     }
     Ok(n)
 }
 
 /// `true` or `false`.
-pub(crate) fn flag(word: &[u8]) -> Result<bool, LineFault>
+pub(crate) fn flag(word: &[u8]) -> Result<bool, Misread>
     ensures { Gives (flag_of word.now) result }
 {
     if is_word(word, b"true") {
@@ -50,7 +63,176 @@ pub(crate) fn flag(word: &[u8]) -> Result<bool, LineFault>
     } else if is_word(word, b"false") {
         Ok(false)
     } else {
-        Err(LineFault::NotBuilt)
+        Err(Misread::Misfit)
+    }
+}
+
+/// Whether a word is a number without sign and leading zeros, or may be one.
+fn is_plain(word: &[u8]) -> bool
+    ensures { IsTrue result ↔ IsPlain word.now }
+{
+    !word.is_empty() && word[0] != b'+' && (word[0] != b'0' || word.len() == 1)
+}
+
+/// A number below 2^16.
+pub(crate) fn small(word: &[u8]) -> Result<u16, Misread>
+    ensures { Gives (small_of word.now) result }
+{
+    let n = number(word)?;
+    if n < 65536 {
+        Ok(n as u16)
+    } else {
+        Err(Misread::Misfit)
+    }
+}
+
+/// A number below 2^64.
+pub(crate) fn moment(word: &[u8]) -> Result<u64, Misread>
+    ensures { Gives (moment_of word.now) result }
+{
+    if !is_plain(word) {
+        return Err(Misread::Misfit);
+    }
+    match str::from_utf8(word) {
+        Ok(text) => match text.parse::<u64>() {
+            Ok(n) => Ok(n),
+            Err(_) => Err(Misread::Misfit),
+        },
+        Err(_) => Err(Misread::Misfit),
+    }
+}
+
+/// A number of 31 bits as a signed one.
+fn from_zero(n: u32) -> Result<i32, Misread>
+    ensures { Gives (from_zero n) result }
+{
+    if n < 2147483648 {
+        Ok(n as i32)
+    } else {
+        Err(Misread::Misfit)
+    }
+}
+
+/// The negative of a number from 1 to 2^31.
+fn negative(n: u32) -> Result<i32, Misread>
+    ensures { Gives (negative n) result }
+{
+    if 1 <= n && n <= 2147483648 {
+        Ok(-((n - 1) as i32) - 1)
+    } else {
+        Err(Misread::Misfit)
+    }
+}
+
+/// A signed number of 32 bits.
+pub(crate) fn signed(word: &[u8]) -> Result<i32, Misread>
+    ensures { Gives (signed_of word.now) result }
+{
+    let Some((first, digits)) = word.split_first() else {
+        return Err(Misread::Misfit);
+    };
+    if *first == b'-' {
+        negative(number(digits)?)
+    } else {
+        from_zero(number(word)?)
+    }
+}
+
+/// A kind of device.
+pub(crate) fn device_kind(word: &[u8]) -> Result<DevKind, Misread>
+    ensures { Gives (device_kind_of word.now) result }
+{
+    if is_word(word, b"evdev") {
+        Ok(DevKind::Evdev)
+    } else if is_word(word, b"drm") {
+        Ok(DevKind::Drm)
+    } else {
+        Err(Misread::Misfit)
+    }
+}
+
+/// A key of the machine.
+pub(crate) fn key(word: &[u8]) -> Result<HardKey, Misread>
+    ensures { Gives (key_of word.now) result }
+{
+    if is_word(word, b"power") {
+        Ok(HardKey::Power)
+    } else if is_word(word, b"suspend") {
+        Ok(HardKey::Suspend)
+    } else if is_word(word, b"hibernate") {
+        Ok(HardKey::Hibernate)
+    } else if is_word(word, b"lid") {
+        Ok(HardKey::Lid)
+    } else {
+        Err(Misread::Misfit)
+    }
+}
+
+/// An operation's kind.
+pub(crate) fn operation(word: &[u8]) -> Result<OpKind, Misread>
+    ensures { Gives (operation_of word.now) result }
+{
+    if is_word(word, b"poweroff") {
+        Ok(OpKind::PowerOff)
+    } else if is_word(word, b"reboot") {
+        Ok(OpKind::Reboot)
+    } else if is_word(word, b"halt") {
+        Ok(OpKind::Halt)
+    } else if is_word(word, b"suspend") {
+        Ok(OpKind::Suspend)
+    } else if is_word(word, b"hibernate") {
+        Ok(OpKind::Hibernate)
+    } else if is_word(word, b"hybrid-sleep") {
+        Ok(OpKind::HybridSleep)
+    } else if is_word(word, b"suspend-then-hibernate") {
+        Ok(OpKind::SuspendThenHibernate)
+    } else {
+        Err(Misread::Misfit)
+    }
+}
+
+/// A seat's name, which stands as it is.
+#[tactic(auto, unfolding(crate::specs::Words::seat_of))]
+pub(crate) fn seat(word: &[u8]) -> Result<SeatName, Misread>
+    ensures { Gives (seat_of word.now) result }
+{
+    match SeatName::read(word) {
+        Ok(seat) => Ok(seat),
+        Err(_) => Err(Misread::Misfit),
+    }
+}
+
+/// Whether a byte is a hex digit in lower case.
+fn is_hex_digit(byte: u8) -> bool
+    ensures { result ≡ is_hex_digit byte }
+{
+    matches!(byte, b'0'..=b'9' | b'a'..=b'f')
+}
+
+/// Whether each byte is a hex digit in lower case.
+fn are_hex_digits(word: &[u8]) -> bool
+    ensures { result ≡ list_all is_hex_digit word.now }
+{
+    word.iter().all(|byte| is_hex_digit(*byte))
+}
+
+/// Whether a word is the identity of a server: 32 hex digits in lower case.
+pub(crate) fn is_guid(word: &[u8]) -> bool
+    ensures { result ≡ is_guid word.now }
+{
+    word.len() == 32 && are_hex_digits(word)
+}
+
+/// The identity of a server.
+pub(crate) fn guid(alloc: Global, word: &[u8]) -> Result<Word, Misread>
+    ensures { Gives (guid_of word.now) result }
+{
+    if !is_guid(word) {
+        return Err(Misread::Misfit);
+    }
+    match Word::from_slice(alloc, word) {
+        Ok(guid) => Ok(guid),
+        Err(_) => Err(Misread::NoMemory),
     }
 }
 
@@ -81,6 +263,31 @@ fn escaped(high: u8, low: u8) -> Option<u8>
     Some(16 * digit_value(high)? + digit_value(low)?)
 }
 
+/// The bytes, one at least, that pairs of hex digits in lower case spell.
+pub(crate) fn hex(alloc: Global, word: &[u8]) -> Result<Bytes, Misread>
+    ensures { Gives (hex_of word.now) result }
+{
+    if word.is_empty() {
+        return Err(Misread::Misfit);
+    }
+    let mut bytes = Vec::new(alloc);
+    let mut rest = word;
+    while let [high, low, after @ ..] = rest {
+        let Some(byte) = escaped(*high, *low) else {
+            return Err(Misread::Misfit);
+        };
+        if bytes.push(byte).is_err() {
+            return Err(Misread::NoMemory);
+        }
+        rest = after;
+    }
+    if rest.is_empty() {
+        Ok(Bytes::from_vec(bytes))
+    } else {
+        Err(Misread::Misfit)
+    }
+}
+
 /// The first byte of a text whose spelling this is, and the spelling of the rest.
 fn first_byte(word: &[u8]) -> Option<(u8, &[u8])>
     ensures found { IfSome result (λ x. (x.0 < 256) × (word.now ≡ spell_byte x.0 ++ x.1.now)) }
@@ -97,18 +304,18 @@ fn first_byte(word: &[u8]) -> Option<(u8, &[u8])>
 }
 
 /// The text whose bytes are spelled so.
-fn unspelled(alloc: Global, word: &[u8]) -> Result<Vec<u8>, LineFault>
+fn unspelled(alloc: Global, word: &[u8]) -> Result<Vec<u8>, Misread>
     ensures found { IfOk result (λ text. AreBytes text.items × (word.now ≡ flat_map spell_byte text.items)) }
-    ensures none { result ≡ Err LineFault.NotBuilt → (text : List ℕ) → AreBytes text → word.now ≡ flat_map spell_byte text → ⊥ }
+    ensures none { result ≡ Err Misread.Misfit → (text : List ℕ) → AreBytes text → word.now ≡ flat_map spell_byte text → ⊥ }
 {
     let mut text = Vec::new(alloc);
     let mut rest = word;
     while !rest.is_empty() {
         let Some((byte, after)) = first_byte(rest) else {
-            return Err(LineFault::NotBuilt);
+            return Err(Misread::Misfit);
         };
         if text.push(byte).is_err() {
-            return Err(LineFault::NoMemory);
+            return Err(Misread::NoMemory);
         }
         rest = after;
     }
@@ -123,18 +330,18 @@ fn is_text(text: &[u8], most: usize) -> bool
 }
 
 /// The text of at most so many bytes that a word spells.
-pub(crate) fn text(alloc: Global, word: &[u8], most: usize) -> Result<Word, LineFault>
+pub(crate) fn text(alloc: Global, word: &[u8], most: usize) -> Result<Word, Misread>
     ensures { Gives (text_of most word.now) result }
 {
     if word.is_empty() {
-        return Err(LineFault::NotBuilt);
+        return Err(Misread::Misfit);
     }
     if is_word(word, b"%") {
         return Ok(Word::new(alloc));
     }
     let text = unspelled(alloc, word)?;
     if !is_text(&text, most) {
-        return Err(LineFault::NotBuilt);
+        return Err(Misread::Misfit);
     }
     Ok(Word::from_vec(text))
 }

@@ -1,5 +1,5 @@
 -- How a replay goes on and ends.
-use Rattle.std.proofs.Common.{◌≤◌, ◌≡◌, ℕ, ◌+◌, List, [], ◌∷◌, ◌++◌, length, refl, arith, ap, sym, ◌∙◌, subst, append_assoc, append-nil, length-append, Option, Some, None}
+use Rattle.std.proofs.Common.{◌<◌, ◌≤◌, ◌≡◌, ℕ, ◌+◌, List, [], ◌∷◌, ◌++◌, length, refl, arith, ap, sym, ◌∙◌, subst, append_assoc, append-nil, length-append, Option, Some, None}
 use Rattle.std.specs.Option.{option_map, IfSome}
 use Rattle.std.specs.List.{join_with_byte}
 use Rattle.std.proofs.lemmas.List.{length-map}
@@ -17,7 +17,12 @@ use Rattle.replay.specs.Recording.{most_lines, spelling}
 use Rattle.replay.specs.Front.{Front, fresh, preamble, going, ended, lines_at, lines_of, text_of, Takes, IsFront}
 use Rattle.recording.specs.Reading.{Reading, left_to}
 use Rattle.replay.specs.Ahead.{IsNoLine, Torn, Partly}
-use Rattle.replay.specs.Outcome.{RefusedAt, Broken, Fronted}
+use Rattle.replay.specs.Causes.{IsOwnCause, IsCause}
+use Rattle.replay.specs.Outcome.{RefusedAt, Broken, Fronted, IsPast, IsRefusal}
+use Rattle.replay.specs.declared.cause.Cause.{Cause}
+use Rattle.replay.specs.declared.cause.Cause.TheVariants.{UnknownWord, BadNumber, BadHex, MissingWord, ExtraWord, TooLong, WrongPlace, BadName, Ended, NotBuilt}
+use Rattle.recording.specs.Causes.{line_fault}
+use Rattle.recording.specs.declared.line.LineFault.TheVariants as fault
 use Rattle.recording.proofs.Spellings.{spell_injective, fields_no_feed}
 use Rattle.replay.proofs.UserRows.{no_users}
 use Rattle.replay.proofs.Recordings.{nothing_played}
@@ -50,16 +55,17 @@ under P h (Some x) p = p
 abbrev pub Reached : Option (List ℕ) → Front → Option (List ℕ) → Type 0
 Reached all f left = all ≡ option_map (λ rest. spelling (lines_of f) ++ rest) left
 
-pub ends_refused : (f : Front) (all left before after : Option (List ℕ)) (number : ℕ) → IsFront f → Reached all f left → number ≤ most_lines + 1 → IfSome left (Stops f)
-    → number ≡ length (lines_of f) + 1 → Gains before after (text_of f) → IfSome all (λ text. RefusedAt number text before after)
-ends_refused f all None before after number h a within stop c w = rw a tt
-ends_refused f all (Some rest) before after number h a within stop c w = rw a (record {
+pub ends_refused : (f : Front) (all left before after : Option (List ℕ)) (number : ℕ) (cause : Cause) → IsFront f → Reached all f left → number ≤ most_lines + 1 → IfSome left (Stops f)
+    → IfSome left (IsRefusal cause f) → number ≡ length (lines_of f) + 1 → Gains before after (text_of f) → IfSome all (λ text. RefusedAt number cause text before after)
+ends_refused f all None before after number cause h a within stop why c w = rw a tt
+ends_refused f all (Some rest) before after number cause h a within stop why c w = rw a (record {
   front = f;
   rest = rest;
   is_front = h;
   read = refl;
   count = c;
   refused = refused_next f rest h (omega (arith, c, within)) stop;
+  caused = why;
   wrote = w;
 })
 
@@ -119,9 +125,9 @@ stops_wrong f l left (Some r) fits e not_next = rw e (record {
 })
 
 -- a line that is none
-pub stops_none : (f : Front) (left : Option (List ℕ)) → IfSome left IsNoLine → IfSome left (Stops f)
-stops_none f None h = tt
-stops_none f (Some rest) h = record { none = λ m g t k. h.none m g k; early = λ s k. h.some k }
+pub stops_none : (f : Front) (left : Option (List ℕ)) (cause : Cause) → IfSome left (λ text. IsNoLine cause text) → IfSome left (Stops f)
+stops_none f None cause h = tt
+stops_none f (Some rest) cause h = record { none = λ m g t k. h.none m g k; early = λ s k. h.some k }
 
 -- the end of the text, before the end of the recording
 pub stops_early : (f : Front) (left now : Option (List ℕ)) → IfSome left (λ text. (text ≡ []) × (now ≡ Some [])) → (f.stage ≡ ended → ⊥) → IfSome left (Stops f)
@@ -131,17 +137,81 @@ stops_early f (Some rest) now h not_ended = record {
   early = λ s k. not_ended s;
 }
 
+-- why a line is refused that may not come next
+pub cause_wrong : (f : Front) (l : Line) (left after : Option (List ℕ)) → length (lines_of f) < most_lines → IsLine l → left ≡ option_map (λ rest. spell l ++ rest) after → (Takes f l → ⊥)
+    → IfSome left (IsRefusal WrongPlace f)
+cause_wrong f l left None within fits e not_next = rw e tt
+cause_wrong f l left (Some r) within fits e not_next = rw e (record {
+  own = λ k. record {
+    line = l;
+    is_line = fits;
+    spelled = first_through_feed (join_with_byte 32 (fields l)) r (fields_no_feed l fits);
+    misplaced = not_next;
+  };
+  past = λ k. omega (arith, k, within);
+})
+
+own_is_cause : (cause : Cause) (f : Front) (rest : List ℕ) → IsOwnCause cause rest → IsCause cause f rest
+own_is_cause UnknownWord f rest h = h
+own_is_cause BadNumber f rest h = h
+own_is_cause BadHex f rest h = h
+own_is_cause MissingWord f rest h = h
+own_is_cause ExtraWord f rest h = h
+own_is_cause TooLong f rest h = h
+own_is_cause WrongPlace f rest h = absurd h
+own_is_cause BadName f rest h = h
+own_is_cause Ended f rest h = h
+own_is_cause NotBuilt f rest h = h
+
+-- why a line is refused that is none
+pub cause_none : (f : Front) (left : Option (List ℕ)) (cause : Cause) → length (lines_of f) < most_lines → IfSome left (λ text. IsNoLine cause text) → IfSome left (IsRefusal cause f)
+cause_none f None cause within h = tt
+cause_none f (Some rest) cause within h = record { own = λ k. own_is_cause cause f rest h.own; past = λ k. absurd (omega (arith, k, within)) }
+
+ended_fault : line_fault [] ≡ Some fault.Ended
+unfolding line_fault
+ended_fault = refl
+
+-- why the end of the text is refused
+pub cause_early : (f : Front) (left now : Option (List ℕ)) → IfSome left (λ text. (text ≡ []) × (now ≡ Some [])) → IfSome left (IsRefusal Ended f)
+cause_early f None now h = tt
+cause_early f (Some rest) now h = record { own = λ k. rw h.0 ended_fault; past = λ k. h.0 }
+
+-- a line behind as many as there may be
+pub cause_past : (f : Front) (left : Option (List ℕ)) → length (lines_of f) ≡ most_lines → IfSome left (λ text. text ≡ [] → ⊥) → IfSome left (IsRefusal TooLong f)
+cause_past f None full h = tt
+cause_past f (Some rest) full h = record { own = λ k. absurd (omega (arith, k, full)); past = λ k. h }
+
+-- the cause of a line behind so many
+pub cause_by : (f : Front) (left : Option (List ℕ)) (number : ℕ) (own cause : Cause) → number ≡ length (lines_of f) → number ≤ most_lines → (number < most_lines → cause ≡ own) → (number ≡ most_lines → cause ≡ TooLong)
+    → (number < most_lines → IfSome left (IsRefusal own f)) → IfSome left (λ text. text ≡ [] → ⊥) → IfSome left (IsRefusal cause f)
+cause_by f None number own cause count most below past why some = tt
+cause_by f (Some rest) number own cause count most below past why some = record {
+  own = λ k. let b : number < most_lines = omega (arith, k, count) in subst (λ (c : Cause). IsCause c f rest) (sym (below b)) ((why b).own k);
+  past = λ k. subst (λ (c : Cause). IsPast c rest) (sym (past (omega (arith, k, count)))) some;
+}
+
+-- what is left is not nothing
+pub some_line : (l : Line) (left after : Option (List ℕ)) → left ≡ option_map (λ rest. spell l ++ rest) after → IfSome left (λ text. text ≡ [] → ⊥)
+some_line l left None e = rw e tt
+some_line l left (Some r) e = rw e (spell_some l r)
+
+pub some_none : (left : Option (List ℕ)) (cause : Cause) → IfSome left (λ text. IsNoLine cause text) → IfSome left (λ text. text ≡ [] → ⊥)
+some_none None cause h = tt
+some_none (Some rest) cause h = h.some
+
 -- as many lines as there may be were read, and no end
-pub ends_full : (f : Front) (all left before after : Option (List ℕ)) → IsFront f → Reached all f left → length (lines_of f) ≡ most_lines → (f.stage ≡ ended → ⊥)
-    → Gains before after (text_of f) → IfSome all (λ text. RefusedAt (most_lines + 1) text before after)
-ends_full f all None before after h a full not_ended w = rw a tt
-ends_full f all (Some rest) before after h a full not_ended w = rw a (record {
+pub ends_full : (f : Front) (all left before after : Option (List ℕ)) (cause : Cause) → IsFront f → Reached all f left → length (lines_of f) ≡ most_lines → (f.stage ≡ ended → ⊥)
+    → IfSome left (IsRefusal cause f) → Gains before after (text_of f) → IfSome all (λ text. RefusedAt (most_lines + 1) cause text before after)
+ends_full f all None before after cause h a full not_ended why w = rw a tt
+ends_full f all (Some rest) before after cause h a full not_ended why w = rw a (record {
   front = f;
   rest = rest;
   is_front = h;
   read = refl;
   count = omega (arith, full);
   refused = refused_full f rest h full (λ e. stops_early f (Some rest) (Some []) (e, refl) not_ended);
+  caused = why;
   wrote = w;
 })
 

@@ -1,5 +1,5 @@
 -- How a replay goes on behind `go`.
-use Rattle.std.proofs.Common.{◌≡◌, ◌≤◌, ℕ, ◌+◌, List, [], ◌∷◌, ◌++◌, length, refl, arith, ap, sym, ◌∙◌, subst, append_assoc, append-nil, length-append, Option}
+use Rattle.std.proofs.Common.{◌≡◌, ◌<◌, ◌≤◌, ℕ, ◌+◌, List, [], ◌∷◌, ◌++◌, length, refl, arith, ap, sym, ◌∙◌, subst, append_assoc, append-nil, length-append, Option}
 use Rattle.std.specs.Option.{option_map, IfSome}
 use Rattle.std.proofs.lemmas.List.{map-append}
 use Rattle.login_edge.specs.Texts.{Gains, GainsFront}
@@ -16,10 +16,12 @@ use Rattle.replay.specs.Users.{AreUsers}
 use Rattle.replay.specs.Recording.{most_lines, setup_of, spelling, IsPlay}
 use Rattle.replay.specs.Front.{going, ended, lines_at, text_at, Takes, IsFront}
 use Rattle.replay.specs.Ahead.{Torn, Partly}
-use Rattle.replay.specs.Outcome.{RefusedAt, Broken, Fronted}
+use Rattle.replay.specs.Outcome.{RefusedAt, Broken, Fronted, IsRefusal}
+use Rattle.replay.specs.declared.cause.Cause.{Cause}
+use Rattle.replay.specs.declared.cause.Cause.TheVariants.{WrongPlace}
 use Rattle.replay.proofs.UserRows.{all_push}
 use Rattle.replay.proofs.Recordings.{nothing_played}
-use Rattle.replay.proofs.Ends.{reads_more, ends_refused, ends_broken, ends_front, ends_full, stops_wrong, going_front}
+use Rattle.replay.proofs.Ends.{reads_more, ends_refused, ends_broken, ends_front, ends_full, stops_wrong, cause_wrong, going_front}
 use Rattle.replay.proofs.Refusals.{Stops}
 
 abbrev Told : Type 0
@@ -99,11 +101,11 @@ count_end us es n c = omega (arith, c, ap length (lines_ended us es), length-app
 abbrev pub behind_lines : List Line → Told → Told
 behind_lines ls left = option_map (λ text. spelling ls ++ text) left
 
-pub events_refused : (us : List UserRow) (es : List Entry) (before left start held now : Told) (number : ℕ) → IsPlay us es → Going us es before left → number ≡ length (lines_at going us es) → number ≤ most_lines
-    → IfSome left (Stops (going_front us es)) → Gains start held (text_at going []) → Gains held now (blocks 1 es)
-    → IfSome (behind_lines (lines_at going us []) before) (λ text. RefusedAt (number + 1) text start now)
-events_refused us es before left start held now number p r c within stop w b =
-    ends_refused (going_front us es) _ left start now (number + 1) (going_is_front us es p) r (omega (arith, within)) stop (ap (λ (n : ℕ). n + 1) c) (wrote_so_far es start held now w b)
+pub events_refused : (us : List UserRow) (es : List Entry) (before left start held now : Told) (number : ℕ) (cause : Cause) → IsPlay us es → Going us es before left → number ≡ length (lines_at going us es) → number ≤ most_lines
+    → IfSome left (Stops (going_front us es)) → IfSome left (IsRefusal cause (going_front us es)) → Gains start held (text_at going []) → Gains held now (blocks 1 es)
+    → IfSome (behind_lines (lines_at going us []) before) (λ text. RefusedAt (number + 1) cause text start now)
+events_refused us es before left start held now number cause p r c within stop why w b =
+    ends_refused (going_front us es) _ left start now (number + 1) cause (going_is_front us es p) r (omega (arith, within)) stop why (ap (λ (n : ℕ). n + 1) c) (wrote_so_far es start held now w b)
 
 pub events_broken : (us : List UserRow) (es : List Entry) (before left after start held now : Told) → IsPlay us es → Going us es before left
     → IfSome left (λ text. Torn text after) → Gains start held (text_at going []) → Gains held now (blocks 1 es)
@@ -111,10 +113,10 @@ pub events_broken : (us : List UserRow) (es : List Entry) (before left after sta
 events_broken us es before left after start held now p r torn w b =
     ends_broken (going_front us es) _ left after start now (going_is_front us es p) r torn (wrote_so_far es start held now w b)
 
-pub events_full : (us : List UserRow) (es : List Entry) (before left start held now : Told) → IsPlay us es → Going us es before left → most_lines ≡ length (lines_at going us es)
-    → Gains start held (text_at going []) → Gains held now (blocks 1 es) → IfSome (behind_lines (lines_at going us []) before) (λ text. RefusedAt (most_lines + 1) text start now)
-events_full us es before left start held now p r full w b =
-    ends_full (going_front us es) _ left start now (going_is_front us es p) r (sym full) (λ e. cc) (wrote_so_far es start held now w b)
+pub events_full : (us : List UserRow) (es : List Entry) (before left start held now : Told) (cause : Cause) → IsPlay us es → Going us es before left → most_lines ≡ length (lines_at going us es)
+    → IfSome left (IsRefusal cause (going_front us es)) → Gains start held (text_at going []) → Gains held now (blocks 1 es) → IfSome (behind_lines (lines_at going us []) before) (λ text. RefusedAt (most_lines + 1) cause text start now)
+events_full us es before left start held now cause p r full why w b =
+    ends_full (going_front us es) _ left start now cause (going_is_front us es p) r (sym full) (λ e. cc) why (wrote_so_far es start held now w b)
 
 pub events_front : (us : List UserRow) (es : List Entry) (before left after start held now : Told) → IsPlay us es → Going us es before left → IfSome left (λ text. Partly text after)
     → Gains start held (text_at going []) → GainsFront held now (blocks 1 es) → IfSome (behind_lines (lines_at going us []) before) (λ text. Fronted text after start now)
@@ -126,6 +128,12 @@ pub event_wrong : (us : List UserRow) (es : List Entry) (l : Line) (e : AnEvent)
     → (IsPlaced es e → ⊥) → IfSome left (Stops (going_front us es))
 event_wrong us es l e left after f r is unplaced =
     stops_wrong (going_front us es) l left after f r (λ t. unplaced (subst (λ (x : Line). Takes (going_front us es) x) is t))
+
+-- why it is refused
+pub event_cause : (us : List UserRow) (es : List Entry) (l : Line) (e : AnEvent) (left after : Told) → length (lines_at going us es) < most_lines → IsLine l → left ≡ option_map (λ rest. spell l ++ rest) after → l ≡ Event e
+    → (IsPlaced es e → ⊥) → IfSome left (IsRefusal WrongPlace (going_front us es))
+event_cause us es l e left after within f r is unplaced =
+    cause_wrong (going_front us es) l left after within f r (λ t. unplaced (subst (λ (x : Line). Takes (going_front us es) x) is t))
 
 -- the line of an event
 pub event_of_line : (l : Line) (e : AnEvent) → IsLine l → l ≡ Event e → IsEventLine e

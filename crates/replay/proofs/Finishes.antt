@@ -11,7 +11,8 @@ use Rattle.recording.specs.Print.{transcript_head, transcript_end, blocks}
 use Rattle.replay.specs.Recording.{most_lines, recording, spelling, IsPlay}
 use Rattle.replay.specs.Front.{Front, going, ended, lines_at, text_at, IsFront}
 use Rattle.replay.specs.Ahead.{Torn, Partly}
-use Rattle.replay.specs.Outcome.{Replayed, RefusedAt, Broken, Fronted}
+use Rattle.replay.specs.Outcome.{Replayed, RefusedAt, Broken, Fronted, IsRefusal}
+use Rattle.replay.specs.declared.cause.Cause.{Cause}
 use Rattle.replay.proofs.Refusals.{Stops}
 use Rattle.replay.proofs.Ends.{ends_refused, ends_broken, ends_front, stops_wrong}
 
@@ -54,11 +55,11 @@ pub finish_whole : (us : List UserRow) (es : List Entry) (left now start held af
 finish_whole us es left now start held after p part w e =
     ends_front (ended_front us es) _ left now start after (ended_is_front us es p) refl part (Gains-whole start after (text_at ended es) (wrote_all es start held after w e))
 
-pub finish_refused : (us : List UserRow) (es : List Entry) (left start held after : Told) (number : ℕ) → IsPlay us es → number ≡ length (lines_at ended us es) → number ≤ most_lines
-    → Gains start held (text_at going es) → Gains held after (transcript_end (length es)) → IfSome left (Stops (ended_front us es))
-    → IfSome (behind_lines (lines_at ended us es) left) (λ text. RefusedAt (number + 1) text start after)
-finish_refused us es left start held after number p c within w e stop =
-    ends_refused (ended_front us es) _ left start after (number + 1) (ended_is_front us es p) refl (omega (arith, within)) stop (ap (λ (n : ℕ). n + 1) c) (wrote_all es start held after w e)
+pub finish_refused : (us : List UserRow) (es : List Entry) (left start held after : Told) (number : ℕ) (cause : Cause) → IsPlay us es → number ≡ length (lines_at ended us es) → number ≤ most_lines
+    → Gains start held (text_at going es) → Gains held after (transcript_end (length es)) → IfSome left (Stops (ended_front us es)) → IfSome left (IsRefusal cause (ended_front us es))
+    → IfSome (behind_lines (lines_at ended us es) left) (λ text. RefusedAt (number + 1) cause text start after)
+finish_refused us es left start held after number cause p c within w e stop why =
+    ends_refused (ended_front us es) _ left start after (number + 1) cause (ended_is_front us es p) refl (omega (arith, within)) stop why (ap (λ (n : ℕ). n + 1) c) (wrote_all es start held after w e)
 
 pub finish_broken : (us : List UserRow) (es : List Entry) (left now start held after : Told) → IsPlay us es
     → Gains start held (text_at going es) → Gains held after (transcript_end (length es)) → IfSome left (λ text. Torn text now)

@@ -8,6 +8,7 @@ use Rattle.replay.specs.Recording.{spelling, recording}
 use Rattle.replay.specs.Front.{lines_of}
 use Rattle.replay.specs.Refused.{Begins, OneRefusal}
 use Rattle.replay.specs.Outcome.{RefusedAt, IsRecordingText}
+use Rattle.replay.specs.declared.cause.Cause.{Cause}
 use Rattle.replay.proofs.Recordings.{AreLines, recording_lines}
 use Rattle.replay.proofs.Refusals.{cut_spelling}
 
@@ -39,6 +40,6 @@ recording_begins text n r =
     }
 
 -- so a text with a refused line is none
-pub never_refused : (all before after : Option (List ℕ)) (number : ℕ) → IfSome all (λ text. RefusedAt number text before after) → IfSome all (λ text. IsRecordingText text → ⊥)
-never_refused None before after number h = tt
-never_refused (Some text) before after number h = λ r. h.refused.stops (recording_begins text (length (lines_of h.front) + 1) r)
+pub never_refused : (all before after : Option (List ℕ)) (number : ℕ) (cause : Cause) → IfSome all (λ text. RefusedAt number cause text before after) → IfSome all (λ text. IsRecordingText text → ⊥)
+never_refused None before after number cause h = tt
+never_refused (Some text) before after number cause h = λ r. h.refused.stops (recording_begins text (length (lines_of h.front) + 1) r)

@@ -3,6 +3,7 @@ pub mod UserRows
 pub mod Recordings
 pub mod Refusals
 pub mod Reading
+pub mod Reasons
 pub mod Ends
 pub mod Setups
 pub mod Finishes

@@ -1,5 +1,5 @@
 -- What the reader of lines answers, as what comes next of a recording.
-use Rattle.std.proofs.Common.{append_assoc, sym, ◌≡◌, ℕ, List, [], ◌++◌, length, take, refl, arith, ap, ◌∙◌, Option, Some, None}
+use Rattle.std.proofs.Common.{append_assoc, sym, subst, ◌≡◌, ℕ, List, [], ◌++◌, length, take, refl, arith, ap, ◌∙◌, Option, Some, None, Result, Ok, Err, ◌⊎◌, inl, inr}
 use Rattle.std.specs.Option.{option_map, IfSome}
 use Rattle.std.proofs.lemmas.List.{take_all}
 use Rattle.recording.specs.declared.line.Line.{Line}
@@ -9,6 +9,14 @@ use Rattle.recording.specs.Lines.{spell, IsLine}
 use Rattle.recording.specs.Reading.{Reading, left_to}
 use Rattle.recording.specs.Next.{NextIs}
 use Rattle.replay.specs.Ahead.{IsNoLine, Torn, Partly}
+use Rattle.replay.specs.Causes.{IsOwnCause, own_fault}
+use Rattle.replay.specs.declared.cause.Cause.{Cause}
+use Rattle.replay.specs.declared.cause.Cause.TheVariants.{UnknownWord, BadNumber, BadHex, MissingWord, ExtraWord, TooLong, WrongPlace, BadName, Ended, NotBuilt}
+use Rattle.recording.specs.declared.line.LineFault.{LineFault}
+use Rattle.recording.specs.declared.line.LineFault.TheVariants as fault
+use Rattle.recording.specs.Causes.{line_fault}
+use Rattle.recording.specs.Unbuilt.{IsUnbuilt}
+use Rattle.recording.proofs.LongLines.{fault_of_front, unbuilt_of_front}
 use Rattle.recording.proofs.Spellings.{spell_short}
 
 -- what the reader answers is what was left to it
@@ -32,9 +40,49 @@ pub line_came : (before left : Option (List ℕ)) (new : Reading) → Came befor
 line_came before None new came = rw came tt
 line_came before (Some r) new came = rw came (record { part = new.line ++ new.held; rest = r; split = sym (append_assoc new.line new.held r); left_is = refl })
 
-pub no_line_came : (before : Option (List ℕ)) (new : Reading) → NextIs before new next.Line → ((l : Line) → IsLine l → new.line ≡ spell l → ⊥) → IfSome before IsNoLine
-no_line_came None new is none = tt
-no_line_came (Some text) new is none = record {
+pub no_line_came : (before : Option (List ℕ)) (new : Reading) (cause : Cause) → NextIs before new next.Line → ((l : Line) → IsLine l → new.line ≡ spell l → ⊥) → IfSome before (IsOwnCause cause) → IfSome before (λ text. IsNoLine cause text)
+no_line_came None new cause is none own = tt
+no_line_came (Some text) new cause is none own = record {
   some = λ e. let k : new.line ≡ [] = is.1 ∙ ap (λ (x : List ℕ). take 16385 (first_line x)) e in omega (arith, is.0, ap length k);
   none = λ l f e. none l f (is.1 ∙ (ap (take 16385) e ∙ take_all 16385 (spell l) (spell_short l f)));
+  own = own;
 }
+
+-- the cause that a fault of the line gives
+own_line : (text : List ℕ) (new : Reading) (cause : Cause) (f : LineFault) → new.line ≡ take 16385 (first_line text) → own_fault cause ≡ Some f → line_fault new.line ≡ Some f → line_fault (first_line text) ≡ own_fault cause
+own_line text new cause f is own at = sym (fault_of_front text) ∙ (ap line_fault (sym is) ∙ (at ∙ sym own))
+
+pub own_came : (before : Option (List ℕ)) (new : Reading) (cause : Cause) (f : LineFault) → NextIs before new next.Line → own_fault cause ≡ Some f
+    → ((f ≡ fault.NotBuilt → ⊥) → line_fault new.line ≡ Some f) → (f ≡ fault.NotBuilt → IsUnbuilt new.line) → IfSome before (IsOwnCause cause)
+own_came None new cause f is own other unbuilt = tt
+own_came (Some text) new UnknownWord f is own other unbuilt = own_line text new UnknownWord f is.1 own (other (λ e. cc))
+own_came (Some text) new BadNumber f is own other unbuilt = own_line text new BadNumber f is.1 own (other (λ e. cc))
+own_came (Some text) new BadHex f is own other unbuilt = own_line text new BadHex f is.1 own (other (λ e. cc))
+own_came (Some text) new MissingWord f is own other unbuilt = own_line text new MissingWord f is.1 own (other (λ e. cc))
+own_came (Some text) new ExtraWord f is own other unbuilt = own_line text new ExtraWord f is.1 own (other (λ e. cc))
+own_came (Some text) new TooLong f is own other unbuilt = own_line text new TooLong f is.1 own (other (λ e. cc))
+own_came (Some text) new WrongPlace f is own other unbuilt = cc
+own_came (Some text) new BadName f is own other unbuilt = own_line text new BadName f is.1 own (other (λ e. cc))
+own_came (Some text) new Ended f is own other unbuilt = own_line text new Ended f is.1 own (other (λ e. cc))
+own_came (Some text) new NotBuilt f is own other unbuilt = let same : f ≡ fault.NotBuilt = cc in unbuilt_of_front text (subst IsUnbuilt is.1 (unbuilt same))
+
+-- no cause is want of memory
+pub not_memory : (cause : Cause) (f : LineFault) → own_fault cause ≡ Some f → f ≡ fault.NoMemory → ⊥
+not_memory UnknownWord f own e = cc
+not_memory BadNumber f own e = cc
+not_memory BadHex f own e = cc
+not_memory MissingWord f own e = cc
+not_memory ExtraWord f own e = cc
+not_memory TooLong f own e = cc
+not_memory WrongPlace f own e = cc
+not_memory BadName f own e = cc
+not_memory Ended f own e = cc
+not_memory NotBuilt f own e = cc
+
+abbrev refusal : LineFault → Result Line LineFault
+refusal f = Err f
+
+-- a line that is refused is none that would have been read
+pub not_read : (f : LineFault) (line : Line) → (f ≡ fault.NoMemory → ⊥) → (refusal f ≡ Ok line) ⊎ (refusal f ≡ Err fault.NoMemory) → ⊥
+not_read f line other (inl e) = cc
+not_read f line other (inr e) = other cc

@@ -5,13 +5,14 @@ use Rattle.std.proofs.lemmas.List.{map-append}
 use Rattle.login_edge.specs.Gained.{Gains-nothing, Gains-whole}
 use Rattle.login_model.specs.declared.setup.UserRow.{UserRow}
 use Rattle.recording.specs.declared.line.Line.{Line}
-use Rattle.recording.specs.declared.line.Line.TheVariants.{Header, User, Go, Event, End}
+use Rattle.recording.specs.declared.line.Line.TheVariants.{Header, Guid, User, Conf, Action, Go, Event, Link, In, Hangup, End}
 use Rattle.recording.specs.Lines.{spell, IsLine}
 use Rattle.replay.specs.Users.{AreUsers, IsNewUser}
-use Rattle.replay.specs.Recording.{spelling}
-use Rattle.replay.specs.Front.{fresh, takes_at}
+use Rattle.replay.specs.Recording.{spelling, most_lines}
+use Rattle.replay.specs.Front.{fresh, takes_at, lines_of}
 use Rattle.replay.specs.Ahead.{Torn, Partly}
-use Rattle.replay.specs.Outcome.{RefusedAt, Broken, Fronted}
+use Rattle.replay.specs.Outcome.{RefusedAt, Broken, Fronted, IsRefusal}
+use Rattle.replay.specs.declared.cause.Cause.{Cause}
 use Rattle.replay.specs.Preamble.{SetupGives}
 use Rattle.replay.specs.declared.preamble.SetupEnd.{SetupEnd}
 use Rattle.replay.specs.declared.preamble.SetupEnd.TheVariants as setup
@@ -39,12 +40,12 @@ header_then text = spelling (Header 1 ∷ []) ++ text
 abbrev pub AfterUsers : List UserRow → Option (List ℕ) → Option (List ℕ) → Type 0
 AfterUsers us before left = before ≡ option_map (λ rest. spelling (map User us) ++ rest) left
 
-pub users_refused : (us : List UserRow) (before left : Option (List ℕ)) (number : ℕ) → AreUsers us → AfterUsers us before left → number ≡ length us + 1
-    → IfSome left (Stops (users_front us)) → IfSome before (λ text. (out : Out) → RefusedAt (number + 1) (spelling (Header 1 ∷ []) ++ text) out out)
-users_refused us before left number h read c stop = each_out before (λ text out. RefusedAt (number + 1) (header_then text) out out) (λ out.
-    under (λ text. RefusedAt (number + 1) text out out) header_then before
-    (ends_refused (users_front us) (option_map header_then before) left out out (number + 1) (users_is_front us h)
-    (in_front (Header 1 ∷ []) (map User us) before left read) (omega (arith, c, h.most)) stop (omega (arith, c, users_lines us)) (Gains-nothing out)))
+pub users_refused : (us : List UserRow) (before left : Option (List ℕ)) (number : ℕ) (cause : Cause) → AreUsers us → AfterUsers us before left → number ≡ length us + 1
+    → IfSome left (Stops (users_front us)) → IfSome left (IsRefusal cause (users_front us)) → IfSome before (λ text. (out : Out) → RefusedAt (number + 1) cause (spelling (Header 1 ∷ []) ++ text) out out)
+users_refused us before left number cause h read c stop why = each_out before (λ text out. RefusedAt (number + 1) cause (header_then text) out out) (λ out.
+    under (λ text. RefusedAt (number + 1) cause text out out) header_then before
+    (ends_refused (users_front us) (option_map header_then before) left out out (number + 1) cause (users_is_front us h)
+    (in_front (Header 1 ∷ []) (map User us) before left read) (omega (arith, c, h.most)) stop why (omega (arith, c, users_lines us)) (Gains-nothing out)))
 
 pub users_broken : (us : List UserRow) (before left now : Option (List ℕ)) → AreUsers us → AfterUsers us before left
     → IfSome left (λ text. Torn text now) → IfSome before (λ text. (out : Out) → Broken (spelling (Header 1 ∷ []) ++ text) now out out)
@@ -64,9 +65,9 @@ nothing_read : (all : Option (List ℕ)) → Reached all fresh_front all
 nothing_read None = refl
 nothing_read (Some text) = refl
 
-pub fresh_refused : (before : Option (List ℕ)) → IfSome before (Stops fresh_front) → IfSome before (λ text. (out : Out) → RefusedAt 1 text out out)
-fresh_refused before stop = each_out before (λ text out. RefusedAt 1 text out out) (λ out.
-    ends_refused fresh_front before before out out 1 fresh_is_front (nothing_read before) (omega arith) stop (omega arith) (Gains-nothing out))
+pub fresh_refused : (before : Option (List ℕ)) (cause : Cause) → IfSome before (Stops fresh_front) → IfSome before (IsRefusal cause fresh_front) → IfSome before (λ text. (out : Out) → RefusedAt 1 cause text out out)
+fresh_refused before cause stop why = each_out before (λ text out. RefusedAt 1 cause text out out) (λ out.
+    ends_refused fresh_front before before out out 1 cause fresh_is_front (nothing_read before) (omega arith) stop why (omega arith) (Gains-nothing out))
 
 pub fresh_broken : (before now : Option (List ℕ)) → IfSome before (λ text. Torn text now) → IfSome before (λ text. (out : Out) → Broken text now out out)
 fresh_broken before now torn = each_out before (λ text out. Broken text now out out) (λ out.
@@ -76,6 +77,10 @@ pub fresh_fronted : (before now : Option (List ℕ)) → IfSome before (λ text.
 fresh_fronted before now part = each_out before (λ text out. Fronted text now out out) (λ out.
     ends_front fresh_front before before now out out fresh_is_front (nothing_read before) part (Gains-whole out out [] (Gains-nothing out)))
 
+-- a preamble is far from the most lines
+pub users_few : (us : List UserRow) → AreUsers us → length (lines_of (users_front us)) < most_lines
+users_few us h = omega (arith, h.most, users_lines us)
+
 -- the line is the header
 pub is_the_header : (l : Line) → IsLine l → takes_at fresh [] [] l → l ≡ Header 1
 is_the_header (Header v) f t = ap Header f
@@ -83,6 +88,12 @@ is_the_header (User u) f t = absurd t
 is_the_header Go f t = absurd t
 is_the_header (Event e) f t = absurd t
 is_the_header End f t = absurd t
+is_the_header (Guid g) f t = absurd f
+is_the_header (Conf b) f t = absurd f
+is_the_header (Action b) f t = absurd f
+is_the_header (Link c u) f t = absurd f
+is_the_header (In c b) f t = absurd f
+is_the_header (Hangup c) f t = absurd f
 
 behind : (P : List ℕ → Type 0) (before mid : Option (List ℕ)) → before ≡ option_map (λ rest. spell (Header 1) ++ rest) mid
     → IfSome mid (λ text. P (spelling (Header 1 ∷ []) ++ text)) → IfSome before P
@@ -100,9 +111,9 @@ pub after_header : (r : SetupEnd) (l : Line) (before mid after left : Option (Li
 after_header (setup.Ready s n) l before mid after left f t e h =
     let e1 : before ≡ option_map (λ rest. spell (Header 1) ++ rest) mid = subst (λ (x : Line). before ≡ option_map (λ rest. spell x ++ rest) mid) (is_the_header l f t) e in
     (h.0, h.1, whole_before before mid e1 ∙ h.2)
-after_header (setup.Script n) l before mid after left f t e h =
+after_header (setup.Script n cause) l before mid after left f t e h =
     let e1 : before ≡ option_map (λ rest. spell (Header 1) ++ rest) mid = subst (λ (x : Line). before ≡ option_map (λ rest. spell x ++ rest) mid) (is_the_header l f t) e in
-    behind (λ text. (out : Out) → RefusedAt n text out out) before mid e1 h
+    behind (λ text. (out : Out) → RefusedAt n cause text out out) before mid e1 h
 after_header setup.ReadFault l before mid after left f t e h =
     let e1 : before ≡ option_map (λ rest. spell (Header 1) ++ rest) mid = subst (λ (x : Line). before ≡ option_map (λ rest. spell x ++ rest) mid) (is_the_header l f t) e in
     behind (λ text. (out : Out) → Broken text left out out) before mid e1 h

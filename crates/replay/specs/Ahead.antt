@@ -5,13 +5,16 @@ use Rattle.login_edge.specs.Faults.{Rose}
 use Rattle.recording.specs.declared.line.Line.{Line}
 use Rattle.recording.specs.Cut.{NoLineFeed, first_line}
 use Rattle.recording.specs.Lines.{spell, IsLine}
+use Rattle.replay.specs.Causes.{IsOwnCause}
+use Rattle.replay.specs.declared.cause.Cause.{Cause}
 use Rattle.replay.specs.declared.ahead.Ahead.{Ahead}
 use Rattle.replay.specs.declared.ahead.Ahead.TheVariants as ahead
 
--- something is left, and its first line is none of the built forms
-pub record IsNoLine (text : List ℕ) : Type 0 where
+-- something is left, and its first line is none of the built forms, for this cause
+pub record IsNoLine (cause : Cause) (text : List ℕ) : Type 0 where
   pub some : text ≡ [] → ⊥
   pub none : (l : Line) → IsLine l → first_line text ≡ spell l → ⊥
+  pub own : IsOwnCause cause text
 
 -- a part of a line was read, and the rest is left
 pub record Torn (text : List ℕ) (left : Option (List ℕ)) : Type 0 where
@@ -31,7 +34,7 @@ pub record Partly (text : List ℕ) (left : Option (List ℕ)) : Type 0 where
 -- what was left before, and what is left after, with what the source itself has left then
 abbrev pub Reads : Option (List ℕ) → Option (List ℕ) → Option (List ℕ) → Ahead → Type 0
 Reads before after left (ahead.Line l) = IsLine l × (before ≡ option_map (λ rest. spell l ++ rest) after)
-Reads before after left ahead.NotBuilt = IfSome before IsNoLine
+Reads before after left (ahead.Refused cause) = IfSome before (λ text. IsNoLine cause text)
 Reads before after left ahead.End = IfSome before (λ text. (text ≡ []) × (left ≡ Some []))
 Reads before after left ahead.ReadFault = IfSome before (λ text. Torn text left)
 Reads before after left ahead.NoMemory = IfSome before (λ text. Partly text left)

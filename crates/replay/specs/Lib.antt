@@ -2,6 +2,7 @@ pub mod Users
 pub mod Recording
 pub mod Front
 pub mod Refused
+pub mod Causes
 pub mod Outcome
 pub mod Ahead
 pub mod Preamble

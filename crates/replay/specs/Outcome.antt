@@ -1,5 +1,5 @@
 -- What was read of a text, and what was written, when a replay ends.
-use Rattle.std.specs.Prelude.{ℕ, ◌≡◌, ◌+◌, ◌≤◌, List, [], ◌++◌, length, Option, Some}
+use Rattle.std.specs.Prelude.{ℕ, ◌≡◌, ◌+◌, ◌<◌, ◌≤◌, List, [], ◌++◌, length, Option, Some}
 use Rattle.login_edge.specs.Texts.{Gains, GainsFront}
 use Rattle.login_model.specs.declared.setup.UserRow.{UserRow}
 use Rattle.login_model.specs.declared.mark.Entry.{Entry}
@@ -8,6 +8,9 @@ use Rattle.recording.specs.Print.{transcript}
 use Rattle.replay.specs.Recording.{recording, IsPlay, spelling, most_lines}
 use Rattle.replay.specs.Front.{Front, lines_of, text_of, IsFront}
 use Rattle.replay.specs.Refused.{Refused}
+use Rattle.replay.specs.Causes.{IsCause}
+use Rattle.replay.specs.declared.cause.Cause.{Cause}
+use Rattle.replay.specs.declared.cause.Cause.TheVariants.{TooLong, Ended}
 
 -- the text is a recording, its journal is legal, it was read to its end, and its transcript was written
 pub record Replayed (text : List ℕ) (left before after : Option (List ℕ)) : Type 0 where
@@ -19,14 +22,26 @@ pub record Replayed (text : List ℕ) (left before after : Option (List ℕ)) : 
   pub read_to_end : left ≡ Some []
   pub wrote : Gains before after (transcript journal)
 
--- the line with this number is refused, and the transcript of the lines before it was written
-pub record RefusedAt (number : ℕ) (text : List ℕ) (before after : Option (List ℕ)) : Type 0 where
+-- behind 4000000000 lines each line is too long a recording, and `end` may be missing
+abbrev pub IsPast : Cause → List ℕ → Type 0
+IsPast TooLong rest = rest ≡ [] → ⊥
+IsPast Ended rest = rest ≡ []
+IsPast _ rest = ⊥
+
+-- the cause is that of the first line of what is left
+pub record IsRefusal (cause : Cause) (front : Front) (rest : List ℕ) : Type 0 where
+  pub own : length (lines_of front) < most_lines → IsCause cause front rest
+  pub past : length (lines_of front) ≡ most_lines → IsPast cause rest
+
+-- the line with this number is refused for this cause, and the transcript of the lines before it was written
+pub record RefusedAt (number : ℕ) (cause : Cause) (text : List ℕ) (before after : Option (List ℕ)) : Type 0 where
   pub front : Front
   pub rest : List ℕ
   pub is_front : IsFront front
   pub read : text ≡ spelling (lines_of front) ++ rest
   pub count : number ≡ length (lines_of front) + 1
   pub refused : Refused text (length (lines_of front))
+  pub caused : IsRefusal cause front rest
   pub wrote : Gains before after (text_of front)
 
 -- these lines were read, and their transcript written; then a part of a line, and the rest is left

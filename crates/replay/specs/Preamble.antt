@@ -16,7 +16,7 @@ use Rattle.replay.specs.declared.preamble.SetupEnd.TheVariants as setup
 abbrev pub SetupGives : List Line → Option (List ℕ) → Option (List ℕ) → Option (List ℕ) → SetupEnd → Type 0
 SetupGives head before after left (setup.Ready s count) = AreUsers s.users × (count ≡ length (lines_at going s.users []))
     × (option_map (λ text. spelling head ++ text) before ≡ option_map (λ rest. spelling (lines_at going s.users []) ++ rest) after)
-SetupGives head before after left (setup.Script number) = IfSome before (λ text. (out : Option (List ℕ)) → RefusedAt number (spelling head ++ text) out out)
+SetupGives head before after left (setup.Script number cause) = IfSome before (λ text. (out : Option (List ℕ)) → RefusedAt number cause (spelling head ++ text) out out)
 SetupGives head before after left setup.ReadFault = IfSome before (λ text. (out : Option (List ℕ)) → Broken (spelling head ++ text) left out out)
 SetupGives head before after left setup.NoMemory = IfSome before (λ text. (out : Option (List ℕ)) → Fronted (spelling head ++ text) left out out)
 

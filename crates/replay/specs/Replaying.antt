@@ -14,7 +14,7 @@ use Rattle.replay.specs.declared.replaying.ReplayEnd.TheVariants as replay
 -- what was read of the text, what the source has left, and what was written
 abbrev pub ReplayGives : Option (List ℕ) → Option (List ℕ) → Option (List ℕ) → Option (List ℕ) → ReplayEnd → Type 0
 ReplayGives all left before after replay.Done = IfSome all (λ text. Replayed text left before after)
-ReplayGives all left before after (replay.Script number) = IfSome all (λ text. RefusedAt number text before after)
+ReplayGives all left before after (replay.Script number cause) = IfSome all (λ text. RefusedAt number cause text before after)
 ReplayGives all left before after replay.ReadFault = IfSome all (λ text. Broken text left before after)
 ReplayGives all left before after replay.WriteFault = IfSome all (λ text. Fronted text left before after)
 ReplayGives all left before after replay.NoMemory = IfSome all (λ text. Fronted text left before after)

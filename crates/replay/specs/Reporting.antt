@@ -3,6 +3,8 @@ use Rattle.std.specs.Prelude.{ℕ, ◌≡◌, ◌⊎◌, List, [], ◌∷◌, �
 use Rattle.std.specs.Fmt.{decimal}
 use Rattle.login_edge.specs.Faults.{Rose}
 use Rattle.login_edge.specs.Texts.{Gains, GainsFront}
+use Rattle.replay.specs.Causes.{cause_word}
+use Rattle.replay.specs.declared.cause.Cause.{Cause}
 use Rattle.replay.specs.declared.replaying.ReplayEnd.{ReplayEnd}
 use Rattle.replay.specs.declared.replaying.ReplayEnd.TheVariants as replay
 
@@ -15,13 +17,13 @@ abbrev pub error_line : List ℕ → List ℕ
 error_line text = text ++ 10 ∷ []
 
 -- the line of a refusal
-abbrev pub refusal : ℕ → List ℕ
-refusal number = codes "line " ++ (decimal number ++ error_line (codes ": not-built"))
+abbrev pub refusal : ℕ → Cause → List ℕ
+refusal number cause = codes "line " ++ (decimal number ++ (codes ": " ++ error_line (cause_word cause)))
 
 -- the line of an end was written, or a front of it; nothing where all was done
 abbrev pub ReportsEnd : Option (List ℕ) → Option (List ℕ) → ℕ → ℕ → ReplayEnd → Type 0
 ReportsEnd old new before now replay.Done = (new ≡ old) × (now ≡ before)
-ReportsEnd old new before now (replay.Script number) = Reported old new before now (refusal number)
+ReportsEnd old new before now (replay.Script number cause) = Reported old new before now (refusal number cause)
 ReportsEnd old new before now replay.ReadFault = Reported old new before now (error_line (codes "read fault"))
 ReportsEnd old new before now replay.WriteFault = Reported old new before now (error_line (codes "write fault"))
 ReportsEnd old new before now replay.NoMemory = Reported old new before now (error_line (codes "no memory"))

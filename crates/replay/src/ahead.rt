@@ -3,16 +3,17 @@
 ghost use Rattle.recording.specs.Reading.{left_to};
 ghost use Rattle.replay.specs.Ahead.{Reads, AheadCause};
 
+use crate::cause::{Cause, cause_of};
 use login_edge::Source;
-use recording::{Line, LineFault, LineReader, Next, read_line};
+use recording::{Line, LineReader, Next, read_line};
 use std::alloc::Global;
 
 /// What comes next of a recording.
 #[derive(Debug, Drop)]
 pub enum Ahead {
     Line(Line),
-    /// A line that is none of the built forms.
-    NotBuilt,
+    /// A line with a fault of its own.
+    Refused(Cause),
     /// Nothing is left.
     End,
     ReadFault,
@@ -31,7 +32,9 @@ pub fn read_ahead<S: Source>(alloc: Global, lines: &mut LineReader, source: &mut
     }
     match read_line(alloc, lines.line()) {
         Ok(line) => Ahead::Line(line),
-        Err(LineFault::NotBuilt) => Ahead::NotBuilt,
-        Err(LineFault::NoMemory) => Ahead::NoMemory,
+        Err(fault) => match cause_of(fault) {
+            Some(cause) => Ahead::Refused(cause),
+            None => Ahead::NoMemory,
+        },
     }
 }

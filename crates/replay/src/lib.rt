@@ -2,6 +2,7 @@
 #![tactic(auto)]
 
 mod ahead;
+mod cause;
 mod law;
 mod placing;
 mod play;
@@ -9,7 +10,8 @@ mod preamble;
 mod replaying;
 mod reporting;
 
-pub use law::one_refusal;
+pub use cause::Cause;
+pub use law::{one_cause, one_refusal};
 pub use preamble::{SetupEnd, read_setup};
 pub use replaying::{ReplayEnd, replay_all};
 pub use reporting::report;

@@ -18,7 +18,7 @@ fn is_connect_of(who: ConnId, event: &Event) -> bool
 {
     match event {
         Event::Connect(other, _) => other.0 == who.0,
-        Event::Call(_) => false,
+        _ => false,
     }
 }
 
@@ -48,6 +48,8 @@ pub fn is_placed(core: &Core, event: &Event) -> bool
 {
     match event {
         Event::Connect(who, _) => is_unused(core.journal().as_slice(), *who),
+        Event::Disconnect(who) => is_connected(core, *who),
         Event::Call(request) => is_connected(core, request.who),
+        Event::Hardware(_) | Event::Tick(_) | Event::Stop => true,
     }
 }

@@ -10,6 +10,7 @@ ghost use Rattle.replay.specs.Preamble.{SetupGives, SetupCause};
 ghost use Rattle.replay.specs.TakingLine.{TakesLine};
 
 use crate::ahead::{Ahead, read_ahead};
+use crate::cause::Cause;
 use login_base::{Items, NoMemory, Uid};
 use login_edge::Source;
 use login_model::{Setup, UserRow};
@@ -21,8 +22,8 @@ use std::alloc::Global;
 pub enum SetupEnd {
     /// The setup, and how many lines were read, through `go`.
     Ready(Setup, u32),
-    /// The line with this number is refused.
-    Script(u32),
+    /// The line with this number is refused for this cause.
+    Script(u32, Cause),
     ReadFault,
     NoMemory,
 }
@@ -78,11 +79,11 @@ fn read_users<S: Source>(alloc: Global, lines: &mut LineReader, source: &mut S) 
             Ahead::Line(line) => match take_line(&mut users, line) {
                 Ok(Taken::User) => {}
                 Ok(Taken::Go) => return SetupEnd::Ready(Setup { users }, number + 1),
-                Ok(Taken::Refused) => return SetupEnd::Script(number + 1),
+                Ok(Taken::Refused) => return SetupEnd::Script(number + 1, Cause::WrongPlace),
                 Err(_) => return SetupEnd::NoMemory,
             },
-            Ahead::NotBuilt => return SetupEnd::Script(number + 1),
-            Ahead::End => return SetupEnd::Script(number + 1),
+            Ahead::Refused(cause) => return SetupEnd::Script(number + 1, cause),
+            Ahead::End => return SetupEnd::Script(number + 1, Cause::Ended),
             Ahead::ReadFault => return SetupEnd::ReadFault,
             Ahead::NoMemory => return SetupEnd::NoMemory,
         }
@@ -91,8 +92,8 @@ fn read_users<S: Source>(alloc: Global, lines: &mut LineReader, source: &mut S) 
 }
 
 /// Whether a line is the header.
-fn is_header(line: Line) -> bool
-    ensures { IsTrue result ↔ takes_at fresh [] [] line }
+fn is_header(line: &Line) -> bool
+    ensures { IsTrue result ↔ takes_at fresh [] [] line.now }
 {
     match line {
         Line::Header(_) => true,
@@ -107,14 +108,16 @@ pub fn read_setup<S: Source>(alloc: Global, lines: &mut LineReader, source: &mut
 {
     match read_ahead(alloc, lines, source) {
         Ahead::Line(line) => {
-            if is_header(line) {
+            let is_first = is_header(&line);
+            drop(line);
+            if is_first {
                 read_users(alloc, lines, source)
             } else {
-                SetupEnd::Script(1)
+                SetupEnd::Script(1, Cause::WrongPlace)
             }
         }
-        Ahead::NotBuilt => SetupEnd::Script(1),
-        Ahead::End => SetupEnd::Script(1),
+        Ahead::Refused(cause) => SetupEnd::Script(1, cause),
+        Ahead::End => SetupEnd::Script(1, Cause::Ended),
         Ahead::ReadFault => SetupEnd::ReadFault,
         Ahead::NoMemory => SetupEnd::NoMemory,
     }

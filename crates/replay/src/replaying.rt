@@ -13,6 +13,7 @@ ghost use Rattle.replay.specs.Reporting.{ReportsEnd};
 ghost use Rattle.replay.specs.Replaying.{ReplayGives, GoesOn, ReadRises, WriteRises};
 
 use crate::ahead::{Ahead, read_ahead};
+use crate::cause::Cause;
 use crate::play::{Played, play_event};
 use crate::preamble::{SetupEnd, read_setup};
 use crate::reporting::{RefusalLine, report};
@@ -27,8 +28,8 @@ use std::alloc::{AllocError, Global};
 pub enum ReplayEnd {
     /// The whole transcript was written.
     Done,
-    /// The line with this number is refused.
-    Script(u32),
+    /// The line with this number is refused for this cause.
+    Script(u32, Cause),
     ReadFault,
     WriteFault,
     NoMemory,
@@ -53,6 +54,22 @@ fn write_end<K: Sink>(alloc: Global, core: &Core, sink: &mut K) -> Result<(), Wr
     match write_all(sink, text.as_bytes()) {
         login_edge::WriteEnd::Done => Ok(()),
         login_edge::WriteEnd::Fault => Err(WriteEnd::WriteFault),
+    }
+}
+
+/// A recording has at most so many lines.
+const MOST_LINES: u32 = 4_000_000_000;
+
+/// The cause of a line behind so many, of which this is its own: behind the most it is too long a
+/// recording.
+fn cause_behind(lines: u32, own: Cause) -> Cause
+    ensures within { lines < most_lines → result ≡ own }
+    ensures past { lines ≡ most_lines → result ≡ Cause.TooLong }
+{
+    if lines == MOST_LINES {
+        Cause::TooLong
+    } else {
+        own
     }
 }
 
@@ -81,9 +98,9 @@ fn finish<S: Source, K: Sink>(
     match read_ahead(alloc, lines, source) {
         Ahead::Line(line) => {
             drop(line);
-            ReplayEnd::Script(number + 1)
+            ReplayEnd::Script(number + 1, cause_behind(number, Cause::WrongPlace))
         }
-        Ahead::NotBuilt => ReplayEnd::Script(number + 1),
+        Ahead::Refused(cause) => ReplayEnd::Script(number + 1, cause_behind(number, cause)),
         Ahead::End => ReplayEnd::Done,
         Ahead::ReadFault => ReplayEnd::ReadFault,
         Ahead::NoMemory => ReplayEnd::NoMemory,
@@ -110,9 +127,6 @@ fn behind_go(line: Line) -> Behind
     }
 }
 
-/// A recording has at most so many lines.
-const MOST_LINES: u32 = 4_000_000_000;
-
 /// Plays the events of a recording, from behind `go`, through the end of the text. So many lines were
 /// read before.
 fn play_events<S: Source, K: Sink>(
@@ -134,24 +148,33 @@ fn play_events<S: Source, K: Sink>(
     for number in first..MOST_LINES {
         let line = match read_ahead(alloc, lines, source) {
             Ahead::Line(line) => line,
-            Ahead::NotBuilt => return ReplayEnd::Script(number + 1),
-            Ahead::End => return ReplayEnd::Script(number + 1),
+            Ahead::Refused(cause) => return ReplayEnd::Script(number + 1, cause),
+            Ahead::End => return ReplayEnd::Script(number + 1, Cause::Ended),
             Ahead::ReadFault => return ReplayEnd::ReadFault,
             Ahead::NoMemory => return ReplayEnd::NoMemory,
         };
         let event = match behind_go(line) {
             Behind::Event(event) => event,
             Behind::End => return finish(alloc, lines, source, core, number + 1, sink),
-            Behind::Other => return ReplayEnd::Script(number + 1),
+            Behind::Other => return ReplayEnd::Script(number + 1, Cause::WrongPlace),
         };
         match play_event(alloc, core, event, sink) {
             Played::Done => {}
-            Played::Refused => return ReplayEnd::Script(number + 1),
+            Played::Refused => return ReplayEnd::Script(number + 1, Cause::WrongPlace),
             Played::WriteFault => return ReplayEnd::WriteFault,
             Played::NoMemory => return ReplayEnd::NoMemory,
         }
     }
-    ReplayEnd::Script(MOST_LINES + 1)
+    match read_ahead(alloc, lines, source) {
+        Ahead::Line(line) => {
+            drop(line);
+            ReplayEnd::Script(MOST_LINES + 1, Cause::TooLong)
+        }
+        Ahead::Refused(_) => ReplayEnd::Script(MOST_LINES + 1, Cause::TooLong),
+        Ahead::End => ReplayEnd::Script(MOST_LINES + 1, Cause::Ended),
+        Ahead::ReadFault => ReplayEnd::ReadFault,
+        Ahead::NoMemory => ReplayEnd::NoMemory,
+    }
 }
 
 /// Writes the first line of a transcript, and plays the events of a setup, before which so many lines
@@ -195,7 +218,7 @@ fn replay_text<S: Source, K: Sink>(alloc: Global, source: &mut S, sink: &mut K) 
         SetupEnd::Ready(setup, first) => {
             play_setup(alloc, &mut lines, source, setup, first, sink)
         }
-        SetupEnd::Script(number) => ReplayEnd::Script(number),
+        SetupEnd::Script(number, cause) => ReplayEnd::Script(number, cause),
         SetupEnd::ReadFault => ReplayEnd::ReadFault,
         SetupEnd::NoMemory => ReplayEnd::NoMemory,
     }
@@ -207,7 +230,7 @@ fn report_end<E: Sink>(refusal: RefusalLine, end: ReplayEnd, errors: &mut E)
 {
     match end {
         ReplayEnd::Done => {}
-        ReplayEnd::Script(number) => report(errors, &refusal.of(number)),
+        ReplayEnd::Script(number, cause) => report(errors, &refusal.of(number, cause)),
         ReplayEnd::ReadFault => report(errors, b"read fault\n"),
         ReplayEnd::WriteFault => report(errors, b"write fault\n"),
         ReplayEnd::NoMemory => report(errors, b"no memory\n"),

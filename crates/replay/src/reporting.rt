@@ -4,6 +4,7 @@ ghost use Rattle.std.specs.Prelude.{◌≡◌, ◌+◌, ◌<◌, ◌≤◌, ◌+
 ghost use Rattle.std.specs.Fmt.{decimal};
 ghost use Rattle.replay.specs.Reporting.{Reported, refusal};
 
+use crate::cause::Cause;
 use login_edge::{Sink, write_all};
 use std::alloc::{AllocError, Global};
 
@@ -49,14 +50,16 @@ impl RefusalLine {
         Ok(RefusalLine { text })
     }
 
-    /// The line that refuses the line with this number, without memory.
-    pub fn of(self, line: u32) -> Vec<u8>
-        ensures { result.items ≡ refusal line }
+    /// The line that refuses the line with this number for this cause, without memory.
+    pub fn of(self, line: u32, cause: Cause) -> Vec<u8>
+        ensures { result.items ≡ refusal line cause }
     {
         let RefusalLine { mut text } = self;
         push_text(&mut text, b"line ");
         push_decimal(&mut text, line);
-        push_text(&mut text, b": not-built\n");
+        push_text(&mut text, b": ");
+        push_text(&mut text, cause.word());
+        push_text(&mut text, b"\n");
         text
     }
 }

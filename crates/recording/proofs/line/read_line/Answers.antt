@@ -1,13 +1,90 @@
-use Rattle.std.proofs.Common.{◌≡◌, ◌++◌, ◌∷◌, [], ap, ◌∙◌, ℕ}
-use Rattle.recording.proofs.Spellings.{read_found, read_not_built}
+use Rattle.std.proofs.Common.{◌≡◌, ◌≤◌, ◌++◌, ◌∷◌, [], ap, sym, ◌∙◌, map, Some, List, ℕ, length, length-append, arith, inl, inr}
+use Rattle.recording.specs.declared.line.LineFault.TheVariants.{TooLong, Ended}
+use Rattle.recording.specs.Causes.{line_fault}
+use Rattle.recording.proofs.Causes.{too_long_before, too_long_whole, has_ended, nothing_ended, cause_of_words, found_unbuilt}
+use Rattle.recording.specs.Readings.{line_of}
+use Rattle.recording.proofs.ReadBytes.{each_byte, read_found, read_unbuilt, misfit_refused}
+use Rattle.recording.proofs.Grammar.{read_again, unbuilt_again, built_faultless, unbuilt_faultless, misfit_unbuilt}
+use Rattle.recording.proofs.line.read_line.Goals.{then-text-gt-LONGEST-via-then-text-gt-LONGEST, then-text-gt-LONGEST-via-else-text-gt-LONGEST+then-bytes-gt-LONGEST}
+use Rattle.recording.proofs.line.read_line.Goals.{Joined-then-text-gt-LONGEST}
 use Rattle.recording.proofs.line.read_line.Goals as goal
 
-pub returns-clause-found : goal.returns-clause-found
-returns-clause-found c =
-    let whole : c.args.bytes.now ≡ c.in-Some.text.now ++ 10 ∷ [] = c.in-Some.ensures.cases.0 ∙ ap (λ (b : ℕ). c.in-Some.text.now ++ b ∷ []) c.if-last-ne10.false in
-    read_found c.args.bytes.now c.in-Some.text.now c.read_words.result whole (rw (c.deref.ensures.value, c.in-Ok.ensures) at c.read_words.ensures)
+pub returns-in_default-clause-cause : goal.returns-in_default-clause-cause
+returns-in_default-clause-cause c fault e h k = let is : line_fault c.args.bytes.now ≡ Some Ended = nothing_ended c.args.bytes.now c.in_default.ensures.cases in cc
 
-pub returns-clause-not_built : goal.returns-clause-not_built
-returns-clause-not_built c =
-    let whole : c.args.bytes.now ≡ c.in-Some.text.now ++ 10 ∷ [] = c.in-Some.ensures.cases.0 ∙ ap (λ (b : ℕ). c.in-Some.text.now ++ b ∷ []) c.if-last-ne10.false in
-    read_not_built c.args.bytes.now c.in-Some.text.now c.read_words.result whole (rw (c.deref.ensures.value, c.in-Ok.ensures) at c.read_words.ensures)
+pub returns-in_default-clause-read : goal.returns-in_default-clause-read
+returns-in_default-clause-read c line h s = absurd (built_faultless c.args.bytes.now Ended (nothing_ended c.args.bytes.now c.in_default.ensures.cases) line h s)
+
+pub returns-in_default-clause-unbuilt : goal.returns-in_default-clause-unbuilt
+returns-in_default-clause-unbuilt c u = absurd (unbuilt_faultless c.args.bytes.now Ended (nothing_ended c.args.bytes.now c.in_default.ensures.cases) u)
+
+is_too_long : (c : Joined-then-text-gt-LONGEST) → line_fault c.args.bytes.now ≡ Some TooLong
+is_too_long c = elim c.then-text-gt-LONGEST.branch [
+  | then-text-gt-LONGEST-via-then-text-gt-LONGEST w ↦ too_long_before c.args.bytes.now c.in-Some.text.now c.in-Some.last.now c.in-Some.ensures.cases.0 w.if-text-gt-LONGEST.true
+  | then-text-gt-LONGEST-via-else-text-gt-LONGEST+then-bytes-gt-LONGEST w ↦ too_long_whole c.args.bytes.now c.in-Some.text.now c.in-Some.last.now c.in-Some.ensures.cases.0 w.if-bytes-gt-LONGEST.true.0 w.if-bytes-gt-LONGEST.true.1
+]
+
+pub returns-then-text-gt-LONGEST-clause-cause : goal.returns-then-text-gt-LONGEST-clause-cause
+returns-then-text-gt-LONGEST-clause-cause c fault e h k = let is = is_too_long c in cc
+
+pub returns-then-text-gt-LONGEST-clause-read : goal.returns-then-text-gt-LONGEST-clause-read
+returns-then-text-gt-LONGEST-clause-read c line h s = absurd (built_faultless c.args.bytes.now TooLong (is_too_long c) line h s)
+
+pub returns-then-text-gt-LONGEST-clause-unbuilt : goal.returns-then-text-gt-LONGEST-clause-unbuilt
+returns-then-text-gt-LONGEST-clause-unbuilt c u = absurd (unbuilt_faultless c.args.bytes.now TooLong (is_too_long c) u)
+
+pub returns-then-not-is_whole-2-clause-cause : goal.returns-then-not-is_whole-2-clause-cause
+returns-then-not-is_whole-2-clause-cause c fault e h k =
+    let short : length c.args.bytes.now ≤ 16384 = elim c.if-bytes-gt-LONGEST.either [ inl x ↦ x.1 | inr x ↦ absurd (c.if-not-is_whole-2.true x) ] in
+    let is : line_fault c.args.bytes.now ≡ Some Ended = has_ended c.args.bytes.now c.in-Some.text.now c.in-Some.last.now c.in-Some.ensures.cases.0 c.if-not-is_whole-2.true short in
+    cc
+
+pub returns-then-not-is_whole-2-clause-read : goal.returns-then-not-is_whole-2-clause-read
+returns-then-not-is_whole-2-clause-read c line h s =
+    let short : length c.args.bytes.now ≤ 16384 = elim c.if-bytes-gt-LONGEST.either [ inl x ↦ x.1 | inr x ↦ absurd (c.if-not-is_whole-2.true x) ] in
+    let is : line_fault c.args.bytes.now ≡ Some Ended = has_ended c.args.bytes.now c.in-Some.text.now c.in-Some.last.now c.in-Some.ensures.cases.0 c.if-not-is_whole-2.true short in
+    absurd (built_faultless c.args.bytes.now Ended is line h s)
+
+pub returns-then-not-is_whole-2-clause-unbuilt : goal.returns-then-not-is_whole-2-clause-unbuilt
+returns-then-not-is_whole-2-clause-unbuilt c u =
+    let short : length c.args.bytes.now ≤ 16384 = elim c.if-bytes-gt-LONGEST.either [ inl x ↦ x.1 | inr x ↦ absurd (c.if-not-is_whole-2.true x) ] in
+    let is : line_fault c.args.bytes.now ≡ Some Ended = has_ended c.args.bytes.now c.in-Some.text.now c.in-Some.last.now c.in-Some.ensures.cases.0 c.if-not-is_whole-2.true short in
+    absurd (unbuilt_faultless c.args.bytes.now Ended is u)
+
+pub returns-in-Err-Misfit-clause-read : goal.returns-in-Err-Misfit-clause-read
+returns-in-Err-Misfit-clause-read c line h s = absurd (misfit_refused c.args.bytes.now c.in-Some.text.now
+    (c.in-Some.ensures.cases.0 ∙ ap (λ (b : ℕ). c.in-Some.text.now ++ b ∷ []) c.if-not-is_whole-2.false)
+    (sym (ap line_of (ap (map (λ word. word.now)) c.deref.ensures.value ∙ c.in-Ok.ensures)) ∙ rw c.in-Err-Misfit.field-0-is at c.in-Err-Misfit.ensures) line h s)
+
+pub returns-in-Err-Misfit-clause-unbuilt : goal.returns-in-Err-Misfit-clause-unbuilt
+returns-in-Err-Misfit-clause-unbuilt c u = absurd (misfit_unbuilt c.args.bytes.now c.in-Some.text.now
+    (c.in-Some.ensures.cases.0 ∙ ap (λ (b : ℕ). c.in-Some.text.now ++ b ∷ []) c.if-not-is_whole-2.false)
+    (sym (ap line_of (ap (map (λ word. word.now)) c.deref.ensures.value ∙ c.in-Ok.ensures)) ∙ rw c.in-Err-Misfit.field-0-is at c.in-Err-Misfit.ensures) u)
+
+pub returns-in-Err-Misfit-clause-cause : goal.returns-in-Err-Misfit-clause-cause
+returns-in-Err-Misfit-clause-cause c fault e h k =
+    cause_of_words c.args.bytes.now c.in-Some.text.now c.in-Some.last.now (map (λ word. word.now) c.deref-in-Err-Misfit.result.now) c.refusal.result fault c.in-Some.ensures.cases.0 c.if-not-is_whole-2.false c.if-text-gt-LONGEST.false
+    (ap (map (λ word. word.now)) c.deref-in-Err-Misfit.ensures.value ∙ c.in-Ok.ensures) c.refusal.ensures e h
+
+pub returns-in-Err-Misfit-clause-not_built : goal.returns-in-Err-Misfit-clause-not_built
+returns-in-Err-Misfit-clause-not_built c e = absurd (found_unbuilt (map (λ word. word.now) c.deref-in-Err-Misfit.result.now) c.refusal.result c.refusal.ensures e)
+
+pub returns-in-Ok-read_words-clause-found : goal.returns-in-Ok-read_words-clause-found
+returns-in-Ok-read_words-clause-found c = read_found c.args.bytes.now c.in-Some.text.now c.in-Ok-read_words.line c.built.result
+    (c.in-Some.ensures.cases.0 ∙ ap (λ (b : ℕ). c.in-Some.text.now ++ b ∷ []) c.if-not-is_whole-2.false) c.if-text-gt-LONGEST.false (each_byte c.args.bytes.now c.type_inv.bytes)
+    (sym (ap line_of (ap (map (λ word. word.now)) c.deref.ensures.value ∙ c.in-Ok.ensures)) ∙ c.in-Ok-read_words.ensures) c.built.ensures
+
+pub returns-in-Ok-read_words-clause-read : goal.returns-in-Ok-read_words-clause-read
+returns-in-Ok-read_words-clause-read c = read_again c.args.bytes.now c.in-Some.text.now c.in-Ok-read_words.line c.built.result
+    (c.in-Some.ensures.cases.0 ∙ ap (λ (b : ℕ). c.in-Some.text.now ++ b ∷ []) c.if-not-is_whole-2.false)
+    (sym (ap line_of (ap (map (λ word. word.now)) c.deref.ensures.value ∙ c.in-Ok.ensures)) ∙ c.in-Ok-read_words.ensures) c.built.ensures
+
+pub returns-in-Ok-read_words-clause-unbuilt : goal.returns-in-Ok-read_words-clause-unbuilt
+returns-in-Ok-read_words-clause-unbuilt c = unbuilt_again c.args.bytes.now c.in-Some.text.now c.in-Ok-read_words.line c.built.result
+    (c.in-Some.ensures.cases.0 ∙ ap (λ (b : ℕ). c.in-Some.text.now ++ b ∷ []) c.if-not-is_whole-2.false)
+    (sym (ap line_of (ap (map (λ word. word.now)) c.deref.ensures.value ∙ c.in-Ok.ensures)) ∙ c.in-Ok-read_words.ensures) c.built.ensures
+
+pub returns-in-Ok-read_words-clause-not_built : goal.returns-in-Ok-read_words-clause-not_built
+returns-in-Ok-read_words-clause-not_built c = read_unbuilt c.args.bytes.now c.in-Some.text.now c.in-Ok-read_words.line c.built.result
+    (c.in-Some.ensures.cases.0 ∙ ap (λ (b : ℕ). c.in-Some.text.now ++ b ∷ []) c.if-not-is_whole-2.false) c.if-text-gt-LONGEST.false (each_byte c.args.bytes.now c.type_inv.bytes)
+    (sym (ap line_of (ap (map (λ word. word.now)) c.deref.ensures.value ∙ c.in-Ok.ensures)) ∙ c.in-Ok-read_words.ensures) c.built.ensures

@@ -1,10 +1,17 @@
-use Rattle.std.proofs.Common.{◌∙◌, ap, Err}
-use Rattle.replay.proofs.Reading.{line_came, no_line_came}
+use Rattle.std.proofs.Common.{◌∙◌, ap, sym, subst, refl, Err}
+use Rattle.recording.specs.Causes.{line_fault}
+use Rattle.recording.specs.Unbuilt.{IsUnbuilt}
+use Rattle.replay.proofs.Reading.{line_came, no_line_came, own_came, not_memory, not_read}
 use Rattle.replay.proofs.ahead.read_ahead.Goals as goal
 
-pub returns-in-Err-NotBuilt-clause-gives : goal.returns-in-Err-NotBuilt-clause-gives
-returns-in-Err-NotBuilt-clause-gives g c =
-    no_line_came _ c.next.new.self c.in-Line.ensures.line (λ l f e. c.in-Err-NotBuilt.ensures.not_built (ap Err c.in-Err-NotBuilt.field-0-is) l f (c.line.ensures.value ∙ e))
+pub returns-in-Some-clause-gives : goal.returns-in-Some-clause-gives
+returns-in-Some-clause-gives g c =
+    let other = not_memory c.in-Some.cause c.in-Err.fault c.in-Some.ensures in
+    no_line_came _ c.next.new.self c.in-Some.cause c.in-Line.ensures.line
+    (λ l f e. not_read c.in-Err.fault l other (c.in-Err.ensures.read l f (c.line.ensures.value ∙ e)))
+    (own_came _ c.next.new.self c.in-Some.cause c.in-Err.fault c.in-Line.ensures.line c.in-Some.ensures
+    (λ ne. ap line_fault (sym c.line.ensures.value) ∙ c.in-Err.ensures.cause c.in-Err.fault refl other ne)
+    (λ e. subst IsUnbuilt c.line.ensures.value (c.in-Err.ensures.not_built (ap Err e))))
 
-pub returns-in-Err-NoMemory-clause-gives : goal.returns-in-Err-NoMemory-clause-gives
-returns-in-Err-NoMemory-clause-gives g c = line_came _ _ c.next.new.self c.next.ensures.kept
+pub returns-in-None-clause-gives : goal.returns-in-None-clause-gives
+returns-in-None-clause-gives g c = line_came _ _ c.next.new.self c.next.ensures.kept

@@ -1,19 +1,21 @@
-use Rattle.std.proofs.Common.{rules}
-use Rattle.replay.proofs.Ends.{stops_wrong, stops_none, stops_early, fresh_front}
+use Rattle.std.proofs.Common.{rules, arith}
+use Rattle.replay.specs.declared.cause.Cause.TheVariants.{WrongPlace, Ended}
+use Rattle.replay.proofs.Ends.{stops_wrong, stops_none, stops_early, cause_wrong, cause_none, cause_early, fresh_front}
 use Rattle.replay.proofs.Setups.{fresh_refused, fresh_broken, fresh_fronted, after_header}
 use Rattle.replay.proofs.preamble.read_setup.Goals as goal
 
-pub returns-then-is_header-clause-gives : goal.returns-then-is_header-clause-gives
-returns-then-is_header-clause-gives g c = after_header _ c.in-Line.line _ _ _ _ c.in-Line.ensures.gives.0 (search rules) c.in-Line.ensures.gives.1 c.read_users.ensures.gives
+pub returns-then-is_first-clause-gives : goal.returns-then-is_first-clause-gives
+returns-then-is_first-clause-gives g c = after_header _ c.in-Line.line _ _ _ _ c.in-Line.ensures.gives.0 (search rules) c.in-Line.ensures.gives.1 c.read_users.ensures.gives
 
-pub returns-else-is_header-clause-gives : goal.returns-else-is_header-clause-gives
-returns-else-is_header-clause-gives g c = fresh_refused _ (stops_wrong fresh_front c.in-Line.line _ _ c.in-Line.ensures.gives.0 c.in-Line.ensures.gives.1 (search rules))
+pub returns-else-is_first-clause-gives : goal.returns-else-is_first-clause-gives
+returns-else-is_first-clause-gives g c = fresh_refused _ WrongPlace (stops_wrong fresh_front c.in-Line.line _ _ c.in-Line.ensures.gives.0 c.in-Line.ensures.gives.1 (search rules))
+    (cause_wrong fresh_front c.in-Line.line _ _ (omega arith) c.in-Line.ensures.gives.0 c.in-Line.ensures.gives.1 (search rules))
 
-pub returns-in-NotBuilt-clause-gives : goal.returns-in-NotBuilt-clause-gives
-returns-in-NotBuilt-clause-gives g c = fresh_refused _ (stops_none fresh_front _ c.in-NotBuilt.ensures.gives)
+pub returns-in-Refused-clause-gives : goal.returns-in-Refused-clause-gives
+returns-in-Refused-clause-gives g c = fresh_refused _ c.in-Refused.cause (stops_none fresh_front _ c.in-Refused.cause c.in-Refused.ensures.gives) (cause_none fresh_front _ c.in-Refused.cause (omega arith) c.in-Refused.ensures.gives)
 
 pub returns-in-End-clause-gives : goal.returns-in-End-clause-gives
-returns-in-End-clause-gives g c = fresh_refused _ (stops_early fresh_front _ _ c.in-End.ensures.gives (λ e. cc))
+returns-in-End-clause-gives g c = fresh_refused _ Ended (stops_early fresh_front _ _ c.in-End.ensures.gives (λ e. cc)) (cause_early fresh_front _ _ c.in-End.ensures.gives)
 
 pub returns-in-ReadFault-clause-gives : goal.returns-in-ReadFault-clause-gives
 returns-in-ReadFault-clause-gives g c = fresh_broken _ _ c.in-ReadFault.ensures.gives

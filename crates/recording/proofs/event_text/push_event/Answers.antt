@@ -1,0 +1,5 @@
+use Rattle.std.proofs.Common.{rules}
+use Rattle.recording.proofs.event_text.push_event.Goals as goal
+
+pub returns-in-Disconnect : goal.returns-in-Disconnect
+returns-in-Disconnect c = rw c.in-Disconnect.is (search rules)

@@ -1,0 +1,98 @@
+-- Why a line is refused: it is too long; else it has no line feed; else its words are looked at from
+-- left to right, and the first that does not fit gives its cause.
+use Rattle.std.specs.Prelude.{ℕ, ◌==◌, ◌-◌, not, nat_le, Bool, true, false, if◌then◌else◌, Option, Some, None, List, [], ◌∷◌, length, take, codes}
+use Rattle.std.specs.List.{slice_split, last_or}
+use Rattle.std.specs.Option.{option_or}
+use Rattle.std.specs.Str.{bytes_eq}
+use Rattle.login_base.specs.Number.{number_of}
+use Rattle.login_base.specs.Seat.{is_seat_name}
+use Rattle.recording.specs.declared.line.LineFault.{LineFault}
+use Rattle.recording.specs.declared.line.LineFault.TheVariants.{UnknownWord, BadNumber, BadHex, MissingWord, ExtraWord, TooLong, BadName, Ended}
+use Rattle.recording.specs.declared.shape.WordKind.{WordKind}
+use Rattle.recording.specs.declared.shape.WordKind.TheVariants.{Number, Positive, Small, Signed, Moment, Flag, Text, UserName, SessionId, SeatName, Hex, Guid, Version, DeviceKind, Key, Operation, Anything}
+use Rattle.recording.specs.Words.{positive_of, small_of, signed_of, moment_of, flag_of, text_of, hex_of, device_kind_of, key_of, operation_of}
+use Rattle.recording.specs.Hex.{is_guid}
+use Rattle.recording.specs.Shapes.{Shape, behind_in, call_shapes, line_shapes}
+
+-- this cause, where the word says nothing
+abbrev pub unless : {T : Type 0} → Option T → LineFault → Option LineFault
+unless (Some x) cause = None
+unless None cause = Some cause
+
+-- this cause, where the test fails
+abbrev pub unless_so : Bool → LineFault → Option LineFault
+unless_so true cause = None
+unless_so false cause = Some cause
+
+-- a name of at most so many bytes
+abbrev pub name_fault : ℕ → Option (List ℕ) → Option LineFault
+name_fault most None = Some BadHex
+name_fault most (Some text) = unless_so (nat_le (length text) most) BadName
+
+-- why a word is none of its kind
+abbrev pub word_fault : WordKind → List ℕ → Option LineFault
+word_fault Number word = unless (number_of word) BadNumber
+word_fault Positive word = unless (positive_of word) BadNumber
+word_fault Small word = unless (small_of word) BadNumber
+word_fault Signed word = unless (signed_of word) BadNumber
+word_fault Moment word = unless (moment_of word) BadNumber
+word_fault Flag word = unless (flag_of word) UnknownWord
+word_fault Text word = unless (text_of 16384 word) BadHex
+word_fault UserName word = name_fault 255 (text_of 16384 word)
+word_fault SessionId word = name_fault 512 (text_of 16384 word)
+word_fault SeatName word = unless_so (is_seat_name word) BadName
+word_fault Hex word = unless (hex_of word) BadHex
+word_fault Guid word = unless_so (is_guid word) BadHex
+word_fault Version word = unless_so (bytes_eq word (codes "1")) UnknownWord
+word_fault DeviceKind word = unless (device_kind_of word) UnknownWord
+word_fault Key word = unless (key_of word) UnknownWord
+word_fault Operation word = unless (operation_of word) UnknownWord
+word_fault Anything word = None
+
+-- the first fault of words of these kinds, or of the words behind them
+abbrev pub first_fault : List WordKind → (List (List ℕ) → Option LineFault) → List (List ℕ) → Option LineFault
+first_fault [] behind words = behind words
+first_fault (kind ∷ kinds) behind [] = Some MissingWord
+first_fault (kind ∷ kinds) behind (word ∷ words) = option_or (word_fault kind word) (first_fault kinds behind words)
+
+-- no word follows
+abbrev pub end_fault : List (List ℕ) → Option LineFault
+end_fault [] = None
+end_fault (word ∷ words) = Some ExtraWord
+
+-- the fault of the words behind a word of a fixed set, or that it is none of the set
+abbrev pub known_fault : Option (List WordKind) → List (List ℕ) → Option LineFault
+known_fault None words = Some UnknownWord
+known_fault (Some kinds) words = first_fault kinds end_fault words
+
+abbrev pub call_fault : List (List ℕ) → Option LineFault
+call_fault [] = Some MissingWord
+call_fault (word ∷ words) = known_fault (behind_in word call_shapes) words
+
+-- the first fault of a line's words; a line of the configuration has none
+abbrev pub words_fault : List (List ℕ) → Option LineFault
+words_fault [] = Some UnknownWord
+words_fault (word ∷ words) =
+    if bytes_eq word (codes "call") then first_fault (Positive ∷ Positive ∷ []) call_fault words
+    else if bytes_eq word (codes "send") then first_fault (Positive ∷ Positive ∷ []) call_fault words
+    else if bytes_eq word (codes "conf") then None
+    else known_fault (behind_in word line_shapes) words
+
+abbrev pub is_line_feed : Option ℕ → Bool
+is_line_feed None = false
+is_line_feed (Some b) = b == 10
+
+-- the bytes before a line feed at the end
+abbrev pub before_feed : List ℕ → List ℕ
+before_feed bytes = take (length bytes - 1) bytes
+
+-- the bytes of a line but for its line feed, if it has one
+abbrev pub text_of_line : List ℕ → List ℕ
+text_of_line bytes = if is_line_feed (last_or None bytes) then before_feed bytes else bytes
+
+-- why a line with its line feed, or the rest of a recording without one, is no line of the grammar
+unfoldable pub line_fault : List ℕ → Option LineFault
+line_fault bytes =
+    if not (nat_le (length (text_of_line bytes)) 16384) then Some TooLong
+    else if not (is_line_feed (last_or None bytes)) then Some Ended
+    else words_fault (slice_split (λ b. b == 32) (text_of_line bytes))

@@ -1,0 +1,238 @@
+// How facts are printed.
+
+ghost use Rattle.std.specs.Prelude.{◌≡◌, ◌++◌, ◌∷◌, OnOk, IfOk};
+ghost use Rattle.recording.specs.MarkWords.{absent_word, session_words_at, or_dash, type_word, class_word, whom_word, owner_words, chosen_word, handled_words, inhibited_words, what_word, mode_word, lock_words, skip_word, progress_words, fact_words};
+ghost use Rattle.recording.specs.Spaced.{spaced};
+
+use crate::call_text::push_operation;
+use crate::event_text::push_device_kind;
+use crate::key_text::push_device_word;
+use crate::line_text::LineText;
+use login_base::{NoMemory, SeatName};
+use login_model::{
+    Class, Fact, Inhibited, Key, KillWhom, Lock, LockMode, Operation, Owner, Phase, Session,
+    SessionType,
+};
+
+/// Adds that nothing is there.
+fn push_absent(text: &mut LineText, key: &Key) -> Result<(), NoMemory>
+    ensures { OnOk result (text.new ≡ text.old ++ 32 ∷ absent_word key.now) }
+{
+    match key {
+        Key::Conn(_) => text.word(b"gone"),
+        Key::User(_) => text.word(b"absent"),
+        Key::Seat(_) => text.word(b"absent"),
+        Key::Dev(_) => text.word(b"absent"),
+        _ => text.word(b"-"),
+    }
+}
+
+fn push_type(text: &mut LineText, session_type: SessionType) -> Result<(), NoMemory>
+    ensures { OnOk result (text.new ≡ text.old ++ 32 ∷ type_word session_type) }
+{
+    match session_type {
+        SessionType::Unspecified => text.push(b" unspecified"),
+        SessionType::Tty => text.push(b" tty"),
+        SessionType::X11 => text.push(b" x11"),
+        SessionType::Wayland => text.push(b" wayland"),
+        SessionType::Mir => text.push(b" mir"),
+        SessionType::Web => text.push(b" web"),
+    }
+}
+
+fn push_class(text: &mut LineText, class: Class) -> Result<(), NoMemory>
+    ensures { OnOk result (text.new ≡ text.old ++ 32 ∷ class_word class) }
+{
+    match class {
+        Class::User => text.push(b" user"),
+        Class::Greeter => text.push(b" greeter"),
+        Class::LockScreen => text.push(b" lock-screen"),
+        Class::Background => text.push(b" background"),
+    }
+}
+
+/// Adds a seat's name, or `-` for none.
+fn push_seat(text: &mut LineText, seat: Option<SeatName>) -> Result<(), NoMemory>
+    ensures { OnOk result (text.new ≡ text.old ++ 32 ∷ or_dash seat) }
+{
+    match seat {
+        Some(name) => {
+            text.push(b" ")?;
+            text.push(name.as_slice())
+        }
+        None => text.push(b" -"),
+    }
+}
+
+fn push_session_fact(text: &mut LineText, x: &Session) -> Result<(), NoMemory>
+    ensures { OnOk result (text.new ≡ text.old ++ spaced (session_words_at x.now.phase x.now)) }
+{
+    match x.phase {
+        Phase::Open => {
+            text.push(b" open")?;
+            text.number(x.uid.0)?;
+            push_seat(text, x.seat)?;
+            text.number(x.vt)?;
+            push_type(text, x.session_type)?;
+            push_class(text, x.class)
+        }
+        Phase::Closing => text.push(b" closing"),
+        Phase::Gone => text.push(b" gone"),
+    }
+}
+
+fn push_kill_whom(text: &mut LineText, whom: KillWhom) -> Result<(), NoMemory>
+    ensures { OnOk result (text.new ≡ text.old ++ 32 ∷ whom_word whom) }
+{
+    match whom {
+        KillWhom::Leader => text.word(b"leader"),
+        KillWhom::All => text.word(b"all"),
+    }
+}
+
+fn push_owner(text: &mut LineText, owner: &Owner) -> Result<(), NoMemory>
+    ensures { OnOk result (text.new ≡ text.old ++ spaced (owner_words owner.now)) }
+{
+    match owner {
+        Owner::Device(who, session, device) => {
+            text.word(b"device")?;
+            text.number(who.0)?;
+            text.session(*session)?;
+            push_device_word(text, *device)
+        }
+        Owner::Fifo(who, session) => {
+            text.word(b"fifo")?;
+            text.number(who.0)?;
+            text.session(*session)
+        }
+        Owner::Lock(who, lock) => {
+            text.word(b"lock")?;
+            text.number(who.0)?;
+            text.number(lock.0)
+        }
+        Owner::Closed => text.word(b"closed"),
+    }
+}
+
+/// Adds a colon and a word, where it is chosen.
+fn push_chosen(text: &mut LineText, on: bool, word: &[u8]) -> Result<(), NoMemory>
+    ensures { OnOk result (text.new ≡ text.old ++ chosen_word on word.now) }
+{
+    if !on {
+        return Ok(());
+    }
+    text.push(b":")?;
+    text.push(word)
+}
+
+/// Adds the keys and the lid that a lock holds up, each behind a colon.
+fn push_handled(text: &mut LineText, what: &Inhibited) -> Result<(), NoMemory>
+    ensures { OnOk result (text.new ≡ text.old ++ handled_words what.now) }
+{
+    push_chosen(text, what.handle_power_key, b"handle-power-key")?;
+    push_chosen(text, what.handle_suspend_key, b"handle-suspend-key")?;
+    push_chosen(text, what.handle_hibernate_key, b"handle-hibernate-key")?;
+    push_chosen(text, what.handle_lid_switch, b"handle-lid-switch")
+}
+
+/// Adds what a lock holds up, each behind a colon.
+fn push_inhibited(text: &mut LineText, what: &Inhibited) -> Result<(), NoMemory>
+    ensures { OnOk result (text.new ≡ text.old ++ inhibited_words what.now) }
+{
+    push_chosen(text, what.shutdown, b"shutdown")?;
+    push_chosen(text, what.sleep, b"sleep")?;
+    push_chosen(text, what.idle, b"idle")?;
+    push_handled(text, what)
+}
+
+/// Adds what a lock holds up as one word.
+fn push_what(text: &mut LineText, what: &Inhibited) -> Result<(), NoMemory>
+    ensures { OnOk result (text.new ≡ text.old ++ 32 ∷ what_word what.now) }
+{
+    let mut words = LineText::new(text.alloc());
+    push_inhibited(&mut words, what)?;
+    let words = words.into_word();
+    match words.as_slice() {
+        [_, rest @ ..] => text.word(rest),
+        [] => text.word(b""),
+    }
+}
+
+fn push_mode(text: &mut LineText, mode: LockMode) -> Result<(), NoMemory>
+    ensures { OnOk result (text.new ≡ text.old ++ 32 ∷ mode_word mode) }
+{
+    match mode {
+        LockMode::Block => text.word(b"block"),
+        LockMode::Delay => text.word(b"delay"),
+    }
+}
+
+fn push_lock(text: &mut LineText, lock: &Lock) -> Result<(), NoMemory>
+    ensures { OnOk result (text.new ≡ text.old ++ spaced (lock_words lock.now)) }
+{
+    push_what(text, &lock.what)?;
+    push_mode(text, lock.mode)?;
+    text.number(lock.uid.0)
+}
+
+fn push_skip(text: &mut LineText, skip: bool) -> Result<(), NoMemory>
+    ensures { OnOk result (text.new ≡ text.old ++ 32 ∷ skip_word skip) }
+{
+    if skip {
+        text.word(b"skip")
+    } else {
+        text.word(b"noskip")
+    }
+}
+
+fn push_progress(text: &mut LineText, operation: &Operation) -> Result<(), NoMemory>
+    ensures { OnOk result (text.new ≡ text.old ++ spaced (progress_words operation.now)) }
+{
+    match operation {
+        Operation::Idle => text.word(b"idle"),
+        Operation::Waiting(kind, since, skip) => {
+            text.word(b"waiting")?;
+            push_operation(text, *kind)?;
+            text.moment(since.0)?;
+            push_skip(text, *skip)
+        }
+        Operation::Running(kind) => {
+            text.word(b"running")?;
+            push_operation(text, *kind)
+        }
+    }
+}
+
+/// Adds the words of a key's fact.
+pub(crate) fn push_fact(text: &mut LineText, key: &Key, fact: &Fact) -> Result<(), NoMemory>
+    ensures { OnOk result (text.new ≡ text.old ++ spaced (fact_words key.now fact.now)) }
+{
+    match fact {
+        Fact::Absent => push_absent(text, key),
+        Fact::Connected(uid) => text.number(uid.0),
+        Fact::Session(x) => push_session_fact(text, x),
+        Fact::Flag(on) => text.flag(*on),
+        Fact::Signal(whom, n) => {
+            push_kill_whom(text, *whom)?;
+            text.signed(*n)
+        }
+        Fact::Controller(who) => text.number(who.0),
+        Fact::Known => text.word(b"known"),
+        Fact::Leaving(since) => {
+            text.word(b"leaving")?;
+            text.moment(since.0)
+        }
+        Fact::Owned(owner) => push_owner(text, owner),
+        Fact::Handle(handle) => text.number(handle.0),
+        Fact::Present => text.word(b"present"),
+        Fact::Active(session) => text.session(*session),
+        Fact::Number(n) => text.number(*n),
+        Fact::Moment(moment) => text.moment(moment.0),
+        Fact::Device(kind, seat) => {
+            push_device_kind(text, *kind)?;
+            text.word(seat.as_slice())
+        }
+        Fact::Lock(lock) => push_lock(text, lock),
+        Fact::Operation(operation) => push_progress(text, operation),
+    }
+}

@@ -1,0 +1,135 @@
+// What a written event means, and which events are built.
+
+ghost use Rattle.std.specs.Prelude.{◌≡◌, true, nat_le, length};
+ghost use Rattle.login_model.specs.Texts.{has_object};
+ghost use Rattle.recording.specs.Meaning.{are_short, meant_call, meant_event, has_object_event, is_built_call, is_built};
+
+use crate::word::is_word;
+use login_base::Word;
+use login_model::{Call, Event, Request};
+
+/// The most bytes of a text of a call.
+const MOST: usize = 512;
+
+fn is_short(text: &Word) -> bool
+    ensures { result ≡ nat_le (length text.now) 512 }
+{
+    text.len() <= MOST
+}
+
+/// Whether each text of a call has at most 512 bytes.
+fn are_short(call: &Call) -> bool
+    ensures { result ≡ are_short call.now }
+{
+    match call {
+        Call::Create(x) => {
+            is_short(&x.service)
+                && is_short(&x.session_type)
+                && is_short(&x.class)
+                && is_short(&x.desktop)
+                && is_short(&x.seat)
+                && is_short(&x.tty)
+                && is_short(&x.display)
+                && is_short(&x.remote_user)
+                && is_short(&x.remote_host)
+        }
+        Call::Inhibit(x) => {
+            is_short(&x.what) && is_short(&x.who) && is_short(&x.why) && is_short(&x.mode)
+        }
+        Call::GetProperty(x) | Call::SetProperty(x) => {
+            is_short(&x.path) && is_short(&x.interface) && is_short(&x.name)
+        }
+        Call::ActivateOnSeat(first, second)
+        | Call::Kill(first, second, _)
+        | Call::GetAllProperties(first, second) => is_short(first) && is_short(second),
+        Call::SetIdle(id, _) | Call::SetLocked(id, _) | Call::Control(id, _) => is_short(id),
+        Call::TakeDevice(id, _) | Call::ReleaseDevice(id, _) | Call::PauseComplete(id, _) => {
+            is_short(id)
+        }
+        Call::SwitchTo(seat, _) => is_short(seat),
+        Call::GetSession(text)
+        | Call::GetSeat(text)
+        | Call::Activate(text)
+        | Call::Lock(text)
+        | Call::Unlock(text)
+        | Call::Terminate(text)
+        | Call::TerminateSeat(text)
+        | Call::Uncontrol(text)
+        | Call::SwitchToNext(text)
+        | Call::SwitchToPrevious(text)
+        | Call::GetNameOwner(text)
+        | Call::AddMatch(text)
+        | Call::RemoveMatch(text) => is_short(text),
+        Call::GetUser(_) | Call::TerminateUser(_) | Call::SetLinger(_, _) => true,
+        Call::KillUser(_, _) | Call::ReadInput(_) | Call::SetMode(_, _) | Call::Close(_) => true,
+        Call::ListSessions | Call::ListUsers | Call::ListSeats | Call::ListInhibitors => true,
+        Call::LockAll | Call::UnlockAll | Call::Power(_) | Call::Can(_) => true,
+        Call::Ping | Call::GetMachineId | Call::Hello => true,
+        Call::NoCall | Call::NoObject | Call::NoMethod | Call::BadArguments => true,
+    }
+}
+
+/// What a call means that is written so.
+fn meant_call(call: Call) -> Call
+    requires { has_object call ≡ true }
+    ensures { result ≡ meant_call call }
+{
+    if are_short(&call) {
+        call
+    } else {
+        Call::BadArguments
+    }
+}
+
+/// What an event means that is written so.
+pub(crate) fn meant(event: Event) -> Event
+    requires { has_object_event event ≡ true }
+    ensures { result ≡ meant_event event }
+{
+    match event {
+        Event::Call(request) => {
+            let Request {
+                who,
+                serial,
+                quiet,
+                call,
+            } = request;
+            Event::Call(Request {
+                who,
+                serial,
+                quiet,
+                call: meant_call(call),
+            })
+        }
+        other => other,
+    }
+}
+
+fn is_built_call(call: &Call) -> bool
+    ensures { result ≡ is_built_call call.now }
+{
+    match call {
+        Call::Create(x) => {
+            is_word(x.session_type.as_slice(), b"tty")
+                && is_word(x.class.as_slice(), b"user")
+                && is_word(x.seat.as_slice(), b"seat0")
+                && 0 < x.vt
+                && x.vt < 64
+                && !x.remote
+        }
+        Call::Control(_, force) => !*force,
+        Call::Uncontrol(_) => true,
+        _ => false,
+    }
+}
+
+/// Whether an event is one of this stage.
+pub(crate) fn is_built(event: &Event) -> bool
+    ensures { result ≡ is_built event.now }
+{
+    match event {
+        Event::Connect(..) => true,
+        Event::Call(request) => !request.quiet && is_built_call(&request.call),
+        _ => false,
+    }
+}

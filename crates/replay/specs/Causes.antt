@@ -1,0 +1,65 @@
+-- Why a line of a recording is refused, and how that is printed.
+use Rattle.std.specs.Prelude.{ℕ, ◌≡◌, List, codes, Option, Some, None}
+use Rattle.recording.specs.declared.line.Line.{Line}
+use Rattle.recording.specs.declared.line.LineFault.{LineFault}
+use Rattle.recording.specs.declared.line.LineFault.TheVariants as fault
+use Rattle.recording.specs.Cut.{first_line}
+use Rattle.recording.specs.Causes.{line_fault}
+use Rattle.recording.specs.Lines.{spell, IsLine}
+use Rattle.recording.specs.Unbuilt.{IsUnbuilt}
+use Rattle.replay.specs.Front.{Front, Takes}
+use Rattle.replay.specs.declared.cause.Cause.{Cause}
+use Rattle.replay.specs.declared.cause.Cause.TheVariants.{UnknownWord, BadNumber, BadHex, MissingWord, ExtraWord, TooLong, WrongPlace, BadName, Ended, NotBuilt}
+
+abbrev pub cause_word : Cause → List ℕ
+cause_word UnknownWord = codes "unknown-word"
+cause_word BadNumber = codes "bad-number"
+cause_word BadHex = codes "bad-hex"
+cause_word MissingWord = codes "missing-word"
+cause_word ExtraWord = codes "extra-word"
+cause_word TooLong = codes "too-long"
+cause_word WrongPlace = codes "wrong-place"
+cause_word BadName = codes "bad-name"
+cause_word Ended = codes "ended"
+cause_word NotBuilt = codes "not-built"
+
+-- the fault of the line itself that a cause names; a line in a wrong place has none
+abbrev pub own_fault : Cause → Option LineFault
+own_fault UnknownWord = Some fault.UnknownWord
+own_fault BadNumber = Some fault.BadNumber
+own_fault BadHex = Some fault.BadHex
+own_fault MissingWord = Some fault.MissingWord
+own_fault ExtraWord = Some fault.ExtraWord
+own_fault TooLong = Some fault.TooLong
+own_fault WrongPlace = None
+own_fault BadName = Some fault.BadName
+own_fault Ended = Some fault.Ended
+own_fault NotBuilt = Some fault.NotBuilt
+
+abbrev pub MeansFault : LineFault → Option Cause → Type 0
+MeansFault f (Some cause) = own_fault cause ≡ Some f
+MeansFault f None = f ≡ fault.NoMemory
+
+-- the first line of what is left is refused for this cause, whatever stands before it: it is none of
+-- the grammar, or not built
+abbrev pub IsOwnCause : Cause → List ℕ → Type 0
+IsOwnCause WrongPlace rest = ⊥
+IsOwnCause NotBuilt rest = IsUnbuilt (first_line rest)
+IsOwnCause cause rest = line_fault (first_line rest) ≡ own_fault cause
+
+-- a built line that may not come next
+pub record IsMisplaced (front : Front) (rest : List ℕ) : Type 0 where
+  pub line : Line
+  pub is_line : IsLine line
+  pub spelled : first_line rest ≡ spell line
+  pub misplaced : Takes front line → ⊥
+
+-- the first line of what is left is refused for this cause, behind these lines: its own cause first,
+-- a wrong place last
+abbrev pub IsCause : Cause → Front → List ℕ → Type 0
+IsCause WrongPlace front rest = IsMisplaced front rest
+IsCause cause front rest = IsOwnCause cause rest
+
+-- behind the same lines, a line is refused for one cause
+abbrev pub OneCause : Type 0
+OneCause = (front : Front) (rest : List ℕ) (c d : Cause) → IsCause c front rest → IsCause d front rest → c ≡ d
