@@ -1,0 +1,34 @@
+# What the counts of instructions share; each script of them sources this. A program of bench/programs is
+# built beside a copy of the crates. The programs are kept as texts, since the gate takes each file of
+# the language for a part of a crate. A program is proved first, and so is each crate that it needs, which takes
+# some minutes where they were not proved on this machine before. The counts are those of callgrind
+# (valgrind), so they do not depend on what else runs.
+
+top=$(cd "$(dirname "$(readlink -f "${BASH_SOURCE[0]}")")/.." && pwd)
+work=$(mktemp -d)
+trap 'rm -rf "$work"' EXIT
+
+# Builds the program of bench/programs/$1, which needs the crates $2, by a run with the words behind.
+build() {
+    local name=$1 needs=$2
+    shift 2
+    mkdir -p "$work/crates/$name/src"
+    cp "$top/HANDLES" "$top/crates.txt" "$work/"
+    echo "$name: $needs" >>"$work/crates.txt"
+    (cd "$top" && tar cf - --exclude=out --exclude=must-fail crates) | tar xf - -C "$work"
+    local text
+    for text in "$top/bench/programs/$name"/*.txt; do
+        cp "$text" "$work/crates/$name/src/$(basename "$text" .txt).rt"
+    done
+    if ! (cd "$work/crates/$name" && rt run -- "$@" >"$work/log" 2>&1); then
+        tail -n 20 "$work/log" >&2
+        exit 1
+    fi
+    program=$work/crates/$name/out/$name
+}
+
+# The instructions of the program with these words, which it must answer with status 0.
+instructions() {
+    valgrind --tool=callgrind --callgrind-out-file=/dev/null "$program" "$@" 2>"$work/counted"
+    sed -n 's/.*Collected : \([0-9]*\).*/\1/p' "$work/counted"
+}
