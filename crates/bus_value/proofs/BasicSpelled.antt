@@ -74,7 +74,7 @@ zero_behind front text =
     let b : length body - 1 ≡ length (front ++ text) = omega arith in
     ap (λ (m : ℕ). eqb (get_or body m 0) 0) b ∙ ap (λ (x : List ℕ). eqb (get_or x (length (front ++ text)) 0) 0) same ∙ ap (λ (m : ℕ). eqb m 0) (get_or-append_seam (front ++ text) 0 [] 0)
 
-text_length : (o : Order) (text : List ℕ) → length (text_bytes o text) ≡ length text + 5
+pub text_length : (o : Order) (text : List ℕ) → length (text_bytes o text) ≡ length text + 5
 text_length o text =
     let a : length (text_bytes o text) ≡ length (number_bytes o 4 (length text)) + length (text ++ 0 ∷ []) = length-append (number_bytes o 4 (length text)) (text ++ 0 ∷ []) in
     let b : length (text ++ 0 ∷ []) ≡ length text + 1 = length-append text (0 ∷ []) in

@@ -14,3 +14,4 @@ pub mod NumberSound
 pub mod BasicSound
 pub mod ValueSound
 pub mod Fitting
+pub mod LengthLaws

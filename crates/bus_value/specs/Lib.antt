@@ -13,3 +13,4 @@ pub mod Reading
 pub mod Answers
 pub mod Opening
 pub mod Grammar
+pub mod Lengths

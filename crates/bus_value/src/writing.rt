@@ -1,8 +1,9 @@
 // How value lists are written.
 
-ghost use Rattle.std.specs.Prelude.{◌≡◌, IfOk};
+ghost use Rattle.std.specs.Prelude.{◌≡◌, ◌+◌, length, IfOk};
 ghost use Rattle.bus_value.specs.Values.{vals};
 ghost use Rattle.bus_value.specs.Spelling.{spellings};
+ghost use Rattle.bus_value.specs.Lengths.{values_end};
 ghost use Rattle.bus_value.specs.Limits.{AllFit};
 
 use crate::order::Order;
@@ -19,7 +20,8 @@ pub fn write_values(
     values: &Items<Value>,
 ) -> Result<Bytes, NoMemory>
     requires { AllFit order start (vals values.now) }
-    ensures { IfOk result (λ bytes. bytes ≡ spellings order start (vals values.now)) }
+    ensures spelled { IfOk result (λ bytes. bytes ≡ spellings order start (vals values.now)) }
+    ensures long { IfOk result (λ bytes. start + length bytes ≡ values_end start (vals values.now)) }
 {
     let mut out = Vec::new(alloc);
     for value in values.as_slice() {

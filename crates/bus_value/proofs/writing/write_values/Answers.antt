@@ -1,3 +1,8 @@
+use Rattle.std.proofs.Common.{◌≡◌, ◌∙◌, List, ap, arith}
+use Rattle.std.proofs.lemmas.List.{take_all}
+use Rattle.bus_value.specs.Values.{Val, vals}
+use Rattle.bus_value.specs.Spelling.{spellings}
+use Rattle.bus_value.proofs.LengthLaws.{spelled_length}
 use Rattle.bus_value.proofs.Rows.{first_fits, first_pushed}
 use Rattle.bus_value.proofs.writing.write_values.Goals as goal
 
@@ -10,3 +15,9 @@ pub loop-value-preserved : goal.loop-value-preserved
 loop-value-preserved c =
     first_pushed c.args.order c.args.start c.loop-value.out.items c.push.new.out.items c.loop-value.value-index c.as_slice-value-items.result.now c.value-item.result
     c.loop-value.invariant c.loop-value-test.true c.value-item.is c.in_ok-push.ensures
+
+pub returns-clause-long : goal.returns-clause-long
+returns-clause-long c =
+    let spelled : c.from_vec.result ≡ spellings c.args.order c.args.start (vals c.args.values.now) =
+    c.from_vec.ensures ∙ (c.loop-value.invariant ∙ ap (λ (vs : List Val). spellings c.args.order c.args.start (vals vs)) (take_all c.loop-value.value-index c.as_slice-value-items.result.now (omega (arith, c.loop-value-test.false)) ∙ c.as_slice-value-items.ensures)) in
+    spelled_length c.args.order c.args.start c.args.values.now c.from_vec.result spelled
