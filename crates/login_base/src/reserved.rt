@@ -72,11 +72,12 @@ impl<T> Reserved<T> {
         }
     }
 
-    /// The list without its spare. It takes no memory.
+    /// The list. The memory of its spare is given back, where the allocator can; it needs none.
     pub fn into_items(self) -> Items<T>
         ensures { result ≡ self.items }
     {
-        let Reserved { items } = self;
+        let Reserved { mut items } = self;
+        items.shrink_to_fit();
         Items::from_vec(items)
     }
 }

@@ -1,7 +1,7 @@
 -- Going over the names of a kind in order.
 use Rattle.std.proofs.Common.{◌≡◌, Bool, true, false, cond, Option, Some, None, List, [], ◌∷◌, filter, refl, ap, sym, ◌∙◌, subst, ◌⊎◌, inl, inr}
 use Rattle.login_model.specs.declared.fact.Key.{Key}
-use Rattle.login_model.specs.declared.fact.Key.TheVariants.{Conn, Sess, User, Seat, Dev, Lock}
+use Rattle.login_model.specs.declared.fact.Key.TheVariants.{Conn, Sess, User, Seat, Dev, Lock, Taken}
 use Rattle.login_model.specs.declared.fact.Fact.{Fact}
 use Rattle.login_model.specs.declared.mark.Mark.TheVariants.{Set, Say}
 use Rattle.login_model.specs.Same.{same_key}
@@ -10,7 +10,9 @@ use Rattle.login_model.specs.Kind.{IsOrder, AreKeys}
 use Rattle.login_model.specs.Start.{seat0}
 use Rattle.login_model.specs.Names.{insert, insert_some, names, is_above, IsNext, session_lt, user_lt, conn_lt, seat_lt, device_lt, lock_lt, session_in, user_in, conn_in, seat_in, device_in, lock_in}
 use Rattle.login_model.specs.Where.{is_session, is_user, is_connected, is_seat, is_device, is_lock, is_session_fact, is_user_fact, is_connected_fact, is_seat_fact, is_device_fact, is_lock_fact}
-use Rattle.login_model.proofs.NameLaws.{session_order, user_order, conn_order, seat_order, device_order, lock_order, session_keys, user_keys, conn_keys, seat_keys, device_keys, lock_keys}
+use Rattle.login_base.specs.declared.ids.SessId.{SessId}
+use Rattle.login_model.specs.Devices.{taken_in, is_taken, is_handle_fact}
+use Rattle.login_model.proofs.NameLaws.{session_order, user_order, conn_order, seat_order, device_order, lock_order, session_keys, user_keys, conn_keys, seat_keys, device_keys, lock_keys, taken_keys}
 use Rattle.login_model.proofs.Keys.{same_key-true, test, chosen}
 
 abbrev pub IsIn : {A : Type 0} → A → List A → Type 0
@@ -177,6 +179,9 @@ devices-enumerated t = enumerated device_lt device_order device_in Dev is_device
 pub locks-enumerated : (t : Trail) → Enumerates lock_lt (is_lock t) (names lock_lt lock_in t)
 locks-enumerated t = enumerated lock_lt lock_order lock_in Lock is_lock_fact None lock_keys t
 
+pub taken-enumerated : (t : Trail) (s : SessId) → Enumerates device_lt (is_taken t s) (names device_lt (taken_in s) t)
+taken-enumerated t s = enumerated device_lt device_order (taken_in s) (Taken s) is_handle_fact None (taken_keys s) t
+
 -- the names of a list that are there and above that one
 unfoldable pub rest : {A : Type 0} → (A → A → Bool) → (A → Bool) → List A → Option A → List A
 rest lt there xs above = filter (is_above lt above) (filter there xs)
@@ -190,7 +195,7 @@ first-same lt o x xs y ys a b (inl e) j = e
 first-same lt o x xs y ys a b (inr i) (inl e) = sym e
 first-same lt o x xs y ys a b (inr i) (inr j) = absurd (lt-not lt o x y (a.0 y j) (b.0 x i))
 
-not-self : {A : Type 0} (lt : A → A → Bool) (o : IsOrder lt) (x y : A) → x ≡ y → lt x y ≡ true → ⊥
+pub not-self : {A : Type 0} (lt : A → A → Bool) (o : IsOrder lt) (x y : A) → x ≡ y → lt x y ≡ true → ⊥
 not-self lt o x y e p = let q = o.irreflexive x in let z : true ≡ false = sym p ∙ ap (lt x) (sym e) ∙ q in cc
 
 pub same-ascending : {A : Type 0} (lt : A → A → Bool) (o : IsOrder lt) (xs ys : List A) → Ascending lt xs → Ascending lt ys → ((x : A) → IsIn x xs → IsIn x ys) → ((x : A) → IsIn x ys → IsIn x xs) → xs ≡ ys
@@ -246,3 +251,11 @@ unfolding rest
 rest-all lt there xs n =
     same-ascending lt n.order (filter (is_above lt None) (filter there xs)) (filter there xs) (filter-ascending lt (is_above lt None) (filter there xs) (filter-ascending lt there xs n.ascending)) (filter-ascending lt there xs n.ascending)
     (λ a i. filter-in (is_above lt None) a (filter there xs) i) (λ a i. filter-keeps (is_above lt None) a (filter there xs) refl i)
+
+-- those above a name stay where the same ones are there
+pub rest-stays : {A : Type 0} (lt : A → A → Bool) (p q : A → Bool) (xs ys : List A) → Enumerates lt p xs → Enumerates lt q ys → (d : A) → ((e : A) → lt d e ≡ true → p e ≡ q e)
+    → rest lt p xs (Some d) ≡ rest lt q ys (Some d)
+rest-stays lt p q xs ys m n d same =
+    same-ascending lt m.order (rest lt p xs (Some d)) (rest lt q ys (Some d)) (rest-ascending lt p xs m (Some d)) (rest-ascending lt q ys n (Some d))
+    (λ e i. (let g = rest-gives lt p xs (Some d) e i in in-rest lt q ys n (Some d) e (sym (same e g.1) ∙ g.0) g.1))
+    (λ e i. (let g = rest-gives lt q ys (Some d) e i in in-rest lt p xs m (Some d) e (same e g.1 ∙ g.0) g.1))

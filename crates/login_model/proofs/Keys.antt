@@ -33,10 +33,10 @@ same-number a b h = grind (arith, nat_tests)
 pub same-session : (a b : SessId) → (a.0 == b.0) ≡ true → a ≡ b
 same-session a b h = ap (λ (x : ℕ). let r : SessId = record { 0 = x } in r) (same-number a.0 b.0 h)
 
-same-user : (a b : Uid) → (a.0 == b.0) ≡ true → a ≡ b
+pub same-user : (a b : Uid) → (a.0 == b.0) ≡ true → a ≡ b
 same-user a b h = ap (λ (x : ℕ). let r : Uid = record { 0 = x } in r) (same-number a.0 b.0 h)
 
-same-handle : (a b : HandleNo) → (a.0 == b.0) ≡ true → a ≡ b
+pub same-handle : (a b : HandleNo) → (a.0 == b.0) ≡ true → a ≡ b
 same-handle a b h = ap (λ (x : ℕ). let r : HandleNo = record { 0 = x } in r) (same-number a.0 b.0 h)
 
 pub same-device : (a b : DevNo) → same_device a b ≡ true → a ≡ b

@@ -1,5 +1,5 @@
 -- The orders and the keys of the kinds of names.
-use Rattle.std.proofs.Common.{◌≡◌, ℕ, ◌==◌, ◌&&◌, ◌||◌, nat_lt, Bool, true, false, cond, Option, Some, None, List, [], ◌∷◌, refl, ap, sym, ◌∙◌, subst, arith}
+use Rattle.std.proofs.Common.{◌≡◌, ℕ, ◌==◌, nat_lt, Bool, true, false, cond, Some, None, List, [], ◌∷◌, refl, ap, sym, ◌∙◌, subst, arith, inl, inr}
 use Rattle.std.proofs.lemmas.Bool.Decides.{nat_tests}
 use Rattle.std.specs.Str.{bytes_eq}
 use Rattle.login_base.specs.declared.ids.SessId.{SessId}
@@ -12,9 +12,10 @@ use Rattle.login_model.specs.Kind.{IsOrder, AreKeys}
 use Rattle.login_model.specs.Names.{session_lt, user_lt, conn_lt, seat_lt, device_lt, lock_lt, session_in, user_in, conn_in, seat_in, device_in, lock_in}
 use Rattle.login_model.specs.Where.{is_session_fact, is_user_fact, is_connected_fact, is_seat_fact, is_device_fact, is_lock_fact}
 use Rattle.login_model.specs.declared.fact.Key.{Key}
-use Rattle.login_model.specs.declared.fact.Key.TheVariants.{Conn, Sess, User, Seat, Dev, Lock}
+use Rattle.login_model.specs.declared.fact.Key.TheVariants.{Conn, Sess, User, Seat, Dev, Lock, Taken}
 use Rattle.login_model.specs.declared.fact.Fact.TheVariants.{Present, Absent}
-use Rattle.login_model.proofs.Keys.{same-bytes, test}
+use Rattle.login_model.specs.Devices.{taken_in, is_handle_fact}
+use Rattle.login_model.proofs.Keys.{same-bytes, same-session, chosen}
 
 lt-irreflexive : (a : ℕ) → nat_lt a a ≡ false
 lt-irreflexive a = grind (arith, nat_tests)
@@ -138,6 +139,34 @@ device-own _ a e = cc
 
 pub device_keys : AreKeys device_in Dev is_device_fact (None)
 device_keys = record { own = device-own; named = λ a. refl; start = λ a h. absurd (no-flag h); begins = λ a e. absurd (no-name e) }
+
+-- a device that a session has taken
+some-same : (d a : DevNo) → Some d ≡ Some a → d ≡ a
+some-same d a e = cc
+
+none-taken : (d a : DevNo) → None ≡ Some a → ⊥
+none-taken d a e = cc
+
+taken-by : (s r : SessId) (d a : DevNo) → cond (r.0 == s.0) (Some d) None ≡ Some a → Taken r d ≡ Taken s a
+taken-by s r d a e = elim (chosen (r.0 == s.0) (Some d) None (Some a) e) [
+  | inl p ↦ ap (λ (x : SessId). Taken x d) (same-session r s p.0) ∙ ap (Taken s) (some-same d a p.1)
+  | inr p ↦ absurd (none-taken d a p.1)
+]
+
+taken-own : (s : SessId) (k : Key) (a : DevNo) → taken_in s k ≡ Some a → k ≡ Taken s a
+taken-own s (Taken r d) a e = taken-by s r d a e
+taken-own s _ a e = cc
+
+same-self : (n : ℕ) → (n == n) ≡ true
+same-self n = grind (arith, nat_tests)
+
+pub taken_keys : (s : SessId) → AreKeys (taken_in s) (Taken s) is_handle_fact None
+taken_keys s = record {
+  own = taken-own s;
+  named = λ a. ap (λ (b : Bool). cond b (Some a) None) (same-self s.0);
+  start = λ a h. absurd (no-flag h);
+  begins = λ a e. absurd (no-name e);
+}
 
 lock-own : (k : Key) (a : LockNo) → lock_in k ≡ Some a → k ≡ Lock a
 lock-own (Lock s) a e = cc

@@ -1,117 +1,194 @@
--- What a granted event does by itself, and what it is answered.
-use Rattle.std.specs.Prelude.{ℕ, ◌==◌, if◌then◌else◌, Option, Some, None, List, codes}
+-- What a granted event does by itself.
+use Rattle.std.specs.Prelude.{ℕ, ◌==◌, nat_le, ◌-◌, Bool, true, false, if◌then◌else◌, Option, Some, None, List, filter, codes}
 use Rattle.std.specs.Str.{bytes_eq}
 use Rattle.login_base.specs.declared.ids.SessId.{SessId}
+use Rattle.login_base.specs.declared.ids.Uid.{Uid}
 use Rattle.login_base.specs.declared.ids.ConnId.{ConnId}
 use Rattle.login_base.specs.declared.ids.HandleNo.{HandleNo}
-use Rattle.login_base.specs.Seat.{is_seat_name}
+use Rattle.login_base.specs.declared.ids.LockNo.{LockNo}
+use Rattle.login_base.specs.declared.ids.Millis.{Millis}
 use Rattle.login_base.specs.SessionId.{session_of}
-use Rattle.login_model.specs.declared.fact.Key.TheVariants.{Conn, Sess, Ctl, Owner}
+use Rattle.login_model.specs.declared.fact.Key.TheVariants as key
+use Rattle.login_model.specs.declared.fact.Fact.{Fact}
 use Rattle.login_model.specs.declared.fact.Fact.TheVariants as fact
-use Rattle.login_model.specs.declared.fact.Owner.TheVariants.{Fifo}
-use Rattle.login_model.specs.declared.session.Session.{Session}
-use Rattle.login_model.specs.declared.session.SessionType.{SessionType}
-use Rattle.login_model.specs.declared.session.SessionType.TheVariants.{Unspecified, Tty, X11, Wayland, Mir, Web}
-use Rattle.login_model.specs.declared.session.Class.{Class}
-use Rattle.login_model.specs.declared.session.Class.TheVariants as class
-use Rattle.login_model.specs.declared.session.Phase.TheVariants.{Open}
-use Rattle.login_model.specs.declared.call.Creation.{Creation}
+use Rattle.login_model.specs.declared.fact.Owner.TheVariants as owner
+use Rattle.login_model.specs.declared.session.Phase.TheVariants.{Gone}
+use Rattle.login_model.specs.declared.session.KillWhom.{KillWhom}
+use Rattle.login_model.specs.declared.session.KillWhom.TheVariants as whom
+use Rattle.login_model.specs.declared.setup.Setup.{Setup}
 use Rattle.login_model.specs.declared.call.Call.{Call}
-use Rattle.login_model.specs.declared.call.Call.TheVariants.{Create, Control, Uncontrol}
+use Rattle.login_model.specs.declared.call.Call.TheVariants as call
+use Rattle.login_model.specs.declared.hardware.Hardware.{Hardware}
+use Rattle.login_model.specs.declared.hardware.Hardware.TheVariants.{VtKey, Exit}
 use Rattle.login_model.specs.declared.event.Event.{Event}
-use Rattle.login_model.specs.declared.event.Event.TheVariants.{Connect, Call as Calls}
-use Rattle.login_model.specs.declared.mark.Notice.TheVariants.{SessionNew}
-use Rattle.login_model.specs.declared.answer.Answer.{Answer}
-use Rattle.login_model.specs.declared.answer.Answer.TheVariants.{Nothing, Created}
-use Rattle.login_model.specs.Trail.{Trail, put, tell_all}
+use Rattle.login_model.specs.declared.event.Event.TheVariants.{Connect, Disconnect, Call as Calls, Hardware as Happens, Tick, Stop}
+use Rattle.login_model.specs.declared.mark.Notice.TheVariants.{Lock, Unlock, SessionRemoved}
+use Rattle.login_model.specs.Trail.{Trail, value, put, tell_all}
+use Rattle.login_model.specs.Start.{seat0}
 use Rattle.login_model.specs.Fresh.{next_session, next_handle}
-use Rattle.login_model.specs.Policy.{controls}
-use Rattle.login_model.specs.Procedure.{release, know, tell_appeared}
+use Rattle.login_model.specs.Where.{sessions, open_sessions, sessions_on, sessions_of, seat_of_session, users, locks}
+use Rattle.login_model.specs.Policy.{controls, meant_user}
+use Rattle.login_model.specs.Procedure.{each, if_some, yes, no, untake, release, oust, set_phase, shut, front, know, forget, leave}
+use Rattle.login_model.specs.Switching.{request}
+use Rattle.login_model.specs.Creating.{create}
+use Rattle.login_model.specs.Turning.{vt_in, turn_to_next, turn_to_previous}
 
--- the type that a text names; the empty one is unspecified
-abbrev pub type_of : List ℕ → SessionType
-type_of text =
-    if bytes_eq text (codes "tty") then Tty
-    else if bytes_eq text (codes "x11") then X11
-    else if bytes_eq text (codes "wayland") then Wayland
-    else if bytes_eq text (codes "mir") then Mir
-    else if bytes_eq text (codes "web") then Web
-    else Unspecified
+-- a session is brought to its seat: on seat0 its terminal is asked for
+abbrev pub activate_on : Option (List ℕ) → SessId → Trail → Trail
+activate_on None s t = t
+activate_on (Some seat) s t = if bytes_eq seat seat0 then request (vt_in (value t (key.Sess s))) t else front seat s t
 
--- the class that a text names; the empty one is user
-abbrev pub class_of : List ℕ → Class
-class_of text =
-    if bytes_eq text (codes "greeter") then class.Greeter
-    else if bytes_eq text (codes "lock-screen") then class.LockScreen
-    else if bytes_eq text (codes "background") then class.Background
-    else class.User
+unfoldable pub activate : SessId → Trail → Trail
+activate s t = activate_on (seat_of_session t s) s t
 
--- the seat that a text names, if it names one
-abbrev pub seat_of : List ℕ → Option (List ℕ)
-seat_of text = if is_seat_name text then Some text else None
+-- whom a text names; the empty one is all
+abbrev pub whom_of : List ℕ → KillWhom
+whom_of text = if bytes_eq text (codes "leader") then whom.Leader else whom.All
 
--- the process that leads a session: process 0 stands for the caller
-abbrev pub leader_of : ConnId → ℕ → ConnId
-leader_of c process = if process == 0 then c else record { 0 = process }
+abbrev pub lock_session : SessId → Trail → Trail
+lock_session s t = tell_all (Lock s) t
 
--- the session that a call creates
-abbrev pub created_session : ConnId → Creation → HandleNo → Session
-created_session c x fifo = record {
-  phase = Open;
-  uid = x.uid;
-  seat = seat_of x.seat;
-  vt = x.vt;
-  session_type = type_of x.session_type;
-  class = class_of x.class;
-  leader = leader_of c x.process;
-  fifo = fifo;
-  remote = x.remote;
-  texts = record {
-    service = x.service;
-    desktop = x.desktop;
-    tty = x.tty;
-    display = x.display;
-    remote_user = x.remote_user;
-    remote_host = x.remote_host;
-  };
-}
+abbrev pub unlock_session : SessId → Trail → Trail
+unlock_session s t = tell_all (Unlock s) t
 
--- the user is known; a fresh handle is the fifo of a fresh session; the session is open; all are told
--- of it, and that it is active, where it is
-unfoldable pub create : ConnId → Creation → SessId → HandleNo → Trail → Trail
-create c x s h t =
-    tell_appeared s
-    (tell_all (SessionNew s)
-    (put (Sess s) (fact.Session (created_session c x h))
-    (put (Owner h) (fact.Owned (Fifo c s))
-    (know x.uid t))))
+-- a user lingers: the user is known
+abbrev pub begin_linger : Uid → Trail → Trail
+begin_linger u t = know u (put (key.Linger u) yes t)
 
--- a connection takes control, unless it has it
+-- a user lingers no more, and leaves if nothing else keeps them
+abbrev pub leave_known : Setup → Uid → Fact → Trail → Trail
+leave_known U u fact.Known t = leave U u t
+leave_known U u _ t = t
+
+abbrev pub end_linger : Setup → Uid → Trail → Trail
+end_linger U u t = leave_known U u (value (put (key.Linger u) no t) (key.User u)) (put (key.Linger u) no t)
+
+abbrev pub linger : Setup → Uid → Bool → Trail → Trail
+linger U u true t = begin_linger u t
+linger U u false t = end_linger U u t
+
+-- a connection takes control: from another one, if there is one
+abbrev pub control_from : Fact → ConnId → SessId → Trail → Trail
+control_from (fact.Controller b) c s t = if b.0 == c.0 then t else oust s c t
+control_from _ c s t = put (key.Ctl s) (fact.Controller c) t
+
 unfoldable pub control : ConnId → SessId → Trail → Trail
-control c s t = if controls t c s then t else put (Ctl s) (fact.Controller c) t
+control c s t = control_from (value t (key.Ctl s)) c s t
+
+-- a handle is closed
+abbrev pub close_handle : HandleNo → Trail → Trail
+close_handle h t = put (key.Owner h) (fact.Owned owner.Closed) t
+
+abbrev pub is_this_handle : HandleNo → Fact → Bool
+is_this_handle h (fact.Handle g) = g.0 == h.0
+is_this_handle h _ = false
+
+-- and what its owner's fact names goes with it: the session of a fifo is shut, a lock is gone, a device
+-- that is taken with it is not taken
+abbrev pub close_owned : HandleNo → Fact → Trail → Trail
+close_owned h (fact.Owned (owner.Fifo c s)) t = shut s (close_handle h t)
+close_owned h (fact.Owned (owner.Lock c l)) t = close_handle h (put (key.Lock l) fact.Absent t)
+close_owned h (fact.Owned (owner.Device c s d)) t = close_handle h (if is_this_handle h (value t (key.Taken s d)) then untake s d t else t)
+close_owned h _ t = t
+
+unfoldable pub close : HandleNo → Trail → Trail
+close h t = close_owned h (value t (key.Owner h)) t
 
 -- f of the session that an id names, if it names one
-abbrev pub at_session : (SessId → Trail → Trail) → Option SessId → Trail → Trail
-at_session f (Some s) t = f s t
-at_session f None t = t
+abbrev pub at_session : (SessId → Trail → Trail) → List ℕ → Trail → Trail
+at_session f id t = if_some f (session_of id) t
 
-abbrev pub direct_call : ConnId → Call → Trail → Trail
-direct_call c (Create x) t = create c x (next_session t) (next_handle t) t
-direct_call c (Control id force) t = at_session (control c) (session_of id) t
-direct_call c (Uncontrol id) t = at_session release (session_of id) t
-direct_call c _ t = t
+abbrev pub direct_call : Setup → ConnId → Call → Trail → Trail
+direct_call U c (call.Create x) t = create c x (next_session t) (next_handle t) t
+direct_call U c (call.Activate id) t = at_session activate id t
+direct_call U c (call.ActivateOnSeat id seat) t = at_session activate id t
+direct_call U c (call.Lock id) t = at_session lock_session id t
+direct_call U c (call.Unlock id) t = at_session unlock_session id t
+direct_call U c call.LockAll t = each lock_session (open_sessions t) t
+direct_call U c call.UnlockAll t = each unlock_session (open_sessions t) t
+direct_call U c (call.Kill id who signal) t = at_session (λ s u. put (key.Sig s) (fact.Signal (whom_of who) signal) u) id t
+direct_call U c (call.Terminate id) t = at_session shut id t
+direct_call U c (call.TerminateUser u) t = each shut (sessions_of t u.0) t
+direct_call U c (call.TerminateSeat seat) t = each shut (sessions_on t seat) t
+direct_call U c (call.SetLinger u on) t = linger U (record { 0 = meant_user t c u.0 }) on t
+direct_call U c (call.SetIdle id on) t = at_session (λ s u. put (key.Idle s) (fact.Flag on) u) id t
+direct_call U c (call.SetLocked id on) t = at_session (λ s u. put (key.Locked s) (fact.Flag on) u) id t
+direct_call U c (call.Control id force) t = at_session (control c) id t
+direct_call U c (call.Uncontrol id) t = at_session release id t
+direct_call U c (call.SwitchTo seat vt) t = request vt t
+direct_call U c (call.SwitchToNext seat) t = turn_to_next seat t
+direct_call U c (call.SwitchToPrevious seat) t = turn_to_previous seat t
+direct_call U c (call.KillUser u signal) t = each (λ s v. put (key.Sig s) (fact.Signal whom.All signal) v) (sessions_of t u.0) t
+direct_call U c (call.Close h) t = close h t
+direct_call U c _ t = t
+
+-- the sessions that a connection controls, in order
+unfoldable pub controlled_by : Trail → ConnId → List SessId
+controlled_by t c = filter (controls t c) (sessions t)
+
+abbrev pub is_fifo_of : ConnId → Fact → Bool
+is_fifo_of c (fact.Owned (owner.Fifo b s)) = b.0 == c.0
+is_fifo_of c _ = false
+
+abbrev pub fifo_of : Fact → HandleNo
+fifo_of (fact.Session x) = x.fifo
+fifo_of _ = record { 0 = 0 }
+
+-- the open sessions whose fifo a connection owns, in order
+unfoldable pub kept_open_by : Trail → ConnId → List SessId
+kept_open_by t c = filter (λ s. is_fifo_of c (value t (key.Owner (fifo_of (value t (key.Sess s)))))) (open_sessions t)
+
+abbrev pub is_held_by : ConnId → Fact → Bool
+is_held_by c (fact.Lock l) = l.holder.0 == c.0
+is_held_by c _ = false
+
+-- the locks of a connection, in order
+unfoldable pub locks_of : Trail → ConnId → List LockNo
+locks_of t c = filter (λ l. is_held_by c (value t (key.Lock l))) (locks t)
+
+-- the sessions that a connection keeps open are shut
+abbrev pub end_sessions : ConnId → Trail → Trail
+end_sessions c t = each shut (kept_open_by t c) t
+
+-- the locks of a connection are gone
+abbrev pub unlock : ConnId → Trail → Trail
+unlock c t = each (λ l u. put (key.Lock l) fact.Absent u) (locks_of t c) t
+
+-- a connection gives back what it controls, the sessions that it keeps open are shut, its locks are
+-- gone, and so is it
+unfoldable pub disconnect : ConnId → Trail → Trail
+disconnect c t = put (key.Conn c) fact.Absent (unlock c (end_sessions c (each release (controlled_by t c) t)))
+
+abbrev pub owner_of : Fact → Uid
+owner_of (fact.Session x) = x.uid
+owner_of _ = record { 0 = 0 }
+
+-- the last process of a session is gone
+unfoldable pub exit : Setup → SessId → Trail → Trail
+exit U s t = leave U (owner_of (value t (key.Sess s))) (tell_all (SessionRemoved s) (set_phase s Gone (shut s t)))
+
+abbrev pub is_overdue_fact : Setup → ℕ → Fact → Bool
+is_overdue_fact U m (fact.Leaving since) = nat_le U.conf.user_stop_delay.0 (m - since.0)
+is_overdue_fact U m _ = false
+
+-- the users whose delay is over at a moment, in order
+unfoldable pub overdue : Setup → Trail → ℕ → List Uid
+overdue U t m = filter (λ u. is_overdue_fact U m (value t (key.User u))) (users t)
+
+-- the clock stands at a moment, and users whose delay is over are absent
+unfoldable pub tick : Setup → Millis → Trail → Trail
+tick U m t = each forget (overdue U t m.0) (put key.Now (fact.Moment m) t)
+
+abbrev pub happen : Setup → Hardware → Trail → Trail
+happen U (VtKey vt) t = request vt t
+happen U (Exit id) t = at_session (exit U) id t
+happen U _ t = t
 
 -- the marks so far, and then those that a granted event makes by itself; what is not built makes none yet
-unfoldable pub direct : Event → Trail → Trail
-direct (Connect c u) t = put (Conn c) (fact.Connected u) t
-direct (Calls r) t = direct_call r.who r.call t
-direct _ t = t
-
-abbrev pub call_answer : Trail → Call → Answer
-call_answer t (Create x) = Created (record { session = next_session t; fifo = next_handle t; uid = x.uid; seat = seat_of x.seat; vt = x.vt })
-call_answer t _ = Nothing
-
--- what a granted event is answered
-unfoldable pub answer : Trail → Event → Answer
-answer t (Calls r) = call_answer t r.call
-answer t _ = Nothing
+unfoldable pub direct : Setup → Event → Trail → Trail
+direct U (Connect c u) t = put (key.Conn c) (fact.Connected u) t
+direct U (Disconnect c) t = disconnect c t
+direct U (Calls r) t = direct_call U r.who r.call t
+direct U (Happens x) t = happen U x t
+direct U (Tick m) t = tick U m t
+direct U Stop t = t

@@ -1,8 +1,8 @@
 -- How connections stand to the machine's seats.
-use Rattle.std.specs.Prelude.{ℕ, ◌==◌, ◌&&◌, if◌then◌else◌, Bool, false}
+use Rattle.std.specs.Prelude.{ℕ, ◌==◌, ◌&&◌, if◌then◌else◌, Bool, false, find}
 use Rattle.std.specs.Option.{is_some}
-use Rattle.std.specs.List.{list_any}
 use Rattle.login_base.specs.declared.ids.ConnId.{ConnId}
+use Rattle.login_base.specs.declared.ids.SessId.{SessId}
 use Rattle.login_model.specs.declared.fact.Key.TheVariants.{Conn, Sess}
 use Rattle.login_model.specs.declared.fact.Fact.{Fact}
 use Rattle.login_model.specs.declared.fact.Fact.TheVariants.{Connected, Session}
@@ -22,13 +22,16 @@ abbrev pub is_seated_of : ℕ → Fact → Bool
 is_seated_of uid (Session x) = is_open_of uid (Session x) && is_some x.seat
 is_seated_of uid _ = false
 
+abbrev pub is_active_of : Trail → ℕ → SessId → Bool
+is_active_of t uid s = is_open_of uid (value t (Sess s)) && is_active t s
+
 -- an open session of the user is active on its seat
 abbrev pub has_active : Trail → ℕ → Bool
-has_active t uid = list_any (λ s. is_open_of uid (value t (Sess s)) && is_active t s) (sessions t)
+has_active t uid = is_some (find (is_active_of t uid) (sessions t))
 
 -- an open session of the user has a seat
 abbrev pub has_seat : Trail → ℕ → Bool
-has_seat t uid = list_any (λ s. is_seated_of uid (value t (Sess s))) (sessions t)
+has_seat t uid = is_some (find (λ s. is_seated_of uid (value t (Sess s))) (sessions t))
 
 -- how a user's connections stand
 unfoldable pub standing_of : Trail → ℕ → Standing

@@ -1,5 +1,5 @@
 -- Who is where.
-use Rattle.std.specs.Prelude.{ℕ, ◌==◌, ◌&&◌, not, Bool, true, false, Option, Some, None, List, filter, find}
+use Rattle.std.specs.Prelude.{ℕ, ◌==◌, ◌&&◌, ◌||◌, not, if◌then◌else◌, Bool, true, false, Option, Some, None, List, filter, find}
 use Rattle.std.specs.Str.{bytes_eq}
 use Rattle.login_base.specs.declared.ids.SessId.{SessId}
 use Rattle.login_base.specs.declared.ids.Uid.{Uid}
@@ -8,13 +8,13 @@ use Rattle.login_base.specs.declared.ids.DevNo.{DevNo}
 use Rattle.login_base.specs.declared.ids.LockNo.{LockNo}
 use Rattle.login_model.specs.declared.fact.Key.TheVariants as key
 use Rattle.login_model.specs.declared.fact.Fact.{Fact}
-use Rattle.login_model.specs.declared.fact.Fact.TheVariants.{Connected, Session, Known, Leaving, Present, Device, Lock, Number}
+use Rattle.login_model.specs.declared.fact.Fact.TheVariants.{Connected, Session, Known, Leaving, Present, Active, Device, Lock, Number, Flag, Moment}
 use Rattle.login_model.specs.declared.session.Phase.{Phase}
 use Rattle.login_model.specs.declared.session.Phase.TheVariants.{Gone}
 use Rattle.login_model.specs.Trail.{Trail, value}
 use Rattle.login_model.specs.Start.{seat0}
 use Rattle.login_model.specs.Names.{names, insert, session_lt, conn_lt, user_lt, seat_lt, device_lt, lock_lt, session_in, conn_in, user_in, seat_in, device_in, lock_in}
-use Rattle.login_model.specs.Fresh.{is_open_phase}
+use Rattle.login_model.specs.Fresh.{is_open_phase, is_open_fact}
 
 abbrev pub is_connected_fact : Fact → Bool
 is_connected_fact (Connected u) = true
@@ -109,10 +109,91 @@ abbrev pub is_on_terminal : Fact → Fact → Bool
 is_on_terminal terminal (Session x) = is_open_phase x.phase && is_seat0 x.seat && is_number x.vt terminal
 is_on_terminal terminal _ = false
 
--- whether a session is active on seat0: it is open, and its terminal is the current one
-abbrev pub is_active : Trail → SessId → Bool
-is_active t s = is_on_terminal (value t key.Vt) (value t (key.Sess s))
+-- the number that a fact tells
+abbrev pub number_in : Fact → ℕ
+number_in (Number n) = n
+number_in _ = 0
+
+-- the current virtual terminal
+abbrev pub current_vt : Trail → ℕ
+current_vt t = number_in (value t key.Vt)
+
+-- whether a session is open
+abbrev pub is_open : Trail → SessId → Bool
+is_open t s = is_open_fact (value t (key.Sess s))
+
+abbrev pub seat_in_fact : Fact → Option (List ℕ)
+seat_in_fact (Session x) = x.seat
+seat_in_fact _ = None
+
+-- the seat of a session, if it has one
+abbrev pub seat_of_session : Trail → SessId → Option (List ℕ)
+seat_of_session t s = seat_in_fact (value t (key.Sess s))
+
+abbrev pub is_this_seat : List ℕ → Option (List ℕ) → Bool
+is_this_seat seat (Some name) = bytes_eq name seat
+is_this_seat seat None = false
+
+-- whether a session is on a seat
+abbrev pub is_on_seat : Trail → List ℕ → SessId → Bool
+is_on_seat t seat s = is_this_seat seat (seat_of_session t s)
 
 -- the open session of seat0 that has a virtual terminal
 unfoldable pub session_on : Trail → ℕ → Option SessId
 session_on t v = find (λ s. is_on_terminal (Number v) (value t (key.Sess s))) (sessions t)
+
+-- the session that was made active on a seat without virtual terminals, if it is open
+abbrev pub acting : Trail → Fact → Option SessId
+acting t (Active s) = if is_open t s then Some s else None
+acting t _ = None
+
+-- the session that is active on a seat: on seat0 that of the current virtual terminal
+unfoldable pub active_on : Trail → List ℕ → Option SessId
+active_on t seat = if bytes_eq seat seat0 then session_on t (current_vt t) else acting t (value t (key.Act seat))
+
+abbrev pub is_acting_fact : SessId → Fact → Bool
+is_acting_fact s (Active r) = r.0 == s.0
+is_acting_fact s _ = false
+
+abbrev pub is_acting_on : Trail → SessId → Option (List ℕ) → Bool
+is_acting_on t s None = false
+is_acting_on t s (Some seat) = not (bytes_eq seat seat0) && is_acting_fact s (value t (key.Act seat))
+
+-- whether a session of this fact was made active on its seat, which has no virtual terminals
+abbrev pub is_acting : Trail → SessId → Fact → Bool
+is_acting t s (Session x) = is_open_phase x.phase && is_acting_on t s x.seat
+is_acting t s _ = false
+
+-- whether a session is active on its seat: it is open; on seat0 its terminal is the current one, and
+-- another seat has it as its active session
+abbrev pub is_active : Trail → SessId → Bool
+is_active t s = is_on_terminal (value t key.Vt) (value t (key.Sess s)) || is_acting t s (value t (key.Sess s))
+
+-- the open sessions, in order
+unfoldable pub open_sessions : Trail → List SessId
+open_sessions t = filter (is_open t) (sessions t)
+
+-- the sessions on a seat that are not gone, in order
+unfoldable pub sessions_on : Trail → List ℕ → List SessId
+sessions_on t seat = filter (is_on_seat t seat) (sessions t)
+
+-- the user of a session's fact
+abbrev pub is_user_in : ℕ → Fact → Bool
+is_user_in uid (Session x) = x.uid.0 == uid
+is_user_in uid _ = false
+
+-- the sessions of a user that are not gone, in order
+unfoldable pub sessions_of : Trail → ℕ → List SessId
+sessions_of t uid = filter (λ s. is_user_in uid (value t (key.Sess s))) (sessions t)
+
+abbrev pub is_set : Fact → Bool
+is_set (Flag b) = b
+is_set _ = false
+
+abbrev pub moment_in : Fact → ℕ
+moment_in (Moment m) = m.0
+moment_in _ = 0
+
+-- the moment that the clock reached last
+abbrev pub now : Trail → ℕ
+now t = moment_in (value t key.Now)

@@ -1,6 +1,6 @@
 // What a granted call is answered.
 
-use login_base::{HandleNo, SeatName, SessId, Uid};
+use login_base::{HandleNo, Items, SeatName, SessId, Uid, Word};
 
 /// What CreateSession of org.freedesktop.login1(5) answers. The object path and the runtime
 /// directory follow from the session and the user; that the session existed before is always false.
@@ -13,11 +13,42 @@ pub struct Created {
     pub vt: u32,
 }
 
+/// A row of what ListSessions of org.freedesktop.login1(5) answers. The object path follows from the
+/// session.
+#[derive(Debug, Drop)]
+pub struct SessionRow {
+    pub session: SessId,
+    pub uid: Uid,
+    /// The user's name in the setup.
+    pub name: Word,
+    pub seat: Option<SeatName>,
+}
+
+/// A row of what ListUsers of org.freedesktop.login1(5) answers. The object path follows from the user.
+#[derive(Debug, Drop)]
+pub struct KnownUser {
+    pub uid: Uid,
+    /// The user's name in the setup.
+    pub name: Word,
+}
+
 /// The values of a reply.
-#[derive(Clone, Copy, Debug)]
+#[derive(Debug, Drop)]
 pub enum Answer {
     /// No value: an event that is no call, a denied one, and a call that answers nothing.
     Nothing,
     /// CreateSession.
     Created(Created),
+    /// GetSession: the path of the session's object.
+    Session(SessId),
+    /// GetUser: the path of the user's object.
+    User(Uid),
+    /// GetSeat: the path of the seat's object.
+    Seat(SeatName),
+    /// ListSessions.
+    Sessions(Items<SessionRow>),
+    /// ListUsers.
+    Users(Items<KnownUser>),
+    /// ListSeats: their names; the object paths follow from them.
+    Seats(Items<SeatName>),
 }

@@ -4,7 +4,8 @@ ghost use Rattle.std.specs.Prelude.{◌≡◌};
 ghost use Rattle.std.specs.Str.{bytes_eq};
 ghost use Rattle.login_model.specs.Same.{same_device, same_key, same_phase, same_type, same_class, same_seat, same_texts, same_session, same_whom, same_owner, same_device_kind, same_handled, same_inhibited, same_mode, same_lock, same_kind, same_operation, same_fact};
 ghost use Rattle.login_model.specs.Start.{seat0};
-ghost use Rattle.login_model.specs.Where.{is_connected_fact, is_session_fact, is_user_fact, is_seat_fact, is_device_fact, is_lock_fact, is_seat0, is_number, is_on_terminal};
+ghost use Rattle.login_model.specs.Where.{is_connected_fact, is_session_fact, is_user_fact, is_seat_fact, is_device_fact, is_lock_fact, is_seat0, is_number, is_on_terminal, is_set};
+ghost use Rattle.login_model.specs.Devices.{is_handle_fact};
 ghost use Rattle.login_model.specs.Fresh.{is_open_fact, is_owned_fact};
 
 use crate::fact::{Fact, Key, Owner};
@@ -402,6 +403,26 @@ pub fn is_device_fact(fact: &Fact) -> bool
 {
     match fact {
         Fact::Device(_, _) => true,
+        _ => false,
+    }
+}
+
+/// Whether the fact is that of a device that is taken.
+pub fn is_handle_fact(fact: &Fact) -> bool
+    ensures { result ≡ is_handle_fact fact.now }
+{
+    match fact {
+        Fact::Handle(_) => true,
+        _ => false,
+    }
+}
+
+/// Whether the fact is a yes.
+pub fn is_set(fact: &Fact) -> bool
+    ensures { result ≡ is_set fact.now }
+{
+    match fact {
+        Fact::Flag(is_so) => *is_so,
         _ => false,
     }
 }

@@ -5,6 +5,7 @@ ghost use Rattle.login_model.specs.Trail.{Trail, value};
 ghost use Rattle.login_model.specs.Fresh.{next_handle};
 ghost use Rattle.login_model.specs.Names.{IsNext, session_lt, user_lt, conn_lt, seat_lt, device_lt, lock_lt};
 ghost use Rattle.login_model.specs.Where.{is_session, is_user, is_connected, is_seat, is_device, is_lock};
+ghost use Rattle.login_model.specs.Devices.{is_taken};
 
 use crate::fact::{Fact, Key};
 use login_base::{ConnId, DevNo, HandleNo, LockNo, SeatName, SessId, Uid};
@@ -39,6 +40,10 @@ pub trait Look {
     /// The next device that is present.
     fn next_device(&self, after: Option<DevNo>) -> Option<DevNo>
         ensures { IsNext device_lt (is_device (trail self.now)) after result };
+
+    /// The next device that a session has taken.
+    fn next_taken(&self, session: SessId, after: Option<DevNo>) -> Option<DevNo>
+        ensures { IsNext device_lt (is_taken (trail self.now) session) after result };
 
     /// The next lock that stands.
     fn next_lock(&self, after: Option<LockNo>) -> Option<LockNo>

@@ -1,5 +1,7 @@
 // What the machine is like before the first event.
 
+use crate::conf::Conf;
+use crate::table::Table;
 use login_base::{Items, Uid, Word};
 
 /// A user of the machine, as a line of passwd(5) has it.
@@ -11,8 +13,13 @@ pub struct UserRow {
     pub name: Word,
 }
 
-/// The machine before the first event: its users. Root, with number 0, is always one beside them.
+/// The machine before the first event: who it is, its users, its configuration and its policy. Root,
+/// with number 0, is always one beside the users.
 #[derive(Debug, Drop)]
 pub struct Setup {
+    /// The identity of the server: 32 hex digits in lower case.
+    pub guid: Word,
     pub users: Items<UserRow>,
+    pub conf: Conf,
+    pub table: Table,
 }

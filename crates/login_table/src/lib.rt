@@ -1,6 +1,12 @@
-//! Names of each kind in order, and what tables of facts are made of.
+//! Names of each kind in order, what is found by going over them, and tables of facts.
 #![tactic(auto)]
 
+mod active;
+mod listed;
 mod name;
+mod search;
 
+pub use active::{OnTerminal, active_on, current_vt, is_active, seat_of_session, session_on};
+pub use listed::{Listed, are_at_least, count, count_sessions, list};
 pub use name::{Name, Order};
+pub use search::{SessionTest, find_session};

@@ -1,0 +1,151 @@
+-- Nothing is known of numbers that were not given out.
+use Rattle.std.proofs.Common.{◌≡◌, ◌≤◌, ◌<◌, ◌+◌, ℕ, nat_lt, Bool, true, false, cond, Some, None, ◌∷◌, refl, ap, sym, ◌∙◌, arith, ◌⊎◌, inl, inr}
+use Rattle.std.proofs.lemmas.Bool.Decides.{nat_tests}
+use Rattle.login_base.specs.declared.ids.SessId.{SessId}
+use Rattle.login_base.specs.declared.ids.HandleNo.{HandleNo}
+use Rattle.login_model.specs.Same.{same_key, same_fact}
+use Rattle.login_model.specs.Start.{start_fact}
+use Rattle.login_model.specs.Trail.{Trail, value, put}
+use Rattle.login_model.specs.Fresh.{fresh_handle, fresh_session, is_open_fact, is_owned_fact}
+use Rattle.login_model.specs.Sound.{Unused, about_handle, about_session}
+use Rattle.login_model.specs.declared.fact.Key.{Key}
+use Rattle.login_model.specs.declared.fact.Key.TheVariants as key
+use Rattle.login_model.specs.declared.fact.Fact.{Fact}
+use Rattle.login_model.specs.declared.fact.Fact.TheVariants as fact
+use Rattle.login_model.specs.declared.mark.Mark.TheVariants.{Set, Say}
+use Rattle.login_model.specs.declared.mark.Whom.{Whom}
+use Rattle.login_model.specs.declared.mark.Notice.{Notice}
+use Rattle.login_model.proofs.Keys.{same_key-true, test}
+use Rattle.login_model.proofs.Values.{value-put, upd-other}
+
+below : (a b : ℕ) → nat_lt a b ≡ true → a < b
+below a b e = grind (arith, nat_tests)
+
+above : (a b : ℕ) → nat_lt a b ≡ false → b ≤ a
+above a b e = grind (arith, nat_tests)
+
+not-both : (a b : ℕ) → a < b → b ≤ a → ⊥
+not-both a b p q = omega arith
+
+pub at-most : (a b c : ℕ) → a ≤ b → b ≤ c → a ≤ c
+at-most a b c p q = omega arith
+
+-- the numbers grow
+more-if : (b : Bool) (n : ℕ) → n ≤ cond b (n + 1) n
+more-if true n = omega arith
+more-if false n = omega arith
+
+set-sessions : (k : Key) (x : Fact) (t : Trail) → fresh_session t ≤ fresh_session (Set k x ∷ t)
+unfolding fresh_session
+set-sessions (key.Sess s) x t = more-if (is_open_fact x) (fresh_session t)
+set-sessions _ x t = omega arith
+
+set-handles : (k : Key) (x : Fact) (t : Trail) → fresh_handle t ≤ fresh_handle (Set k x ∷ t)
+unfolding fresh_handle
+set-handles (key.Owner h) x t = more-if (is_owned_fact x) (fresh_handle t)
+set-handles _ x t = omega arith
+
+cond-sessions : (b : Bool) (k : Key) (x : Fact) (t : Trail) → fresh_session t ≤ fresh_session (cond b t (Set k x ∷ t))
+cond-sessions true k x t = omega arith
+cond-sessions false k x t = set-sessions k x t
+
+cond-handles : (b : Bool) (k : Key) (x : Fact) (t : Trail) → fresh_handle t ≤ fresh_handle (cond b t (Set k x ∷ t))
+cond-handles true k x t = omega arith
+cond-handles false k x t = set-handles k x t
+
+pub put-sessions : (k : Key) (x : Fact) (t : Trail) → fresh_session t ≤ fresh_session (put k x t)
+unfolding put
+put-sessions k x t = cond-sessions (same_fact (value t k) x) k x t
+
+pub put-handles : (k : Key) (x : Fact) (t : Trail) → fresh_handle t ≤ fresh_handle (put k x t)
+unfolding put
+put-handles k x t = cond-handles (same_fact (value t k) x) k x t
+
+-- a setting of what was given out, or back to the start
+pub record IsGiven (t : Trail) (k : Key) (x : Fact) : Type 0 where
+  pub session : (s : SessId) → about_session k ≡ Some s → (x ≡ start_fact k) ⊎ (s.0 < fresh_session t)
+  pub handle : (h : HandleNo) → about_handle k ≡ Some h → (x ≡ start_fact k) ⊎ (h.0 < fresh_handle t)
+
+pub unused-put : (k : Key) (x : Fact) (t : Trail) → IsGiven (put k x t) k x → Unused t → Unused (put k x t)
+unused-put k x t g w = record {
+  sessions = λ j s a l. elim (test (same_key k j)) [
+    | inl e ↦ (let z = same_key-true k j e in
+        elim (g.session s (ap about_session z ∙ a)) [
+          | inl q ↦ value-put k j x t ∙ ap (λ (b : Bool). cond b x (value t j)) e ∙ q ∙ ap start_fact z
+          | inr q ↦ absurd (not-both s.0 (fresh_session (put k x t)) q l)
+        ])
+    | inr e ↦ value-put k j x t ∙ upd-other k j x (value t) e ∙ w.sessions j s a (at-most (fresh_session t) (fresh_session (put k x t)) s.0 (put-sessions k x t) l)
+  ];
+  handles = λ j h a l. elim (test (same_key k j)) [
+    | inl e ↦ (let z = same_key-true k j e in
+        elim (g.handle h (ap about_handle z ∙ a)) [
+          | inl q ↦ value-put k j x t ∙ ap (λ (b : Bool). cond b x (value t j)) e ∙ q ∙ ap start_fact z
+          | inr q ↦ absurd (not-both h.0 (fresh_handle (put k x t)) q l)
+        ])
+    | inr e ↦ value-put k j x t ∙ upd-other k j x (value t) e ∙ w.handles j h a (at-most (fresh_handle t) (fresh_handle (put k x t)) h.0 (put-handles k x t) l)
+  ];
+}
+
+-- a setting back to the start
+pub unused-start : (k : Key) (t : Trail) → Unused t → Unused (put k (start_fact k) t)
+unused-start k t w = unused-put k (start_fact k) t (record { session = λ s e. inl refl; handle = λ h e. inl refl }) w
+
+pub unused-say : (n : Whom) (m : Notice) (t : Trail) → Unused t → Unused (Say n m ∷ t)
+unfolding value fresh_session fresh_handle
+unused-say n m t w = record { sessions = w.sessions; handles = w.handles }
+
+-- what is about no session and no handle
+pub unused-plain : (k : Key) (x : Fact) (t : Trail) → about_session k ≡ None → about_handle k ≡ None → Unused t → Unused (put k x t)
+unused-plain k x t a b w = unused-put k x t (record {
+  session = λ s e. (let z : None ≡ Some s = sym a ∙ e in cc);
+  handle = λ h e. (let z : None ≡ Some h = sym b ∙ e in cc);
+}) w
+
+-- what is about a session that was given out
+pub unused-session : (k : Key) (x : Fact) (s : SessId) (t : Trail) → about_session k ≡ Some s → about_handle k ≡ None → s.0 < fresh_session t → Unused t → Unused (put k x t)
+unused-session k x s t a b l w = unused-put k x t (record {
+  session = λ r e. inr (let z : Some s ≡ Some r = sym a ∙ e in let y : s ≡ r = cc in let m = put-sessions k x t in let q : s.0 ≡ r.0 = ap (λ (v : SessId). v.0) y in omega arith);
+  handle = λ h e. (let z : None ≡ Some h = sym b ∙ e in cc);
+}) w
+
+-- what is about a handle that was given out
+pub unused-handle : (k : Key) (x : Fact) (h : HandleNo) (t : Trail) → about_session k ≡ None → about_handle k ≡ Some h → h.0 < fresh_handle (put k x t) → Unused t → Unused (put k x t)
+unused-handle k x h t a b l w = unused-put k x t (record {
+  session = λ r e. (let z : None ≡ Some r = sym a ∙ e in cc);
+  handle = λ g e. inr (let z : Some h ≡ Some g = sym b ∙ e in let y : h ≡ g = cc in let q : h.0 ≡ g.0 = ap (λ (v : HandleNo). v.0) y in omega arith);
+}) w
+
+-- a fact that is not the start's is of a number that was given out
+pub session-given : (k : Key) (s : SessId) (t : Trail) → Unused t → about_session k ≡ Some s → (value t k ≡ start_fact k → ⊥) → s.0 < fresh_session t
+session-given k s t w a n = by (test (nat_lt s.0 (fresh_session t))) where
+  by : ((nat_lt s.0 (fresh_session t) ≡ true) ⊎ (nat_lt s.0 (fresh_session t) ≡ false)) → s.0 < fresh_session t
+  by (inl e) = below s.0 (fresh_session t) e
+  by (inr e) = absurd (n (w.sessions k s a (above s.0 (fresh_session t) e)))
+
+pub handle-given : (k : Key) (h : HandleNo) (t : Trail) → Unused t → about_handle k ≡ Some h → (value t k ≡ start_fact k → ⊥) → h.0 < fresh_handle t
+handle-given k h t w a n = by (test (nat_lt h.0 (fresh_handle t))) where
+  by : ((nat_lt h.0 (fresh_handle t) ≡ true) ⊎ (nat_lt h.0 (fresh_handle t) ≡ false)) → h.0 < fresh_handle t
+  by (inl e) = below h.0 (fresh_handle t) e
+  by (inr e) = absurd (n (w.handles k h a (above h.0 (fresh_handle t) e)))
+
+-- a fresh handle is given out
+put-new : (k : Key) (x : Fact) (t : Trail) → value t k ≡ fact.Absent → same_fact fact.Absent x ≡ false → put k x t ≡ Set k x ∷ t
+unfolding put
+put-new k x t e n = ap (λ (f : Fact). cond (same_fact f x) t (Set k x ∷ t)) e ∙ ap (λ (b : Bool). cond b t (Set k x ∷ t)) n
+
+owned-set : (h : HandleNo) (x : Fact) (t : Trail) → is_owned_fact x ≡ true → fresh_handle (Set (key.Owner h) x ∷ t) ≡ fresh_handle t + 1
+unfolding fresh_handle
+owned-set h x t e = ap (λ (b : Bool). cond b (fresh_handle t + 1) (fresh_handle t)) e
+
+pub handle-new : (h : HandleNo) (x : Fact) (t : Trail) → value t (key.Owner h) ≡ fact.Absent → same_fact fact.Absent x ≡ false → is_owned_fact x ≡ true
+    → fresh_handle (put (key.Owner h) x t) ≡ fresh_handle t + 1
+handle-new h x t e n o = ap fresh_handle (put-new (key.Owner h) x t e n) ∙ owned-set h x t o
+
+-- a fresh session opens
+open-set : (s : SessId) (x : Fact) (t : Trail) → is_open_fact x ≡ true → fresh_session (Set (key.Sess s) x ∷ t) ≡ fresh_session t + 1
+unfolding fresh_session
+open-set s x t e = ap (λ (b : Bool). cond b (fresh_session t + 1) (fresh_session t)) e
+
+pub session-new : (s : SessId) (x : Fact) (t : Trail) → value t (key.Sess s) ≡ fact.Absent → same_fact fact.Absent x ≡ false → is_open_fact x ≡ true
+    → fresh_session (put (key.Sess s) x t) ≡ fresh_session t + 1
+session-new s x t e n o = ap fresh_session (put-new (key.Sess s) x t e n) ∙ open-set s x t o

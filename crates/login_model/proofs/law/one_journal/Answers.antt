@@ -1,0 +1,5 @@
+use Rattle.login_model.proofs.JournalLaws.{one-journal}
+use Rattle.login_model.proofs.law.one_journal.Goals as goal
+
+pub returns : goal.returns
+returns c = one-journal

@@ -1,0 +1,41 @@
+-- Which setups there are so far: the preamble gives users, and the rest is the default.
+use Rattle.std.specs.Prelude.{ℕ, ◌≡◌, ◌≢◌, ◌≤◌, ◌<◌, ◌&&◌, ◌||◌, nat_le, Bool, true, List, [], ◌∷◌, length, codes}
+use Rattle.login_model.specs.Conf.{default_conf}
+use Rattle.login_model.specs.Table.{default_table}
+use Rattle.login_model.specs.Texts.{IsText}
+use Rattle.login_model.specs.declared.setup.Setup.{Setup}
+use Rattle.login_model.specs.declared.setup.UserRow.{UserRow}
+use Rattle.std.specs.List.{AllByRecursion, list_all}
+
+-- the identity of the server where the preamble says nothing
+abbrev pub default_guid : List ℕ
+default_guid = codes "0123456789abcdef0123456789abcdef"
+
+abbrev pub is_hex_byte : ℕ → Bool
+is_hex_byte b = (nat_le 48 b && nat_le b 57) || (nat_le 97 b && nat_le b 102)
+
+-- 32 hex digits in lower case
+pub record IsGuid (guid : List ℕ) : Type 0 where
+  pub digits : list_all is_hex_byte guid ≡ true
+  pub long : length guid ≡ 32
+
+-- no row is of this user
+abbrev pub IsNewUser : ℕ → List UserRow → Type 0
+IsNewUser uid rows = AllByRecursion (λ (row : UserRow). row.uid.0 ≢ uid) rows
+
+abbrev pub AreDistinct : List UserRow → Type 0
+AreDistinct [] = Unit {0}
+AreDistinct (row ∷ rows) = IsNewUser row.uid.0 rows × AreDistinct rows
+
+-- a user of the preamble: not root, with a name of at most 255 bytes
+pub record IsUserRow (row : UserRow) : Type 0 where
+  pub not_root : 0 < row.uid.0
+  pub named : IsText 255 row.name
+
+pub record IsSetup (U : Setup) : Type 0 where
+  pub guid : IsGuid U.guid
+  pub users : AllByRecursion IsUserRow U.users
+  pub distinct : AreDistinct U.users
+  pub most : length U.users ≤ 1024
+  pub conf : U.conf ≡ default_conf
+  pub table : U.table ≡ default_table
