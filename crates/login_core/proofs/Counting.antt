@@ -1,7 +1,7 @@
 -- Numbers that were not given out, after one more mark.
-use Rattle.std.proofs.Common.{◌≡◌, ℕ, ◌+◌, ◌≤◌, Bool, true, false, cond, [], ◌∷◌, refl, arith}
+use Rattle.std.proofs.Common.{◌≡◌, ℕ, ◌+◌, ◌≤◌, Bool, true, false, cond, [], ◌∷◌, length, refl, sym, add-one, arith}
 use Rattle.login_model.specs.declared.fact.Key.{Key}
-use Rattle.login_model.specs.declared.fact.Key.TheVariants.{Conn, Sess, Ctl, User, Owner, Vt}
+use Rattle.login_model.specs.declared.fact.Key.TheVariants.{Sess, Owner}
 use Rattle.login_model.specs.declared.fact.Fact.{Fact}
 use Rattle.login_model.specs.declared.mark.Mark.TheVariants.{Set, Say}
 use Rattle.login_model.specs.declared.mark.Whom.{Whom}
@@ -60,3 +60,47 @@ put-handles false k x t = omega (arith, handles-set k x t)
 pub handles-put : (k : Key) (x : Fact) (t : Trail) → fresh_handle (put k x t) ≤ fresh_handle t + gives k x
 unfolding put
 handles-put k x t = put-handles (same_fact (value t k) x) k x t
+
+-- there are at most as many as marks, and one
+bit : (b : Bool) → cond b 1 0 ≤ 1
+bit true = omega arith
+bit false = omega arith
+
+none-set : 0 ≤ 1
+none-set = omega arith
+
+pub opens-bound : (k : Key) (x : Fact) → opens k x ≤ 1
+opens-bound (Sess s) x = bit (is_open_fact x)
+opens-bound _ x = none-set
+
+pub gives-bound : (k : Key) (x : Fact) → gives k x ≤ 1
+gives-bound (Owner h) x = bit (is_owned_fact x)
+gives-bound _ x = none-set
+
+pub sessions-bound : (t : Trail) → fresh_session t ≤ length t + 1
+sessions-bound [] = let e = sessions-none in omega arith
+sessions-bound (Set k x ∷ t) =
+    let e = sessions-set k x t in
+    let b = opens-bound k x in
+    let h = sessions-bound t in
+    let n : length (Set k x ∷ t) ≡ length t + 1 = sym (add-one (length t)) in
+    omega arith
+sessions-bound (Say w m ∷ t) =
+    let e = sessions-say w m t in
+    let h = sessions-bound t in
+    let n : length (Say w m ∷ t) ≡ length t + 1 = sym (add-one (length t)) in
+    omega arith
+
+pub handles-bound : (t : Trail) → fresh_handle t ≤ length t + 1
+handles-bound [] = let e = handles-none in omega arith
+handles-bound (Set k x ∷ t) =
+    let e = handles-set k x t in
+    let b = gives-bound k x in
+    let h = handles-bound t in
+    let n : length (Set k x ∷ t) ≡ length t + 1 = sym (add-one (length t)) in
+    omega arith
+handles-bound (Say w m ∷ t) =
+    let e = handles-say w m t in
+    let h = handles-bound t in
+    let n : length (Say w m ∷ t) ≡ length t + 1 = sym (add-one (length t)) in
+    omega arith

@@ -1,59 +1,106 @@
--- Going over the sessions and the connections in order.
-use Rattle.std.proofs.Common.{◌≡◌, ℕ, ◌+◌, ◌<◌, Bool, true, false, cond, Option, Some, None, List, length, find, filter, nat_le, ap, sym, ◌∙◌, arith, add-one}
-use Rattle.std.proofs.lemmas.Bool.Decides.{nat_tests}
-use Rattle.login_base.specs.declared.ids.SessId.{SessId}
-use Rattle.login_base.specs.declared.ids.ConnId.{ConnId}
-use Rattle.login_model.specs.declared.fact.Key.TheVariants.{Sess}
-use Rattle.login_model.specs.declared.fact.Fact.TheVariants.{Number}
-use Rattle.login_model.specs.Trail.{Trail, value}
-use Rattle.login_model.specs.Names.{names, IsNext, session_lt, conn_lt, session_in, conn_in}
-use Rattle.login_model.specs.Where.{is_session, is_connected, is_on_terminal, sessions, connections, session_on}
-use Rattle.login_model.proofs.InOrder.{Enumerates, rest, rest-none, rest-next, rest-all, sessions-enumerated, connections-enumerated}
+-- Going over the names of a kind in order while marks are made.
+use Rattle.std.proofs.Common.{◌≡◌, ◌+◌, ◌<◌, ◌≤◌, Bool, true, Option, Some, None, List, [], ◌∷◌, length, refl, ap, sym, ◌∙◌, arith, add-one}
+use Rattle.login_model.specs.Trail.{Trail}
+use Rattle.login_model.specs.Names.{IsNext}
+use Rattle.login_model.specs.Procedure.{each}
+use Rattle.login_model.proofs.Grows.{Grows, each-grows}
+use Rattle.login_model.proofs.InOrder.{Enumerates, rest, rest-none, rest-next, rest-stays}
+use Rattle.login_core.specs.declared.machine.Machine.{Machine}
+use Rattle.login_core.specs.Board.{trail}
 
-rest-found : {A : Type 0} (lt : A → A → Bool) (there p : A → Bool) (xs : List A) → Enumerates lt there xs → (above : Option A) (a : A) → IsNext lt there above (Some a) → p a ≡ true → find p (rest lt there xs above) ≡ Some a
-rest-found {A} lt there p xs n above a h e = ap (find p) (rest-next lt there xs n above a h) ∙ ap (λ (b : Bool). cond b (Some a) (find p (rest lt there xs (Some a)))) e
+-- the names of a kind that are there, which a list has
+pub record Tour (A : Type 0) : Type 0 where
+  pub lt : A → A → Bool
+  pub there : Trail → A → Bool
+  pub list : Trail → List A
+  pub whole : (t : Trail) → Enumerates lt (there t) (list t)
 
-rest-other : {A : Type 0} (lt : A → A → Bool) (there p : A → Bool) (xs : List A) → Enumerates lt there xs → (above : Option A) (a : A) → IsNext lt there above (Some a) → p a ≡ false → find p (rest lt there xs (Some a)) ≡ find p (rest lt there xs above)
-rest-other {A} lt there p xs n above a h e = sym (ap (find p) (rest-next lt there xs n above a h) ∙ ap (λ (b : Bool). cond b (Some a) (find p (rest lt there xs (Some a)))) e)
+-- those above a name
+abbrev pub left : {A : Type 0} → Tour A → Trail → Option A → List A
+left k t above = rest k.lt (k.there t) (k.list t) above
 
-rest-count : {A : Type 0} (lt : A → A → Bool) (there : A → Bool) (xs : List A) → Enumerates lt there xs → (above : Option A) (a : A) → IsNext lt there above (Some a) → length (rest lt there xs above) ≡ length (rest lt there xs (Some a)) + 1
-rest-count {A} lt there xs n above a h = ap length (rest-next lt there xs n above a h) ∙ sym (add-one (length (rest lt there xs (Some a))))
+-- f of a name leaves the names above alone
+abbrev pub KeepsAbove : {A : Type 0} → Tour A → (A → Trail → Trail) → Type 0
+KeepsAbove {A} k f = (d e : A) (t : Trail) → k.lt d e ≡ true → k.there (f d t) e ≡ k.there t e
 
--- the open session of seat0 that has a terminal
-abbrev pub left : Trail → Option SessId → List SessId
-left t above = rest session_lt (is_session t) (names session_lt session_in t) above
+-- f only adds marks
+abbrev pub Adds : {A : Type 0} → (A → Trail → Trail) → Type 0
+Adds {A} f = (d : A) (t : Trail) → Grows t (f d t)
 
-abbrev pub has : Trail → ℕ → SessId → Bool
-has t v s = is_on_terminal (Number v) (value t (Sess s))
+-- f of those that are left, from now, is f of all, from the start
+pub record Going {A : Type 0} (k : Tour A) (f : A → Trail → Trail) (all : List A) (above : Option A) (start now : Machine) : Type 0 where
+  pub marked : each f (left k (trail now) above) (trail now) ≡ each f all (trail start)
+  pub journal : now.journal ≡ start.journal
 
-pub on-start : (t : Trail) (v : ℕ) → find (has t v) (left t None) ≡ session_on t v
-unfolding session_on sessions
-on-start t v = ap (find (has t v)) (rest-all session_lt (is_session t) (names session_lt session_in t) (sessions-enumerated t))
+each-none : {A : Type 0} (f : A → Trail → Trail) (t : Trail) → each f [] t ≡ t
+unfolding each
+each-none f t = refl
 
-pub on-found : (t : Trail) (v : ℕ) (above : Option SessId) (s : SessId) → IsNext session_lt (is_session t) above (Some s) → has t v s ≡ true → find (has t v) (left t above) ≡ Some s
-on-found t v above s = rest-found session_lt (is_session t) (has t v) (names session_lt session_in t) (sessions-enumerated t) above s
+each-more : {A : Type 0} (f : A → Trail → Trail) (x : A) (xs : List A) (t : Trail) → each f (x ∷ xs) t ≡ each f xs (f x t)
+unfolding each
+each-more f x xs t = refl
 
-pub on-other : (t : Trail) (v : ℕ) (above : Option SessId) (s : SessId) → IsNext session_lt (is_session t) above (Some s) → has t v s ≡ false → find (has t v) (left t (Some s)) ≡ find (has t v) (left t above)
-on-other t v above s = rest-other session_lt (is_session t) (has t v) (names session_lt session_in t) (sessions-enumerated t) above s
+pub going-start : {A : Type 0} (k : Tour A) (f : A → Trail → Trail) (all : List A) (m : Machine) → left k (trail m) None ≡ all → Going k f all None m m
+going-start {A} k f all m e = record {
+  marked = ap (λ (xs : List A). each f xs (trail m)) e;
+  journal = refl;
+}
 
-pub on-none : (t : Trail) (v : ℕ) (above : Option SessId) → IsNext session_lt (is_session t) above None → find (has t v) (left t above) ≡ None
-on-none t v above h = ap (find (has t v)) (rest-none session_lt (is_session t) (names session_lt session_in t) (sessions-enumerated t) above h)
+-- the first of those that are left, and the others, which are the same after f
+going-next : {A : Type 0} (k : Tour A) (f : A → Trail → Trail) (above : Option A) (d : A) (now next : Machine) → KeepsAbove k f → trail next ≡ f d (trail now) → IsNext k.lt (k.there (trail now)) above (Some d)
+    → left k (trail now) above ≡ d ∷ left k (trail next) (Some d)
+going-next {A} k f above d now next keeps e n =
+    let t = trail now in
+    rest-next k.lt (k.there t) (k.list t) (k.whole t) above d n
+    ∙ ap (λ (ds : List A). d ∷ ds)
+    (sym (rest-stays k.lt (k.there (f d t)) (k.there t) (k.list (f d t)) (k.list t) (k.whole (f d t)) (k.whole t) d (λ x l. keeps d x t l))
+    ∙ ap (λ (u : Trail). left k u (Some d)) (sym e))
 
-pub fewer : (t : Trail) (above : Option SessId) (s : SessId) → IsNext session_lt (is_session t) above (Some s) → length (left t (Some s)) < length (left t above)
-fewer t above s h = omega (arith, rest-count session_lt (is_session t) (names session_lt session_in t) (sessions-enumerated t) above s h)
+-- one more than are left
+more : {A : Type 0} (x : A) (xs ys : List A) → ys ≡ x ∷ xs → length ys ≡ length xs + 1
+more x xs ys e = ap length e ∙ sym (add-one (length xs))
 
--- how many connections there are
-abbrev pub more : Trail → Option ConnId → List ConnId
-more t above = rest conn_lt (is_connected t) (names conn_lt conn_in t) above
+pub going-less : {A : Type 0} (k : Tour A) (f : A → Trail → Trail) (above : Option A) (d : A) (now next : Machine) → KeepsAbove k f → trail next ≡ f d (trail now) → IsNext k.lt (k.there (trail now)) above (Some d)
+    → length (left k (trail next) (Some d)) < length (left k (trail now) above)
+going-less k f above d now next keeps e n =
+    let m = more d (left k (trail next) (Some d)) (left k (trail now) above) (going-next k f above d now next keeps e n) in
+    omega arith
 
-pub count-start : (t : Trail) → length (connections t) ≡ 0 + length (more t None)
-unfolding connections
-count-start t = let e : length (more t None) ≡ length (filter (is_connected t) (names conn_lt conn_in t)) = ap length (rest-all conn_lt (is_connected t) (names conn_lt conn_in t) (connections-enumerated t)) in omega arith
+-- the next one's marks are among all
+pub going-room : {A : Type 0} (k : Tour A) (f : A → Trail → Trail) (all : List A) (above : Option A) (d : A) (start now : Machine) → Adds f → Going k f all above start now
+    → IsNext k.lt (k.there (trail now)) above (Some d) → length (each f all (trail start)) ≤ start.journal.reach → length (f d (trail now)) ≤ now.journal.reach
+going-room {A} k f all above d start now grows g n h =
+    let t = trail now in
+    let ds = rest k.lt (k.there t) (k.list t) (Some d) in
+    let w = rest-next k.lt (k.there t) (k.list t) (k.whole t) above d n in
+    let e : length (each f ds (f d t)) ≡ length (each f all (trail start)) =
+    ap length (sym (each-more f d ds t) ∙ sym (ap (λ (xs : List A). each f xs t) w) ∙ g.marked) in
+    let r = each-grows f grows ds (f d t) in
+    let j = ap (λ l. l.reach) g.journal in
+    omega arith
 
-pub count-next : (t : Trail) (n i : ℕ) (above : Option ConnId) (c : ConnId) → n ≡ i + length (more t above) → IsNext conn_lt (is_connected t) above (Some c) → n ≡ (i + 1) + length (more t (Some c))
-count-next t n i above c e h = omega (arith, rest-count conn_lt (is_connected t) (names conn_lt conn_in t) (connections-enumerated t) above c h)
+pub going-step : {A : Type 0} (k : Tour A) (f : A → Trail → Trail) (all : List A) (above : Option A) (d : A) (start now next : Machine) → KeepsAbove k f → Going k f all above start now
+    → trail next ≡ f d (trail now) → next.journal ≡ now.journal → IsNext k.lt (k.there (trail now)) above (Some d)
+    → Going k f all (Some d) start next
+going-step {A} k f all above d start now next keeps g e j n =
+    let ds = left k (trail next) (Some d) in
+    let w = going-next k f above d now next keeps e n in
+    record {
+      marked = ap (each f ds) e ∙ sym (each-more f d ds (trail now)) ∙ sym (ap (λ (xs : List A). each f xs (trail now)) w) ∙ g.marked;
+      journal = j ∙ g.journal;
+    }
 
-pub count-none : (t : Trail) (n i : ℕ) (above : Option ConnId) → n ≡ i + length (more t above) → IsNext conn_lt (is_connected t) above None → i < 64 → false ≡ nat_le 64 n
-count-none t n i above e h b =
-    let z : length (more t above) ≡ 0 = ap length (rest-none conn_lt (is_connected t) (names conn_lt conn_in t) (connections-enumerated t) above h) in
-    grind (arith, nat_tests)
+-- at the end none is left
+pub record Gone {A : Type 0} (f : A → Trail → Trail) (all : List A) (start now : Machine) : Type 0 where
+  pub marked : trail now ≡ each f all (trail start)
+  pub journal : now.journal ≡ start.journal
+
+pub going-end : {A : Type 0} (k : Tour A) (f : A → Trail → Trail) (all : List A) (above : Option A) (start now : Machine) → Going k f all above start now → IsNext k.lt (k.there (trail now)) above None
+    → Gone f all start now
+going-end {A} k f all above start now g n =
+    let t = trail now in
+    let w = rest-none k.lt (k.there t) (k.list t) (k.whole t) above n in
+    record {
+      marked = sym (ap (λ (xs : List A). each f xs t) w ∙ each-none f t) ∙ g.marked;
+      journal = g.journal;
+    }

@@ -1,5 +1,5 @@
 -- The settings among the marks tell the same facts as the marks.
-use Rattle.std.proofs.Common.{◌≡◌, ℕ, ◌+◌, Bool, true, false, cond, Option, Some, None, List, [], ◌∷◌, ◌++◌, refl, ap, sym, ◌∙◌}
+use Rattle.std.proofs.Common.{◌≡◌, ℕ, ◌+◌, Bool, true, false, cond, Option, Some, None, List, [], ◌∷◌, ◌++◌, length, refl, ap, sym, ◌∙◌}
 use Rattle.login_model.specs.declared.fact.Key.{Key}
 use Rattle.login_model.specs.declared.fact.Fact.{Fact}
 use Rattle.login_model.specs.declared.mark.Mark.{Mark}
@@ -22,7 +22,7 @@ value-say : (k : Key) (w : Whom) (n : Notice) (t : Trail) → value (Say w n ∷
 unfolding value
 value-say k w n t = refl
 
-settings-none : settings [] ≡ []
+pub settings-none : settings [] ≡ []
 unfolding settings
 settings-none = refl
 
@@ -98,6 +98,9 @@ so_far-none es = refl
 pub so_far-start : so_far [] [] ≡ []
 unfolding so_far
 so_far-start = refl
+
+pub none-start : (es : List Entry) (ms : List Mark) → es ≡ [] → ms ≡ [] → length (so_far es ms) ≡ 0
+none-start es ms b c = ap length (ap (λ (xs : List Entry). so_far xs ms) b ∙ ap (so_far []) c ∙ so_far-start)
 
 pub stands-start : (f : Trail) (es : List Entry) (ms : List Mark) → f ≡ [] → es ≡ [] → ms ≡ [] → f ≡ settings (so_far es ms)
 stands-start f es ms a b c = a ∙ sym (ap settings (ap (λ (xs : List Entry). so_far xs ms) b ∙ ap (so_far []) c ∙ so_far-start) ∙ settings-none)

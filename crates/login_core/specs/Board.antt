@@ -1,5 +1,8 @@
 -- What a machine has.
-use Rattle.std.specs.Prelude.{ℕ, min}
+use Rattle.std.specs.Prelude.{◌∷◌}
+use Rattle.login_model.specs.declared.mark.Mark.TheVariants.{Say}
+use Rattle.login_model.specs.declared.mark.Whom.{Whom}
+use Rattle.login_model.specs.declared.mark.Notice.{Notice}
 use Rattle.login_model.specs.Trail.{Trail}
 use Rattle.login_core.specs.declared.machine.Machine.{Machine}
 use Rattle.login_core.specs.Machine.{so_far}
@@ -8,6 +11,6 @@ use Rattle.login_core.specs.Machine.{so_far}
 abbrev pub trail : Machine → Trail
 trail m = so_far m.journal.items m.marks.items
 
--- how many more marks there is room for
-unfoldable pub spare : Machine → ℕ
-spare m = min m.marks.spare m.facts.spare
+-- a notice to these
+abbrev pub tell : Whom → Notice → Trail → Trail
+tell w n t = Say w n ∷ t

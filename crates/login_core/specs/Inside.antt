@@ -1,15 +1,28 @@
 -- What holds inside a core.
-use Rattle.std.specs.Prelude.{◌≡◌, ◌+◌, ◌≤◌, ◌<◌, ◌^◌, [], length}
-use Rattle.login_model.specs.declared.setup.Setup.{Setup}
-use Rattle.login_model.specs.Fresh.{fresh_session, fresh_handle}
+use Rattle.std.specs.Prelude.{ℕ, ◌≡◌, ◌+◌, ◌≤◌, [], length, Option, Some, None}
 use Rattle.login_model.specs.Legal.{IsLegal, trail_of}
+use Rattle.login_model.specs.Need.{need}
+use Rattle.login_model.specs.Stopping.{stop_from}
+use Rattle.login_model.specs.Where.{connections}
+use Rattle.login_model.specs.declared.setup.Setup.{Setup}
+use Rattle.login_core.specs.Kept.{HaveTexts}
 use Rattle.login_core.specs.declared.machine.Machine.{Machine}
+use Rattle.login_core.specs.declared.texts.Texts.{Texts}
 
--- the journal is legal under the setup, no entry is under way, and each entry has given out at most one
--- session and one handle
-pub record IsCore (U : Setup) (m : Machine) : Type 0 where
+-- the entries that the stop still takes
+abbrev pub stop_need : Option ℕ → ℕ
+stop_need None = 1
+stop_need (Some n) = 0
+
+-- The journal is legal, and no entry is under way. There is room for the end of each connection and for the
+-- stop: their entries, their marks, the texts of the sessions that close; and with them the journal stays
+-- within its limits.
+pub record IsCore (U : Setup) (m : Machine) (texts : Texts) (stop : Option ℕ) : Type 0 where
   pub legal : IsLegal U m.journal.items
   pub no_marks : m.marks.items ≡ []
-  pub sessions : fresh_session (trail_of m.journal.items) ≤ length m.journal.items + 1
-  pub handles : fresh_handle (trail_of m.journal.items) ≤ length m.journal.items + 1
-  pub numbered : length m.journal.items + 1 < 2 ^ 32
+  pub stop_is : stop ≡ stop_from 1 m.journal.items
+  pub entries : length (connections (trail_of m.journal.items)) + stop_need stop ≤ m.journal.entries
+  pub reach : length (trail_of m.journal.items) + need (trail_of m.journal.items) ≤ m.journal.reach
+  pub kept_texts : HaveTexts texts (trail_of m.journal.items)
+  pub few_entries : length m.journal.items + length (connections (trail_of m.journal.items)) + stop_need stop ≤ 200000
+  pub few_marks : length (trail_of m.journal.items) + need (trail_of m.journal.items) ≤ 4000000

@@ -1,28 +1,67 @@
 -- What a core is seen as.
-use Rattle.std.specs.Prelude.{ℕ, ◌≡◌, ◌+◌, ◌<◌, ◌≤◌, ◌^◌, List, [], ◌∷◌, ◌++◌, length, Option}
-use Rattle.login_model.specs.declared.setup.Setup.{Setup}
+use Rattle.std.specs.Prelude.{ℕ, ◌≡◌, ◌+◌, ◌≤◌, List, [], ◌∷◌, ◌++◌, length, Option, Some, None, Result, Ok, Err, if◌then◌else◌}
+use Rattle.login_model.specs.Full.{connected_after, full}
+use Rattle.login_model.specs.Legal.{answered, trail_of}
+use Rattle.login_model.specs.Need.{most_marks, most_rise, need}
+use Rattle.login_model.specs.Policy.{verdict}
+use Rattle.login_model.specs.Stopping.{is_stop, stopped}
+use Rattle.login_model.specs.declared.answer.Answer.{Answer}
 use Rattle.login_model.specs.declared.event.Event.{Event}
+use Rattle.login_model.specs.declared.event.Event.TheVariants.{Disconnect, Stop}
 use Rattle.login_model.specs.declared.mark.Entry.{Entry}
-use Rattle.login_core.specs.declared.copies.Copies.{Copies}
-use Rattle.login_core.specs.Machine.{HasCopies}
+use Rattle.login_model.specs.declared.setup.Setup.{Setup}
+use Rattle.login_model.specs.declared.answer.Answer.TheVariants.{Nothing}
+use Rattle.login_model.specs.declared.count.Count.{Count}
+use Rattle.login_core.specs.Fullness.{always_fits}
+use Rattle.login_core.specs.Kept.{AreReady}
+use Rattle.login_core.specs.declared.state.Refused.{Refused}
+use Rattle.login_core.specs.declared.state.Refused.TheVariants.{NoMemory, Full, Stopped}
+use Rattle.login_core.specs.declared.texts.Texts.{Texts}
 
--- the machine before the first event, the journal, and what was made ready for the next entry: how many
--- entries, marks and settings go in without memory, and the copies of the texts of a session
+-- the machine before the first event, the journal, and what was made ready: room for so many more entries, for
+-- so many marks in all, the copies of texts, and the answer of the next event
 pub record CoreState : Type 0 where
   pub setup : Setup
   pub journal : List Entry
   pub entries : ℕ
-  pub marks : ℕ
-  pub settings : ℕ
-  pub copies : Option Copies
+  pub reach : ℕ
+  pub texts : Texts
+  pub answer : Answer
 
--- the event's entry can be made without memory, and is numbered below 2^32 - 1
-pub record IsReady (c : CoreState) (e : Event) : Type 0 where
-  pub entries : 0 < c.entries
-  pub marks : 6 ≤ c.marks
-  pub settings : 6 ≤ c.settings
-  pub copies : HasCopies e c.copies
-  pub number : length c.journal + 2 < 2 ^ 32
+-- room was made for the event's entry and marks, and for all that connections and the stop need after it
+pub record IsRoomFor (c : CoreState) (e : Event) : Type 0 where
+  pub entries : connected_after c.setup (trail_of c.journal) e + 2 ≤ c.entries
+  pub reach : length (trail_of c.journal) + need (trail_of c.journal) + most_marks (trail_of c.journal) + most_rise (trail_of c.journal) ≤ c.reach
+  pub small : full c.setup c.journal e ≡ None
+  pub texts : AreReady e c.texts
+  pub answer : c.answer ≡ answered c.setup (verdict c.setup (trail_of c.journal) e) e (trail_of c.journal)
+
+-- the event can be stepped without memory; a disconnect and the stop always can
+abbrev pub IsReady : CoreState → Event → Type 0
+IsReady c (Disconnect who) = Unit {0}
+IsReady c Stop = Unit {0}
+IsReady c e = IsRoomFor c e
+
+-- what refuses room, in the order in which it is looked at: the stop, a full journal
+abbrev pub refusal : Option ℕ → Option Count → Option Refused
+refusal (Some n) count = Some (Stopped n)
+refusal None (Some count) = Some (Full count)
+refusal None None = None
+
+-- room is refused for these, or there was no memory, or it was made
+abbrev pub RoomGives : CoreState → CoreState → Event → Result (Unit {0}) Refused → Type 0
+RoomGives old new e (Ok u) = (refusal (stopped old.journal e) (full old.setup old.journal e) ≡ None) × IsReady new e
+RoomGives old new e (Err NoMemory) = refusal (stopped old.journal e) (full old.setup old.journal e) ≡ None
+RoomGives old new e (Err r) = refusal (stopped old.journal e) (full old.setup old.journal e) ≡ Some r
+
+-- the number of the stop's entry, after an event whose entry has this number
+abbrev pub stop_next : Option ℕ → Event → ℕ → Option ℕ
+stop_next (Some n) e number = Some n
+stop_next None e number = if is_stop e then Some number else None
+
+-- the answer of an event: that which was made ready, if it may have one
+abbrev pub answer_next : Event → Answer → Answer
+answer_next e ready = if always_fits e then Nothing else ready
 
 -- the setup and the journal are as before
 pub record IsSame (old new : CoreState) : Type 0 where

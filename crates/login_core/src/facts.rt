@@ -3,12 +3,18 @@
 ghost use Rattle.std.specs.Prelude.{◌≡◌, ◌+◌, ◌<◌, ◌≤◌, ◌^◌, [], ◌∷◌, OnOk};
 ghost use Rattle.login_model.specs.Trail.{value};
 ghost use Rattle.login_model.specs.Fresh.{fresh_session, fresh_handle, next_session, next_handle};
-ghost use Rattle.login_model.specs.Names.{IsNext, is_above};
+ghost use Rattle.login_model.specs.Names.{IsNext, is_above, device_lt};
+ghost use Rattle.login_model.specs.Devices.{taken_in, is_taken, is_awaiting};
+ghost use Rattle.std.specs.List.{list_any};
+ghost use Rattle.login_core.specs.Awaiting.{is_awaited_key};
+ghost use Rattle.login_core.specs.declared.facts.Setting.{Setting as SettingValue};
 ghost use Rattle.login_core.specs.Name.{is_there, is_lower, nearer};
 ghost use Rattle.login_core.specs.Facts.{set_after, opens, gives};
 
-use login_base::{HandleNo, NoMemory, Reserved, SessId};
-use login_model::{Fact, Key, StartFacts, is_open_fact, is_owned_fact, is_same_key};
+use login_base::{DevNo, HandleNo, NoMemory, Reserved, SessId};
+use login_model::{
+    Fact, Key, StartFacts, is_handle_fact, is_open_fact, is_owned_fact, is_same_key, is_set,
+};
 use login_table::Name;
 use std::alloc::Global;
 use std::marker::Model;
@@ -90,6 +96,22 @@ fn is_lower<N: Name>(name: N, best: Option<N>) -> bool
     match best {
         Some(other) => name.is_below(other),
         None => true,
+    }
+}
+
+/// The device of a key about what a session has taken.
+fn taken_in(session: SessId, key: &Key) -> Option<DevNo>
+    ensures { result ≡ taken_in session key.now }
+{
+    match key {
+        Key::Taken(other, device) => {
+            if other.0 == session.0 {
+                Some(*device)
+            } else {
+                None
+            }
+        }
+        _ => None,
     }
 }
 
@@ -180,5 +202,64 @@ impl Facts {
             best = self.nearer(above, N::in_key(&setting.key), best);
         }
         best
+    }
+
+    /// The lower of the best device so far and another, if that is above and the session has taken it.
+    fn nearer_taken(
+        &self,
+        session: SessId,
+        above: Option<DevNo>,
+        device: Option<DevNo>,
+        best: Option<DevNo>,
+    ) -> Option<DevNo>
+        ensures { result ≡ nearer device_lt (is_taken self.now.trail session) above device best }
+    {
+        match device {
+            Some(device) => {
+                if is_above(above, device)
+                    && is_lower(device, best)
+                    && is_handle_fact(self.fact(&Key::Taken(session, device)))
+                {
+                    Some(device)
+                } else {
+                    best
+                }
+            }
+            None => best,
+        }
+    }
+
+    /// The least device above that one that a session has taken.
+    pub fn next_taken(&self, session: SessId, above: Option<DevNo>) -> Option<DevNo>
+        ensures { IsNext device_lt (is_taken self.now.trail session) above result }
+    {
+        let mut best = None;
+        for setting in self.settings.as_slice() {
+            best = self.nearer_taken(session, above, taken_in(session, &setting.key), best);
+        }
+        best
+    }
+
+    /// Whether a key is about a pause that has still to be acknowledged.
+    fn is_awaited(&self, key: &Key) -> bool
+        ensures { result ≡ is_awaited_key self.now.trail key.now }
+    {
+        match key {
+            Key::Awaited(_, _) => is_set(self.fact(key)),
+            _ => false,
+        }
+    }
+
+    fn is_any_awaited(&self, settings: &[Setting]) -> bool
+        ensures { result ≡ list_any (λ (x : SettingValue). is_awaited_key self.now.trail x.key) settings.now }
+    {
+        settings.iter().any(|setting| self.is_awaited(&setting.key))
+    }
+
+    /// Whether the pause of some device has still to be acknowledged.
+    pub fn is_awaiting(&self) -> bool
+        ensures { result ≡ is_awaiting self.now.trail }
+    {
+        self.is_any_awaited(self.settings.as_slice())
     }
 }

@@ -1,42 +1,77 @@
 // The core: the setup, the journal, and what is made ready for the next entry.
 
-ghost use Rattle.std.specs.Prelude.{◌≡◌, ◌+◌, ◌<◌, ◌≤◌, ◌^◌, ◌++◌, [], ◌∷◌, length, IfOk, OnOk};
+ghost use Rattle.std.specs.Prelude.{◌≡◌, ◌+◌, ◌^◌, ◌<◌, ◌≤◌, ◌++◌, [], ◌∷◌, length, true, false, None, Err, IfOk, OnOk};
 ghost use Rattle.std.specs.Borrow.{sem};
 ghost use Rattle.std.specs.Io.BufRead.{Rests};
-ghost use Rattle.login_model.specs.Legal.{IsLegal, IsPlaced, IsBuilt, trail_of};
-ghost use Rattle.login_core.specs.State.{CoreState, IsReady, IsSame, Appends};
+ghost use Rattle.login_model.specs.Built.{is_built};
+ghost use Rattle.login_model.specs.Full.{connected_after, full, mark_count, marks_needed};
+ghost use Rattle.login_model.specs.Legal.{IsLegal, IsPlaced, IsAsked, answered, trail_of};
+ghost use Rattle.login_model.specs.Policy.{verdict};
+ghost use Rattle.login_model.specs.Stopping.{is_stop, stopped};
+ghost use Rattle.login_model.specs.Where.{is_connected};
+ghost use Rattle.login_model.specs.declared.event.Event.TheVariants.{Disconnect};
+ghost use Rattle.login_core.specs.Fullness.{always_fits};
+ghost use Rattle.login_core.specs.State.{CoreState, IsReady, IsRoomFor, IsSame, Appends, RoomGives, answer_next, stop_next};
 ghost use Rattle.login_core.specs.contracts.state.Core.{the_row};
 
-use crate::copies::{Copies, copies_of};
+use crate::answering::answer_of;
+use crate::counts::marks_needed;
+use crate::fullness::{always_fits, connected_after, full};
 use crate::machine::Machine;
-use crate::verdict::judge;
+use crate::texts::Texts;
 use login_base::{ConnId, DevNo, HandleNo, LockNo, NoMemory, SeatName, SessId, Uid};
-use login_model::{Call, Entry, Event, Fact, Journal, Key, Look, Setup};
+use login_judge::judge;
+use login_model::{Answer, Count, Entry, Event, Fact, Journal, Key, Look, Setup, Verdict};
 use std::alloc::Global;
 use std::marker::Model;
+use std::mem;
 
 /// Why no room was made.
 #[derive(Clone, Copy, Debug, PartialEq, Eq)]
 pub enum Refused {
-    /// There was no memory, or entries have no number left: they are numbered below 2^32 - 1.
     NoMemory,
+    /// The journal is full: with what all connections and the stop may still need, this count would
+    /// pass its limit.
+    Full(Count),
+    /// The entry with this number is the stop. After it come only disconnects.
+    Stopped(u32),
 }
 
-impl From<NoMemory> for Refused {
-    fn from(_: NoMemory) -> Refused {
-        Refused::NoMemory
+/// The answer of an event: that which was made ready. A disconnect and the stop have none.
+fn answer_for(event: &Event, ready: &mut Answer) -> Answer
+    ensures { result ≡ answer_next event.now ready.old }
+{
+    if always_fits(event) {
+        Answer::Nothing
+    } else {
+        mem::replace(ready, Answer::Nothing)
     }
 }
 
-/// How many entries there may be, so that each has a number below 2^32 - 1.
-const LAST: usize = 4294967294;
+fn is_stop(event: &Event) -> bool
+    ensures { result ≡ is_stop event.now }
+{
+    matches!(event, Event::Stop)
+}
+
+/// The number of the stop's entry, after an event whose entry has this number.
+fn stop_after(stop: Option<u32>, event: &Event, number: u32) -> Option<u32>
+    ensures { result ≡ stop_next stop event.now number }
+{
+    match stop {
+        Some(stop) => Some(stop),
+        None => { if is_stop(event) { Some(number) } else { None } }
+    }
+}
 
 /// The setup, the journal, and what is made ready for the next entry.
 #[derive(Drop)]
 pub struct Core {
     setup: Setup,
     machine: Machine,
-    copies: Option<Copies>,
+    texts: Texts,
+    answer: Answer,
+    stop: Option<u32>,
 }
 
 impl Model for Core {
@@ -48,45 +83,126 @@ impl Model for Core {
     ghost view = { λ c. record {
       setup = c.setup;
       journal = c.machine.journal.items;
-      entries = c.machine.journal.spare;
-      marks = c.machine.marks.spare;
-      settings = c.machine.facts.spare;
-      copies = c.copies;
+      entries = c.machine.journal.entries;
+      reach = c.machine.journal.reach;
+      texts = c.texts;
+      answer = c.answer;
     } };
 
-    ghost invariant = { λ c. IsCore c.setup c.machine };
+    ghost invariant = { λ c. IsCore c.setup c.machine c.texts c.stop };
 }
 
 impl Core {
-    /// The machine of a setup, before the first event.
+    /// The machine of a setup, before the first event. It takes the room of the stop's entry.
     pub fn new(alloc: Global, setup: Setup) -> Result<Core, NoMemory>
         ensures setup { IfOk result (λ core. core.setup ≡ setup) }
         ensures journal { IfOk result (λ core. core.journal ≡ []) }
     {
+        let mut machine = Machine::new(alloc);
+        machine.reserve(1, 0)?;
         Ok(Core {
             setup,
-            machine: Machine::new(alloc),
-            copies: None,
+            machine,
+            texts: Texts::new(alloc),
+            answer: Answer::Nothing,
+            stop: None,
         })
     }
 
-    /// Makes ready for an event: makes room for its entry, its marks and its settings, and copies the
-    /// texts of the session that it creates. A refusal leaves setup and journal as they were.
+    /// Makes ready for an event: takes the memory of its entry, its marks, its answer and its texts, and
+    /// of all that connections may need when they end. A refusal leaves setup and journal as they were.
+    /// The stop is looked at first, then whether the journal is full; memory is asked for last, and none
+    /// for a disconnect or the stop, whose room is kept.
     pub fn room(&mut self, event: &Event) -> Result<(), Refused>
-        requires placed { IsPlaced self.old.journal event.now }
-        requires built { IsBuilt event.now }
-        ensures ready { OnOk result (IsReady self.new event.now) }
+        requires asked { IsAsked self.old.journal event.now }
+        requires built { is_built event.now ≡ true }
+        ensures gives { RoomGives self.old self.new event.now result }
+        ensures kept { result ≡ Err Refused.NoMemory → always_fits event.now ≡ false }
         ensures same { IsSame self.old self.new }
     {
-        if self.machine.journal.len() >= LAST {
-            return Err(Refused::NoMemory);
+        if let Some(number) = self.stopped(event) {
+            return Err(Refused::Stopped(number));
         }
-        if let Event::Call(request) = event {
-            if let Call::Create(creation) = &request.call {
-                self.copies = Some(copies_of(creation)?);
-            }
+        if always_fits(event) {
+            return Ok(());
         }
-        self.machine.reserve()?;
+        if let Some(count) = self.full(event) {
+            return Err(Refused::Full(count));
+        }
+        match self.make_ready(event) {
+            Ok(()) => Ok(()),
+            Err(NoMemory) => Err(Refused::NoMemory),
+        }
+    }
+
+    /// The number of the stop's entry, for an event that may not come after it: any but a disconnect. It
+    /// takes no memory.
+    pub fn stopped(&self, event: &Event) -> Option<u32>
+        ensures { result ≡ stopped self.now.journal event.now }
+    {
+        match event {
+            Event::Disconnect(_) => None,
+            _ => self.stop,
+        }
+    }
+
+    /// Whether the journal is full for an event, and of what.
+    fn full(&self, event: &Event) -> Option<Count>
+        ensures { result ≡ full self.now.setup self.now.journal event.now }
+    {
+        let entries = self.machine.journal.journal().len() as u32;
+        full(
+            &self.machine,
+            &self.setup,
+            entries,
+            self.machine.made,
+            event,
+        )
+    }
+
+    /// The answer of an event, whatever its verdict will be.
+    fn answer_to(&self, event: &Event) -> Result<Answer, NoMemory>
+        ensures { IfOk result (λ a. a ≡ answered self.now.setup (verdict self.now.setup (trail_of self.now.journal) event.now) event.now (trail_of self.now.journal)) }
+    {
+        match judge(&self.machine, &self.setup, event) {
+            Verdict::Granted => answer_of(
+                self.machine.alloc,
+                &self.machine,
+                &self.setup,
+                self.machine.fresh_session(),
+                event,
+            ),
+            Verdict::Denied(_) => Ok(Answer::Nothing),
+        }
+    }
+
+    /// How many entries an event, the ends of all connections after it, and the stop need.
+    fn entries_for(&self, event: &Event) -> u64
+        ensures value { result ≡ connected_after self.now.setup (trail_of self.now.journal) event.now + 2 }
+        ensures bound { result ≤ 2 ^ 33 + 2 }
+    {
+        connected_after(&self.machine, &self.setup, event) + 2
+    }
+
+    /// How far the marks of an event and of all ends may reach.
+    fn reach_for(&self) -> u64
+        ensures { result ≡ marks_needed (trail_of self.now.journal) (mark_count self.now.journal) }
+    {
+        marks_needed(&self.machine, self.machine.made)
+    }
+
+    /// Takes the memory of an event and of the ends of all connections after it.
+    fn make_ready(&mut self, event: &Event) -> Result<(), NoMemory>
+        requires other { always_fits event.now ≡ false }
+        requires small { full self.old.setup self.old.journal event.now ≡ None }
+        ensures ready { OnOk result (IsRoomFor self.new event.now) }
+        ensures same { IsSame self.old self.new }
+    {
+        let entries = self.entries_for(event);
+        let reach = self.reach_for();
+        self.machine.reserve(entries as u32, reach as u32)?;
+        self.texts.prepare(event)?;
+        self.answer = self.answer_to(event)?;
         Ok(())
     }
 
@@ -95,25 +211,41 @@ impl Core {
     pub fn step(&mut self, event: Event) -> &Entry
         requires ready { IsReady self.old event }
         requires placed { IsPlaced self.old.journal event }
-        requires built { IsBuilt event }
+        requires built { is_built event ≡ true }
         ensures event { result.now.event ≡ event }
         ensures legal { IsLegal self.old.setup (self.old.journal ++ result.now ∷ []) }
         ensures* after { sem 𝓛 (Rests the_row self.entry (λ core. Appends self.old result.now core)) }
     {
         let verdict = judge(&self.machine, &self.setup, &event);
-        let answer = self.machine.answer(&event, verdict);
-        self.machine.perform(&event, verdict, self.copies.take());
+        let answer = answer_for(&event, &mut self.answer);
+        self.machine
+            .perform(&self.setup, &event, verdict, &mut self.texts);
+        let number = (self.machine.journal.journal().len() + 1) as u32;
+        self.stop = stop_after(self.stop, &event, number);
         self.machine.close_entry(event, verdict, answer);
-        let last = self.machine.journal.len() - 1;
-        self.machine.journal.entry(last)
+        let journal = self.machine.journal.journal();
+        journal.entry(journal.len() - 1)
+    }
+
+    /// Steps the disconnect of a connection, and answers its entry. Its room is kept from the connect on,
+    /// so it takes no memory, and no room is made for it.
+    pub fn close_link(&mut self, who: ConnId) -> &Entry
+        requires connected { is_connected (trail_of self.old.journal) who ≡ true }
+        ensures event { result.now.event ≡ Disconnect who }
+        ensures legal { IsLegal self.old.setup (self.old.journal ++ result.now ∷ []) }
+        ensures* after { sem 𝓛 (Rests the_row self.entry (λ core. Appends self.old result.now core)) }
+    {
+        self.step(Event::Disconnect(who))
     }
 
     /// The journal, which is legal under the setup.
     pub fn journal(&self) -> &Journal
         ensures entries { result.now.items ≡ self.now.journal }
         ensures legal { IsLegal self.now.setup self.now.journal }
+        ensures few_entries { length self.now.journal ≤ 200000 }
+        ensures few_marks { mark_count self.now.journal ≤ 4000000 }
     {
-        &self.machine.journal
+        self.machine.journal.journal()
     }
 
     /// The setup that the core was made with.
@@ -149,6 +281,10 @@ impl Look for Core {
 
     fn next_device(&self, after: Option<DevNo>) -> Option<DevNo> {
         self.machine.next_device(after)
+    }
+
+    fn next_taken(&self, session: SessId, after: Option<DevNo>) -> Option<DevNo> {
+        self.machine.next_taken(session, after)
     }
 
     fn next_lock(&self, after: Option<LockNo>) -> Option<LockNo> {

@@ -1,21 +1,43 @@
-use Rattle.std.proofs.Common.{◌≡◌, ◌∙◌, sym, ap, [], List}
+use Rattle.std.proofs.Common.{◌≡◌, ◌+◌, ◌<◌, ◌≤◌, ◌^◌, ◌∙◌, [], ◌∷◌, ◌++◌, List, sym, ap, length, arith}
+use Rattle.login_model.specs.declared.mark.Mark.{Mark}
 use Rattle.login_model.specs.declared.mark.Entry.{Entry}
 use Rattle.login_core.specs.Facts.{settings}
 use Rattle.login_core.specs.Machine.{so_far}
 use Rattle.login_core.proofs.Standing.{so_far-closed}
 use Rattle.login_core.proofs.machine.Machine.close_entry.Goals as goal
 
-same : (c : goal.After-push) → so_far c.push.new.self.items c.replace.new.dest.items ≡ so_far c.args.self.now.journal.items c.args.self.now.marks.items
-same c =
-    let journal = c.args.self.now.journal.items in
-    let entry : Entry = record { event = c.args.event; verdict = c.args.verdict; answer = c.args.answer; marks = c.into_items-marks.result } in
-    ap (so_far c.push.new.self.items) (ap (λ v. v.items) c.replace.ensures.after ∙ c.new.ensures)
-    ∙ ap (λ (es : List Entry). so_far es []) c.push.ensures.items
-    ∙ so_far-closed journal entry
-    ∙ ap (so_far journal) (c.into_items-marks.ensures ∙ ap (λ v. v.items) c.replace.ensures.value)
+-- what the entry's marks were is among the journal's now
+closed : (old new : List Entry) (e : Entry) (ms none : List Mark) → new ≡ old ++ e ∷ [] → none ≡ [] → e.marks ≡ ms → so_far new none ≡ so_far old ms
+closed old new e ms none p q r = ap (so_far new) q ∙ ap (λ (es : List Entry). so_far es []) p ∙ so_far-closed old e ∙ ap (so_far old) r
 
 pub invariant_of-self : goal.invariant_of-self
-invariant_of-self c = record { stands = c.args.self.now.stands ∙ ap settings (sym (same c)) }
+invariant_of-self c =
+    let m = c.args.self.now in
+    let e : Entry = record { event = c.args.event; verdict = c.args.verdict; answer = c.args.answer; marks = c.into_items-marks.result } in
+    let same = closed m.journal.items c.close.new.self.items e m.marks.items c.close.result.items c.close.ensures.items c.close.ensures.blank
+    (c.into_items-marks.ensures ∙ ap (λ v. v.items) c.replace.ensures.value) in
+    let n = ap length same in
+    let counted : m.made ≡ length (so_far m.journal.items m.marks.items) = m.counted in
+    let blanks : m.journal.reach ≤ m.made + m.journal.room = m.blanks_fit in
+    let facts : m.journal.reach ≤ m.made + m.facts.spare = m.facts_fit in
+    let within : m.made ≤ m.journal.reach = m.within in
+    let numbered : m.journal.reach + 2 < 2 ^ 32 = m.numbered in
+    let reach = c.close.ensures.reach in
+    let room = c.close.ensures.room in
+    let spare = c.close.ensures.blank_room in
+    record {
+      stands = m.stands ∙ ap settings (sym same);
+      counted = omega arith;
+      marks_fit = omega arith;
+      facts_fit = omega arith;
+      blanks_fit = omega arith;
+      within = omega arith;
+      numbered = omega arith;
+    }
 
 pub returns-clause-marked : goal.returns-clause-marked
-returns-clause-marked c = same c.before
+returns-clause-marked c =
+    let m = c.args.self.now in
+    let e : Entry = record { event = c.args.event; verdict = c.args.verdict; answer = c.args.answer; marks = c.into_items-marks.result } in
+    closed m.journal.items c.close.new.self.items e m.marks.items c.close.result.items c.close.ensures.items c.close.ensures.blank
+    (c.into_items-marks.ensures ∙ ap (λ v. v.items) c.replace.ensures.value)

@@ -1,5 +1,18 @@
-use Rattle.login_core.proofs.Standing.{stands-start}
+use Rattle.std.proofs.Common.{◌≡◌, length, sym, arith}
+use Rattle.login_core.specs.Machine.{so_far}
+use Rattle.login_core.proofs.Standing.{none-start, stands-start}
 use Rattle.login_core.proofs.machine.Machine.new.Goals as goal
 
 pub invariant_of-result : goal.invariant_of-result
-invariant_of-result c = record { stands = stands-start c.new-3.result.trail c.new.result.items c.new-2.result.items c.new-3.ensures c.new.ensures c.new-2.ensures }
+invariant_of-result c =
+    let n : length (so_far c.new.result.items c.new-2.result.items) ≡ 0 = none-start c.new.result.items c.new-2.result.items c.new.ensures.items c.new-2.ensures in
+    let reach = c.new.ensures.reach in
+    record {
+      stands = stands-start c.new-3.result.trail c.new.result.items c.new-2.result.items c.new-3.ensures c.new.ensures.items c.new-2.ensures;
+      counted = sym n;
+      marks_fit = omega arith;
+      facts_fit = omega arith;
+      blanks_fit = omega arith;
+      within = omega arith;
+      numbered = omega arith;
+    }

@@ -1,80 +1,140 @@
-use Rattle.std.proofs.Common.{◌≡◌, ◌<◌, ◌+◌, ◌^◌, ◌∙◌, ◌∷◌, ◌++◌, [], List, ℕ, sym, ap, subst, refl, arith, length}
-use Rattle.login_model.specs.declared.mark.Entry.{Entry}
-use Rattle.login_model.specs.Trail.{Trail}
-use Rattle.login_model.specs.Fresh.{fresh_session, fresh_handle}
+use Rattle.std.proofs.Common.{◌≡◌, ◌≤◌, ◌<◌, ◌∙◌, ◌∷◌, ◌++◌, [], Option, ℕ, sym, ap, subst, refl, arith, length}
+use Rattle.login_model.specs.Legal.{IsLegal, IsPlaced, stepped}
 use Rattle.login_model.specs.Policy.{verdict}
-use Rattle.login_model.specs.Legal.{trail_of, stepped, answered, IsPlaced, IsLegal}
-use Rattle.login_core.specs.State.{CoreState}
-use Rattle.login_core.specs.Machine.{so_far, entry_of}
+use Rattle.login_model.specs.Sound.{IsSound}
+use Rattle.login_model.specs.Trail.{Trail}
+use Rattle.login_model.specs.declared.answer.Answer.{Answer}
+use Rattle.login_model.specs.declared.event.Event.{Event}
+use Rattle.login_model.specs.declared.mark.Entry.{Entry}
+use Rattle.login_model.specs.declared.setup.Setup.{Setup}
+use Rattle.login_model.specs.declared.rule.Verdict.{Verdict}
+use Rattle.login_model.proofs.SoundLaws.{legal-is-sound}
 use Rattle.login_core.specs.Board.{trail}
-use Rattle.login_core.proofs.Closing.{Steps, trail-is, core-closed, legal-closed, spare-from, last-is}
+use Rattle.login_core.specs.Inside.{IsCore}
+use Rattle.login_core.specs.Kept.{HaveTexts}
+use Rattle.login_core.specs.Machine.{so_far, entry_of}
+use Rattle.login_core.specs.State.{CoreState, IsReady, answer_next, stop_next}
+use Rattle.login_core.specs.declared.machine.Machine.{Machine}
+use Rattle.login_core.specs.declared.texts.Texts.{Texts}
+use Rattle.login_core.proofs.Entries.{Steps, last-is, legal-closed, trail-is}
+use Rattle.login_core.proofs.Stepping.{Stepping, answered-next, core-closed, has-entry, ready-texts, stays-within}
 use Rattle.login_core.proofs.state.Core.step.Goals as goal
+
+stepping : (U : Setup) (m : Machine) (x : Texts) (a : Answer) (stop : Option ℕ) (now : CoreState) (e : Event) (v : Verdict) → IsCore U m x stop → record { setup = U; journal = m.journal.items; entries = m.journal.entries; reach = m.journal.reach; texts = x; answer = a } ≡ now
+    → IsPlaced now.journal e → IsReady now e → v ≡ verdict U (trail m) e → Stepping U m x a stop e v
+stepping U m x a stop now e v k w p r h =
+    let P : CoreState → Type 0 = λ s. IsPlaced s.journal e in
+    let Q : CoreState → Type 0 = λ s. IsReady s e in
+    record {
+      core = k;
+      placed = subst P (sym w) p;
+      ready = subst Q (sym w) r;
+      verdict_is = h ∙ ap (λ (t : Trail). verdict U t e) (trail-is m k.no_marks);
+      sound = (legal-is-sound U).after m.journal.items k.legal;
+    }
+
+pub perform-requires-clause-sound : goal.perform-requires-clause-sound
+perform-requires-clause-sound c =
+    let m = c.self.inside.machine in
+    let s = stepping c.self.inside.setup m c.self.inside.texts c.self.inside.answer c.self.inside.stop c.args.self.now c.args.event c.judge-verdict.result c.self.invariant c.self.view_is c.requires.placed c.requires.ready c.judge-verdict.ensures in
+    let P : Trail → Type 0 = IsSound in
+    subst P (sym (trail-is m c.self.invariant.no_marks)) s.sound
+
+pub perform-requires-clause-ready : goal.perform-requires-clause-ready
+perform-requires-clause-ready c =
+    let m = c.self.inside.machine in
+    let s = stepping c.self.inside.setup m c.self.inside.texts c.self.inside.answer c.self.inside.stop c.args.self.now c.args.event c.judge-verdict.result c.self.invariant c.self.view_is c.requires.placed c.requires.ready c.judge-verdict.ensures in
+    ready-texts _ c.args.event s.ready
+
+pub perform-requires-clause-texts : goal.perform-requires-clause-texts
+perform-requires-clause-texts c =
+    let P : Trail → Type 0 = HaveTexts c.self.inside.texts in
+    subst P (sym (trail-is c.self.inside.machine c.self.invariant.no_marks)) c.self.invariant.kept_texts
 
 pub perform-requires-clause-room : goal.perform-requires-clause-room
 perform-requires-clause-room c =
-    spare-from c.self.inside.machine c.args.self.now.marks c.args.self.now.settings (ap (λ (s : CoreState). s.marks) c.self.view_is) (ap (λ (s : CoreState). s.settings) c.self.view_is)
-    c.requires.ready.marks c.requires.ready.settings
-
-pub perform-requires-clause-sessions : goal.perform-requires-clause-sessions
-perform-requires-clause-sessions c =
+    let U = c.self.inside.setup in
     let m = c.self.inside.machine in
-    let len : length m.journal.items ≡ length c.args.self.now.journal = ap (λ (s : CoreState). length s.journal) c.self.view_is in
-    let same : fresh_session (trail m) ≡ fresh_session (trail_of m.journal.items) = ap fresh_session (trail-is c.self.inside.setup m c.self.invariant) in
-    omega (arith, c.self.invariant.sessions, c.requires.ready.number)
+    let v = c.judge-verdict.result in
+    let s = stepping U m c.self.inside.texts c.self.inside.answer c.self.inside.stop c.args.self.now c.args.event v c.self.invariant c.self.view_is c.requires.placed c.requires.ready c.judge-verdict.ensures in
+    let P : Trail → Type 0 = λ t. length (stepped U v c.args.event t) ≤ m.journal.reach in
+    subst P (sym (trail-is m c.self.invariant.no_marks)) (stays-within U m c.self.inside.texts c.self.inside.answer c.self.inside.stop c.args.event v s)
 
-pub perform-requires-clause-handles : goal.perform-requires-clause-handles
-perform-requires-clause-handles c =
+pub close_entry-requires : goal.close_entry-requires
+close_entry-requires c =
+    let U = c.self.inside.setup in
     let m = c.self.inside.machine in
-    let len : length m.journal.items ≡ length c.args.self.now.journal = ap (λ (s : CoreState). length s.journal) c.self.view_is in
-    let same : fresh_handle (trail m) ≡ fresh_handle (trail_of m.journal.items) = ap fresh_handle (trail-is c.self.inside.setup m c.self.invariant) in
-    omega (arith, c.self.invariant.handles, c.requires.ready.number)
+    let v = c.judge-verdict.result in
+    let s = stepping U m c.self.inside.texts c.self.inside.answer c.self.inside.stop c.args.self.now c.args.event v c.self.invariant c.self.view_is c.requires.placed c.requires.ready c.judge-verdict.ensures in
+    let P : ℕ → Type 0 = λ n. 0 < n in
+    subst P (sym (ap (λ l. l.entries) c.perform.ensures.journal)) (has-entry U m c.self.inside.texts c.self.inside.answer c.self.inside.stop c.args.event v s)
 
-steps : (c : goal.After-len-last) → Steps c.self.inside.setup c.self.inside.machine.journal.items c.args.event c.judge-verdict.result c.answer-answer.result c.perform.new.self.marks.items
-steps c =
-    let m = c.self.inside.machine in
-    let n = c.perform.new.self in
-    let t = trail-is c.self.inside.setup m c.self.invariant in
-    let P : List Entry → Type 0 = λ es. IsPlaced es c.args.event in
+-- the entry that is closed
+steps : (U : Setup) (m n : Machine) (x : Texts) (ready a : Answer) (stop : Option ℕ) (e : Event) (v : Verdict) → Stepping U m x ready stop e v → a ≡ answer_next e ready → n.journal ≡ m.journal → trail n ≡ stepped U v e (trail m)
+    → Steps U m.journal.items e v a n.marks.items
+steps U m n x ready a stop e v s h j k =
+    let t = trail-is m s.core.no_marks in
     record {
-      placed = subst P (sym (ap (λ (s : CoreState). s.journal) c.self.view_is)) c.requires.placed;
-      verdict_is = c.judge-verdict.ensures ∙ ap (λ (u : Trail). verdict c.self.inside.setup u c.args.event) t;
-      answer_is = c.answer-answer.ensures ∙ ap (answered c.judge-verdict.result c.args.event) t;
-      marks_are = sym (ap (λ v. so_far v.items n.marks.items) c.perform.ensures.journal) ∙ c.perform.ensures.marked ∙ ap (stepped c.judge-verdict.result c.args.event) t;
+      placed = s.placed;
+      verdict_is = s.verdict_is;
+      answer_is = h ∙ answered-next U m x ready stop e v s;
+      marks_are = sym (ap (λ l. so_far l.items n.marks.items) j) ∙ k ∙ ap (stepped U v e) t;
     }
-
-closed : (c : goal.After-len-last) → c.close_entry.new.self.journal.items ≡ c.self.inside.machine.journal.items ++ entry_of c.args.event c.judge-verdict.result c.answer-answer.result c.perform.new.self.marks.items ∷ []
-closed c =
-    let e : Entry = entry_of c.args.event c.judge-verdict.result c.answer-answer.result c.perform.new.self.marks.items in
-    c.close_entry.ensures.entry ∙ ap (λ v. v.items ++ e ∷ []) c.perform.ensures.journal
 
 pub invariant_of-self : goal.invariant_of-self
 invariant_of-self c =
-    let P : ℕ → Type 0 = λ n. n + 2 < 2 ^ 32 in
-    core-closed c.self.inside.setup c.self.inside.machine c.close_entry.new.self c.args.event c.judge-verdict.result c.answer-answer.result c.perform.new.self.marks.items
-    c.self.invariant (subst P (sym (ap (λ (s : CoreState). length s.journal) c.self.view_is)) c.requires.ready.number) (steps c) (closed c) c.close_entry.ensures.marks
+    let U = c.self.inside.setup in
+    let m = c.self.inside.machine in
+    let n = c.perform.new.self in
+    let x = c.self.inside.texts in
+    let v = c.judge-verdict.result in
+    let a = c.self.inside.answer in
+    let b = c.answer_for-answer.result in
+    let e = c.args.event in
+    let stop = c.self.inside.stop in
+    let ms = n.marks.items in
+    let s = stepping U m x a stop c.args.self.now e v c.self.invariant c.self.view_is c.requires.placed c.requires.ready c.judge-verdict.ensures in
+    let w = steps U m n x a b stop e v s c.answer_for-answer.ensures c.perform.ensures.journal c.perform.ensures.marked in
+    let P : Trail → Type 0 = λ t. HaveTexts c.perform.new.texts (stepped U v e t) in
+    let Q : Trail → Type 0 = HaveTexts c.perform.new.texts in
+    let items = c.close_entry.ensures.entry ∙ ap (λ l. l.items ++ entry_of e v b ms ∷ []) c.perform.ensures.journal in
+    let len = ap length (c.journal.ensures ∙ ap (λ l. l.items) c.perform.ensures.journal) in
+    let value = c.len.ensures.value in
+    let few = c.self.invariant.few_entries in
+    core-closed U m c.close_entry.new.self x c.perform.new.texts a b stop c.stop_after-self-inside.result e v ms s w
+    items c.close_entry.ensures.marks (c.close_entry.ensures.entries ∙ ap (λ l. l.entries) c.perform.ensures.journal) (c.close_entry.ensures.reach ∙ ap (λ l. l.reach) c.perform.ensures.journal)
+    (c.stop_after-self-inside.ensures ∙ ap (stop_next stop e) (omega arith)) (subst P (trail-is m c.self.invariant.no_marks) (subst Q c.perform.ensures.marked c.perform.ensures.texts))
 
 pub returns : goal.returns
 returns c =
+    let U = c.self.inside.setup in
     let m = c.self.inside.machine in
-    let old = c.args.self.now in
+    let n = c.perform.new.self in
+    let x = c.self.inside.texts in
     let v = c.judge-verdict.result in
-    let a = c.answer-answer.result in
-    let ms = c.perform.new.self.marks.items in
-    let e : Entry = entry_of c.args.event v a ms in
-    let is : c.entry.result.now ≡ e = last-is m.journal.items c.close_entry.new.self.journal.items e c.entry.result.now c.len-last.result (closed c.before.before) c.len-last.ensures.value c.entry.ensures in
-    let P : CoreState → Type 0 = λ s. IsLegal s.setup (s.journal ++ e ∷ []) in
-    let Q : Entry → Type 0 = λ x. IsLegal old.setup (old.journal ++ x ∷ []) in (
+    let a = c.self.inside.answer in
+    let b = c.answer_for-answer.result in
+    let stop = c.self.inside.stop in
+    let old = c.args.self.now in
+    let ms = n.marks.items in
+    let s = stepping U m x a stop old c.args.event v c.self.invariant c.self.view_is c.requires.placed c.requires.ready c.judge-verdict.ensures in
+    let w = steps U m n x a b stop c.args.event v s c.answer_for-answer.ensures c.perform.ensures.journal c.perform.ensures.marked in
+    let e : Entry = entry_of c.args.event v b ms in
+    let items = c.close_entry.ensures.entry ∙ ap (λ l. l.items ++ e ∷ []) c.perform.ensures.journal in
+    let is : c.entry.result.now ≡ e = last-is m.journal.items c.journal-journal.result.now.items e c.entry.result.now c.len-2.result (c.journal-journal.ensures ∙ items) c.len-2.ensures.value c.entry.ensures in
+    let P : CoreState → Type 0 = λ q. IsLegal q.setup (q.journal ++ e ∷ []) in
+    let Q : Entry → Type 0 = λ y. IsLegal old.setup (old.journal ++ y ∷ []) in (
       (
         refl,
         λ _. tt,
         record {
-          setup = ap (λ (s : CoreState). s.setup) c.self.view_is;
-          journal = closed c.before.before ∙ ap (λ (s : CoreState). s.journal ++ e ∷ []) c.self.view_is ∙ ap (λ (x : Entry). old.journal ++ x ∷ []) (sym is);
+          setup = ap (λ (q : CoreState). q.setup) c.self.view_is;
+          journal = items ∙ ap (λ (q : CoreState). q.journal ++ e ∷ []) c.self.view_is ∙ ap (λ (y : Entry). old.journal ++ y ∷ []) (sym is);
         },
       ),
       record {
-        event = ap (λ (x : Entry). x.event) is;
-        legal = subst Q (sym is) (subst P c.self.view_is (legal-closed c.self.inside.setup m.journal.items c.args.event v a ms c.self.invariant.legal (steps c.before.before)));
+        event = ap (λ (y : Entry). y.event) is;
+        legal = subst Q (sym is) (subst P c.self.view_is (legal-closed U m.journal.items c.args.event v b ms c.self.invariant.legal w));
         after = tt;
       },
     )

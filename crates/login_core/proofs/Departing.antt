@@ -1,0 +1,114 @@
+-- Users who leave, and those whose delay is over.
+use Rattle.std.proofs.Common.{◌≡◌, ◌==◌, ℕ, not, Bool, true, false, cond, Option, None, Some, List, [], ◌∷◌, filter, find, refl, ap, sym, ◌∙◌, inl, inr}
+use Rattle.std.specs.Option.{is_some}
+use Rattle.login_base.specs.declared.ids.Uid.{Uid}
+use Rattle.login_base.specs.declared.ids.SessId.{SessId}
+use Rattle.login_model.specs.declared.fact.Key.TheVariants as key
+use Rattle.login_model.specs.declared.fact.Fact.{Fact}
+use Rattle.login_model.specs.declared.fact.Fact.TheVariants as fact
+use Rattle.login_model.specs.declared.mark.Whom.TheVariants.{All}
+use Rattle.login_model.specs.declared.mark.Notice.TheVariants.{UserRemoved}
+use Rattle.login_model.specs.declared.setup.Setup.{Setup}
+use Rattle.login_model.specs.Same.{same_key}
+use Rattle.login_model.specs.Names.{names, user_lt, user_in}
+use Rattle.login_model.specs.Trail.{Trail, value, put}
+use Rattle.login_model.specs.Where.{is_user, is_user_fact, is_user_in, users, sessions, sessions_of}
+use Rattle.login_model.specs.Procedure.{is_empty, forget, leave}
+use Rattle.login_model.specs.Direct.{leave_known, is_overdue_fact, overdue}
+use Rattle.login_model.proofs.Grows.{Grows, grows-refl, leave-grows}
+use Rattle.login_model.proofs.Keys.{test, same-user}
+use Rattle.login_model.proofs.NameLaws.{user_order}
+use Rattle.login_model.proofs.InOrder.{rest-all, users-enumerated}
+use Rattle.login_core.specs.Leaving.{is_known, is_overdue}
+use Rattle.login_core.proofs.Among.{among, left-same}
+use Rattle.login_core.proofs.Frames.{Keeps, keeps-then, keeps-put, keeps-say, put-other}
+use Rattle.login_core.proofs.Going.{Tour, left, KeepsAbove}
+
+-- a user who is known leaves
+pub known-leaves : (U : Setup) (u : Uid) (f : Fact) (t : Trail) → is_known f ≡ true → leave_known U u f t ≡ leave U u t
+known-leaves U u fact.Known t e = refl
+known-leaves U u _ t e = cc
+
+pub other-stays : (U : Setup) (u : Uid) (f : Fact) (t : Trail) → is_known f ≡ false → leave_known U u f t ≡ t
+other-stays U u fact.Known t e = cc
+other-stays U u _ t e = refl
+
+pub leave_known-grows : (U : Setup) (u : Uid) (f : Fact) (t : Trail) → Grows t (leave_known U u f t)
+leave_known-grows U u fact.Known t = leave-grows U u t
+leave_known-grows U u _ t = grows-refl t
+
+pub ruleset leaving = (known-leaves, other-stays, leave_known-grows, leave-grows)
+
+-- one is found where there are some
+found-some : {A : Type 0} (b : Bool) (x : A) (xs : List A) (o : Option A) → is_some o ≡ not (is_empty xs) → is_some (cond b (Some x) o) ≡ not (is_empty (cond b (x ∷ xs) xs))
+found-some true x xs o e = refl
+found-some false x xs o e = e
+
+some-found : {A : Type 0} (p : A → Bool) (xs : List A) → is_some (find p xs) ≡ not (is_empty (filter p xs))
+some-found p [] = refl
+some-found p (x ∷ xs) = found-some (p x) x (filter p xs) (find p xs) (some-found p xs)
+
+pub session-found : (t : Trail) (u : ℕ) → is_some (find (λ (s : SessId). is_user_in u (value t (key.Sess s))) (sessions t)) ≡ not (is_empty (sessions_of t u))
+unfolding sessions_of
+session-found t u = some-found (λ (s : SessId). is_user_in u (value t (key.Sess s))) (sessions t)
+
+-- a user whose delay is over is not absent
+overdue-user : (U : Setup) (m : ℕ) (f : Fact) → is_overdue_fact U m f ≡ true → is_user_fact f ≡ true
+overdue-user U m (fact.Leaving since) e = refl
+overdue-user U m _ e = cc
+
+pub overdue-there : (U : Setup) (m : ℕ) (t : Trail) (u : Uid) → is_overdue U m t u ≡ true → is_user t u ≡ true
+overdue-there U m t u e = overdue-user U m (value t (key.User u)) e
+
+-- the users
+abbrev pub all_users : Tour Uid
+all_users = record {
+  lt = user_lt;
+  there = λ t. is_user t;
+  list = λ t. names user_lt user_in t;
+  whole = users-enumerated;
+}
+
+-- those whose delay is over
+abbrev pub late : Setup → ℕ → Tour Uid
+late U m = record {
+  lt = user_lt;
+  there = λ t. is_overdue U m t;
+  list = λ t. filter (is_user t) (names user_lt user_in t);
+  whole = λ t. among user_lt (is_user t) (is_overdue U m t) (names user_lt user_in t) (overdue-there U m t) (users-enumerated t);
+}
+
+pub late-all : (U : Setup) (m : ℕ) (t : Trail) → left (late U m) t None ≡ overdue U t m
+unfolding overdue users
+late-all U m t = rest-all user_lt (is_overdue U m t) (filter (is_user t) (names user_lt user_in t)) ((late U m).whole t)
+
+overdue-is : (U : Setup) (m : ℕ) (t : Trail) → overdue U t m ≡ filter (is_overdue U m t) (filter (is_user t) (names user_lt user_in t))
+unfolding overdue users
+overdue-is U m t = refl
+
+-- they are the same at another moment of the clock
+pub late-then : (U : Setup) (m : ℕ) (f : Fact) (t : Trail) → overdue U (put key.Now f t) m ≡ overdue U t m
+late-then U m f t =
+    let v = put key.Now f t in
+    overdue-is U m v ∙ left-same (late U m) t v (λ u. ap (is_overdue_fact U m) (put-other key.Now f t (key.User u) refl)) ∙ sym (overdue-is U m t)
+
+-- another user's key
+other : (u w : Uid) → user_lt u w ≡ true → same_key (key.User u) (key.User w) ≡ false
+other u w l = elim (test (u.0 == w.0)) [
+  | inl y ↦ absurd (
+      let q : u ≡ w = same-user u w y in
+      let r : user_lt u u ≡ true = ap (user_lt u) q ∙ l in
+      let i : user_lt u u ≡ false = user_order.irreflexive u in
+      let z : true ≡ false = sym r ∙ i in cc)
+  | inr n ↦ n
+]
+
+keeps-forget : (u : Uid) (t : Trail) → Keeps (same_key (key.User u)) t (forget u t)
+keeps-forget u t =
+    let T = same_key (key.User u) in
+    let a = put (key.User u) fact.Absent t in
+    keeps-then T t a (forget u t) (keeps-put T (key.User u) fact.Absent t (λ k e. e)) (keeps-say T All (UserRemoved u) a)
+
+-- a user who is forgotten leaves those above alone
+pub forget-above : (U : Setup) (m : ℕ) → KeepsAbove (late U m) forget
+forget-above U m u w t l = ap (is_overdue_fact U m) ((keeps-forget u t).facts (key.User w) (other u w l))

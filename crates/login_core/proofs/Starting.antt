@@ -1,0 +1,55 @@
+-- A core before the first event.
+use Rattle.std.proofs.Common.{◌≡◌, ◌≤◌, ◌+◌, true, false, None, List, [], length, refl, ap, sym, subst, ◌∙◌, arith}
+use Rattle.login_base.specs.declared.ids.SessId.{SessId}
+use Rattle.login_model.specs.Full.{taken_by}
+use Rattle.login_model.specs.Legal.{IsLegal, trail_of}
+use Rattle.login_model.specs.Need.{need}
+use Rattle.login_model.specs.Names.{names}
+use Rattle.login_model.specs.Stopping.{stop_from}
+use Rattle.login_model.specs.Trail.{Trail, value}
+use Rattle.login_model.specs.Where.{connections, locks, open_sessions, sessions}
+use Rattle.login_model.specs.declared.mark.Entry.{Entry}
+use Rattle.login_model.specs.declared.setup.Setup.{Setup}
+use Rattle.login_core.specs.Inside.{IsCore}
+use Rattle.login_core.specs.Kept.{HaveTexts, copies_in}
+use Rattle.login_core.specs.declared.machine.Machine.{Machine}
+use Rattle.login_core.specs.declared.texts.Texts.{Texts}
+
+no-connections : length (connections []) ≡ 0
+unfolding connections names
+no-connections = refl
+
+no-need : need [] ≡ 0
+unfolding need connections sessions open_sessions locks taken_by names value
+no-need = refl
+
+false-true : false ≡ true → ⊥
+false-true e = cc
+
+no-texts : (x : Texts) → ((s : SessId) → copies_in x.closing.items s ≡ None) → ((s : SessId) → copies_in x.gone.items s ≡ None) → HaveTexts x []
+unfolding value
+no-texts x a b = record {
+  closing = record { kept = λ s e. absurd (false-true e); made = λ s e. a s };
+  gone = record { kept = λ s e. absurd (false-true e); made = λ s e. b s };
+}
+
+pub core-new : (U : Setup) (m : Machine) (x : Texts) → m.journal.items ≡ [] → m.marks.items ≡ [] → 1 ≤ m.journal.entries → ((s : SessId) → copies_in x.closing.items s ≡ None) → ((s : SessId) → copies_in x.gone.items s ≡ None)
+    → IsCore U m x None
+core-new U m x j k n a b =
+    let P : List Entry → Type 0 = IsLegal U in
+    let t : trail_of m.journal.items ≡ [] = ap trail_of j in
+    let c = ap (λ (u : Trail). length (connections u)) t ∙ no-connections in
+    let d = ap (λ (u : Trail). length u + need u) t in
+    let e = no-need in
+    let l = ap length j in
+    let Q : Trail → Type 0 = HaveTexts x in
+    record {
+      legal = subst P (sym j) tt;
+      no_marks = k;
+      stop_is = ap (stop_from 1) (sym j);
+      entries = omega arith;
+      reach = omega arith;
+      kept_texts = subst Q (sym t) (no-texts x a b);
+      few_entries = omega arith;
+      few_marks = omega arith;
+    }

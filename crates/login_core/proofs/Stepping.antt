@@ -1,0 +1,198 @@
+-- What a step keeps.
+use Rattle.std.proofs.Common.{◌≡◌, ◌≤◌, ◌<◌, ◌+◌, ◌-◌, ℕ, Bool, false, cond, Option, Some, None, List, [], ◌∷◌, ◌++◌, length, refl, ap, sym, subst, ◌∙◌, arith}
+use Rattle.login_base.specs.declared.ids.ConnId.{ConnId}
+use Rattle.login_model.specs.Full.{mark_count}
+use Rattle.login_model.specs.Legal.{IsLegal, IsPlaced, answered, stepped, trail_of}
+use Rattle.login_model.specs.Need.{IsDisconnect, need}
+use Rattle.login_model.specs.Policy.{verdict}
+use Rattle.login_model.specs.Sound.{IsSound}
+use Rattle.login_model.specs.Stopping.{is_stop, stop_from, stopped}
+use Rattle.login_model.specs.Trail.{Trail}
+use Rattle.login_model.specs.Where.{connections}
+use Rattle.login_model.specs.Answers.{answer}
+use Rattle.login_model.specs.declared.answer.Answer.{Answer}
+use Rattle.login_model.specs.declared.answer.Answer.TheVariants.{Nothing}
+use Rattle.login_model.specs.declared.rule.Verdict.TheVariants.{Granted, Denied}
+use Rattle.login_model.specs.declared.event.Event.{Event}
+use Rattle.login_model.specs.declared.event.Event.TheVariants.{Connect, Disconnect, Call as Calls, Hardware as Happens, Tick, Stop}
+use Rattle.login_model.specs.declared.mark.Entry.{Entry}
+use Rattle.login_model.specs.declared.mark.Mark.{Mark}
+use Rattle.login_model.specs.declared.rule.Verdict.{Verdict}
+use Rattle.login_model.specs.declared.setup.Setup.{Setup}
+use Rattle.login_model.proofs.Comings.{disconnect-connections}
+use Rattle.login_model.proofs.RoomLaws.{room}
+use Rattle.login_core.specs.Fullness.{always_fits}
+use Rattle.login_core.specs.Inside.{IsCore, stop_need}
+use Rattle.login_core.specs.Kept.{AreReady, HaveTexts}
+use Rattle.login_core.specs.Machine.{entry_of}
+use Rattle.login_core.specs.State.{CoreState, IsReady, IsRoomFor, answer_next, stop_next}
+use Rattle.login_core.specs.declared.machine.Machine.{Machine}
+use Rattle.login_core.specs.declared.texts.Texts.{Texts}
+use Rattle.login_core.proofs.Entries.{Steps, legal-closed, length-closed, marks-counted, stop-closed, trail-closed}
+use Rattle.login_core.proofs.Keeping.{Kept, Made, kept-disconnect, kept-other, kept-stop, small}
+
+-- what a core of these parts is seen as
+abbrev pub seen : Setup → Machine → Texts → Answer → CoreState
+seen U m x a = record { setup = U; journal = m.journal.items; entries = m.journal.entries; reach = m.journal.reach; texts = x; answer = a }
+
+-- what is so where an event is stepped
+pub record Stepping (U : Setup) (m : Machine) (x : Texts) (a : Answer) (stop : Option ℕ) (e : Event) (v : Verdict) : Type 0 where
+  pub core : IsCore U m x stop
+  pub placed : IsPlaced m.journal.items e
+  pub ready : IsReady (seen U m x a) e
+  pub verdict_is : v ≡ verdict U (trail_of m.journal.items) e
+  pub sound : IsSound (trail_of m.journal.items)
+
+pub stopped-never : (es : List Entry) (c : ConnId) → stopped es (Disconnect c) ≡ None
+unfolding stopped
+stopped-never es c = refl
+
+pub stop-before : (es : List Entry) (e : Event) → (IsDisconnect e → ⊥) → stop_from 1 es ≡ stopped es e
+unfolding stopped
+stop-before es (Disconnect c) n = absurd (n tt)
+stop-before es _ n = refl
+
+-- the stop was not stepped before an event that is no disconnect
+no-stop : (U : Setup) (m : Machine) (x : Texts) (stop : Option ℕ) (e : Event) → IsCore U m x stop → IsPlaced m.journal.items e → (IsDisconnect e → ⊥) → stop ≡ None
+no-stop U m x stop e k p n = k.stop_is ∙ stop-before m.journal.items e n ∙ p.1
+
+made : (U : Setup) (m : Machine) (x : Texts) (a : Answer) (e : Event) (last : ℕ) → always_fits e ≡ false → m.journal.entries ≡ last + 1 → IsRoomFor (seen U m x a) e → Made U (last + 1) m.journal.reach (length m.journal.items) (trail_of m.journal.items) e
+made U m x a e last f l r =
+    let t = trail_of m.journal.items in
+    let s = small U m.journal.items e f r.small in
+    let marks = s.marks in
+    let entries = s.entries in
+    let counted = marks-counted m.journal.items in
+    let h = room t (mark_count m.journal.items) in
+    let made = r.entries in
+    record {
+      entries_made = omega arith;
+      reach_made = r.reach;
+      few_entries = omega arith;
+      few_marks = omega arith;
+    }
+
+kept-core : (U : Setup) (m : Machine) (x : Texts) (stop : Option ℕ) (last : ℕ) → m.journal.entries ≡ last + 1 → IsCore U m x stop → Kept (last + 1) m.journal.reach (length m.journal.items) stop (trail_of m.journal.items)
+kept-core U m x stop last l k =
+    let a = k.entries in
+    record { entries_kept = omega arith; reach_kept = k.reach; few_entries = k.few_entries; few_marks = k.few_marks }
+
+has-other : (U : Setup) (m : Machine) (x : Texts) (a : Answer) (e : Event) → IsRoomFor (seen U m x a) e → 0 < m.journal.entries
+has-other U m x a e r = let n = r.entries in omega arith
+
+-- there is room for the entry
+pub has-entry : (U : Setup) (m : Machine) (x : Texts) (a : Answer) (stop : Option ℕ) (e : Event) (v : Verdict) → Stepping U m x a stop e v → 0 < m.journal.entries
+has-entry U m x a stop (Connect c u) v s = has-other U m x a (Connect c u) s.ready
+has-entry U m x a stop (Calls r) v s = has-other U m x a (Calls r) s.ready
+has-entry U m x a stop (Happens y) v s = has-other U m x a (Happens y) s.ready
+has-entry U m x a stop (Tick n) v s = has-other U m x a (Tick n) s.ready
+has-entry U m x a stop (Disconnect c) v s =
+    let g = disconnect-connections U c (trail_of m.journal.items) s.placed.0 in
+    let h = s.core.entries in
+    omega arith
+has-entry U m x a stop Stop v s =
+    let n = ap stop_need (no-stop U m x stop Stop s.core s.placed (λ z. z)) in
+    let h = s.core.entries in
+    omega arith
+
+other-step : (U : Setup) (m : Machine) (x : Texts) (a : Answer) (stop : Option ℕ) (e : Event) (v : Verdict) (last : ℕ) → (IsDisconnect e → ⊥) → always_fits e ≡ false → is_stop e ≡ false → m.journal.entries ≡ last + 1
+    → IsRoomFor (seen U m x a) e → Stepping U m x a stop e v → Kept last m.journal.reach (length m.journal.items + 1) (stop_next stop e (length m.journal.items + 1)) (stepped U v e (trail_of m.journal.items))
+other-step U m x a stop e v last n f i l r s =
+    let t = trail_of m.journal.items in
+    let P : Option ℕ → Type 0 = λ o. Kept last m.journal.reach (length m.journal.items + 1) o (stepped U v e t) in
+    let k = kept-other U last m.journal.reach (length m.journal.items) t e v s.sound n s.verdict_is (made U m x a e last f l r) in
+    let none = no-stop U m x stop e s.core s.placed n in
+    subst P (sym (ap (λ (o : Option ℕ). stop_next o e (length m.journal.items + 1)) none ∙ ap (λ (b : Bool). cond b (Some (length m.journal.items + 1)) None) i)) k
+
+-- room is kept for all ends
+pub kept-step : (U : Setup) (m : Machine) (x : Texts) (a : Answer) (stop : Option ℕ) (e : Event) (v : Verdict) (last : ℕ) → m.journal.entries ≡ last + 1 → Stepping U m x a stop e v
+    → Kept last m.journal.reach (length m.journal.items + 1) (stop_next stop e (length m.journal.items + 1)) (stepped U v e (trail_of m.journal.items))
+kept-step U m x a stop (Connect c u) v last l s = other-step U m x a stop (Connect c u) v last (λ z. z) refl refl l s.ready s
+kept-step U m x a stop (Calls r) v last l s = other-step U m x a stop (Calls r) v last (λ z. z) refl refl l s.ready s
+kept-step U m x a stop (Happens y) v last l s = other-step U m x a stop (Happens y) v last (λ z. z) refl refl l s.ready s
+kept-step U m x a stop (Tick n) v last l s = other-step U m x a stop (Tick n) v last (λ z. z) refl refl l s.ready s
+kept-step U m x a stop (Disconnect c) v last l s =
+    let t = trail_of m.journal.items in
+    let n = length m.journal.items in
+    let P : Option ℕ → Type 0 = λ o. Kept last m.journal.reach (n + 1) o (stepped U v (Disconnect c) t) in
+    subst P (sym (still stop (n + 1))) (kept-disconnect U last m.journal.reach n stop t c v s.sound s.placed.0 s.verdict_is (kept-core U m x stop last l s.core))
+  where
+    still : (o : Option ℕ) (k : ℕ) → stop_next o (Disconnect c) k ≡ o
+    still None k = refl
+    still (Some i) k = refl
+kept-step U m x a stop Stop v last l s =
+    let t = trail_of m.journal.items in
+    let n = length m.journal.items in
+    let none = no-stop U m x stop Stop s.core s.placed (λ z. z) in
+    let P : Option ℕ → Type 0 = λ o. Kept last m.journal.reach (n + 1) (stop_next o Stop (n + 1)) (stepped U v Stop t) in
+    let Q : Option ℕ → Type 0 = λ o. Kept (last + 1) m.journal.reach n o t in
+    subst P (sym none) (kept-stop U last m.journal.reach n (n + 1) t v s.sound s.verdict_is (subst Q none (kept-core U m x stop last l s.core)))
+
+pub ready-texts : (c : CoreState) (e : Event) → IsReady c e → AreReady e c.texts
+ready-texts c (Connect b u) r = r.texts
+ready-texts c (Calls q) r = r.texts
+ready-texts c (Happens y) r = r.texts
+ready-texts c (Tick n) r = r.texts
+ready-texts c (Disconnect b) r = tt
+ready-texts c Stop r = tt
+
+-- the marks stay within the reach
+pub stays-within : (U : Setup) (m : Machine) (x : Texts) (a : Answer) (stop : Option ℕ) (e : Event) (v : Verdict) → Stepping U m x a stop e v → length (stepped U v e (trail_of m.journal.items)) ≤ m.journal.reach
+stays-within U m x a stop e v s =
+    let has = has-entry U m x a stop e v s in
+    let k = kept-step U m x a stop e v (m.journal.entries - 1) (omega arith) s in
+    let r = k.reach_kept in
+    omega arith
+
+disconnect-answer : (U : Setup) (c : ConnId) (t : Trail) (v : Verdict) → Nothing ≡ answered U v (Disconnect c) t
+unfolding answer
+disconnect-answer U c t Granted = refl
+disconnect-answer U c t (Denied r) = refl
+
+stop-answer : (U : Setup) (t : Trail) (v : Verdict) → Nothing ≡ answered U v Stop t
+unfolding answer
+stop-answer U t Granted = refl
+stop-answer U t (Denied r) = refl
+
+other-answer : (U : Setup) (m : Machine) (x : Texts) (a : Answer) (stop : Option ℕ) (e : Event) (v : Verdict) → IsRoomFor (seen U m x a) e → Stepping U m x a stop e v → a ≡ answered U v e (trail_of m.journal.items)
+other-answer U m x a stop e v r s = r.answer ∙ ap (λ (w : Verdict). answered U w e (trail_of m.journal.items)) (sym s.verdict_is)
+
+-- the answer that was made ready is the event's
+pub answered-next : (U : Setup) (m : Machine) (x : Texts) (a : Answer) (stop : Option ℕ) (e : Event) (v : Verdict) → Stepping U m x a stop e v → answer_next e a ≡ answered U v e (trail_of m.journal.items)
+answered-next U m x a stop (Connect c u) v s = other-answer U m x a stop (Connect c u) v s.ready s
+answered-next U m x a stop (Calls r) v s = other-answer U m x a stop (Calls r) v s.ready s
+answered-next U m x a stop (Happens y) v s = other-answer U m x a stop (Happens y) v s.ready s
+answered-next U m x a stop (Tick n) v s = other-answer U m x a stop (Tick n) v s.ready s
+answered-next U m x a stop (Disconnect c) v s = disconnect-answer U c (trail_of m.journal.items) v
+answered-next U m x a stop Stop v s = stop-answer U (trail_of m.journal.items) v
+
+-- the machine after the entry is closed is one of a core again
+pub core-closed : (U : Setup) (m n : Machine) (x y : Texts) (a b : Answer) (stop next : Option ℕ) (e : Event) (v : Verdict) (ms : List Mark) → Stepping U m x a stop e v → Steps U m.journal.items e v b ms
+    → n.journal.items ≡ m.journal.items ++ entry_of e v b ms ∷ [] → n.marks.items ≡ [] → n.journal.entries + 1 ≡ m.journal.entries → n.journal.reach ≡ m.journal.reach
+    → next ≡ stop_next stop e (length m.journal.items + 1) → HaveTexts y (stepped U v e (trail_of m.journal.items)) → IsCore U n y next
+core-closed U m n x y a b stop next e v ms s w j k l r o h =
+    let es = m.journal.items in
+    let t = trail_of es in
+    let d = entry_of e v b ms in
+    let P : List Entry → Type 0 = IsLegal U in
+    let len : length n.journal.items ≡ length es + 1 = ap length j ∙ length-closed es d in
+    let trail : trail_of n.journal.items ≡ stepped U v e t = ap trail_of j ∙ trail-closed U es e v b ms w in
+    let kept = kept-step U m x a stop e v n.journal.entries (sym l) s in
+    let Q : Trail → Type 0 = HaveTexts y in
+    let c = ap (λ (u : Trail). length (connections u)) trail in
+    let f = ap (λ (u : Trail). length u + need u) trail in
+    let g = ap stop_need o in
+    let A = kept.entries_kept in
+    let B = kept.reach_kept in
+    let C = kept.few_entries in
+    let D = kept.few_marks in
+    record {
+      legal = subst P (sym j) (legal-closed U es e v b ms s.core.legal w);
+      no_marks = k;
+      stop_is = o ∙ ap (λ (p : Option ℕ). stop_next p e (length es + 1)) s.core.stop_is ∙ sym (stop-closed es d) ∙ ap (stop_from 1) (sym j);
+      entries = omega arith;
+      reach = omega arith;
+      kept_texts = subst Q (sym trail) h;
+      few_entries = omega arith;
+      few_marks = omega arith;
+    }

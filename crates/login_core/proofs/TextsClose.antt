@@ -1,0 +1,47 @@
+-- The copies of texts that are kept when a handle closes.
+use Rattle.std.proofs.Common.{◌≡◌, Some, None, List, refl, sym, ap, ◌∙◌, subst}
+use Rattle.login_base.specs.declared.ids.HandleNo.{HandleNo}
+use Rattle.login_base.specs.declared.ids.SessId.{SessId}
+use Rattle.login_model.specs.Direct.{close, close_handle, close_owned}
+use Rattle.login_model.specs.Procedure.{shut}
+use Rattle.login_model.specs.Trail.{Trail, value}
+use Rattle.login_model.specs.declared.fact.Fact.{Fact}
+use Rattle.login_model.specs.declared.fact.Fact.TheVariants.{Owned}
+use Rattle.login_model.specs.declared.fact.Key.TheVariants.{Owner}
+use Rattle.login_model.specs.declared.fact.Owner.TheVariants as owner
+use Rattle.login_model.proofs.Carried.{close-carried}
+use Rattle.login_model.proofs.Tame.{Tame, tame}
+use Rattle.login_core.specs.Calls.{fifo_session}
+use Rattle.login_core.specs.Kept.{AreClosing, copies_in}
+use Rattle.login_core.specs.declared.kept.KeptRow.{KeptRow}
+use Rattle.login_core.proofs.ShutLaws.{kept-shut}
+use Rattle.login_core.proofs.TextsEnd.{OthersStay}
+use Rattle.login_core.proofs.TextsKept.{closing-later}
+
+fifo-shuts : (h : HandleNo) (f : Fact) (s : SessId) (t : Trail) → fifo_session f ≡ Some s → close_owned h f t ≡ shut s (close_handle h t)
+fifo-shuts h (Owned (owner.Fifo c r)) s t e = ap (λ (z : SessId). shut z (close_handle h t)) (let y : r ≡ s = cc in y)
+fifo-shuts h _ s t e = absurd (let z : None ≡ Some s = e in cc)
+
+close-is : (h : HandleNo) (t : Trail) → close h t ≡ close_owned h (value t (Owner h)) t
+unfolding close
+close-is h t = refl
+
+-- the handle is a session's fifo, whose copies are taken
+pub closing-fifo : (h : HandleNo) (s : SessId) (t u : Trail) (rows left : List KeptRow) → u ≡ close h t → fifo_session (value t (Owner h)) ≡ Some s → OthersStay s rows left
+    → ((r : SessId) → copies_in rows r ≡ None → copies_in left r ≡ None) → AreClosing rows t → AreClosing left u
+closing-fifo h s t u rows left e f others fewer c =
+    let v = close_handle h t in
+    let P : Trail → Type 0 = Tame t in
+    let p = subst P (sym e) (close-carried tame h t) in
+    let q = tame.put (Owner h) (Owned owner.Closed) t refl in
+    let d = closing-later rows t v q.sessions c in
+    record {
+      kept = kept-shut s v u rows left (e ∙ close-is h t ∙ fifo-shuts h (value t (Owner h)) s t f) others d.kept;
+      made = λ r n. fewer r (c.made r (sym (p.sessions r).texts ∙ n));
+    }
+
+-- it is none
+pub closing-other : (h : HandleNo) (t u : Trail) (rows : List KeptRow) → u ≡ close h t → AreClosing rows t → AreClosing rows u
+closing-other h t u rows e c =
+    let P : Trail → Type 0 = Tame t in
+    closing-later rows t u (subst P (sym e) (close-carried tame h t)).sessions c

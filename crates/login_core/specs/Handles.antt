@@ -1,0 +1,25 @@
+-- What closing a handle needs.
+use Rattle.std.specs.Prelude.{◌≡◌, true, Option, Some, None}
+use Rattle.login_model.specs.declared.fact.Key.TheVariants.{Sess}
+use Rattle.login_model.specs.declared.fact.Fact.{Fact}
+use Rattle.login_model.specs.declared.fact.Fact.TheVariants.{Absent, Owned}
+use Rattle.login_model.specs.declared.fact.Owner.{Owner}
+use Rattle.login_model.specs.declared.fact.Owner.TheVariants.{Fifo}
+use Rattle.login_model.specs.Trail.{Trail, value}
+use Rattle.login_model.specs.Where.{is_open}
+use Rattle.login_core.specs.declared.copies.Copies.{Copies}
+use Rattle.login_core.specs.Texts.{AreSome}
+
+-- the owner that a fact tells
+abbrev pub owner_in : Fact → Option Owner
+owner_in (Owned o) = Some o
+owner_in _ = None
+
+abbrev pub owner_fact : Option Owner → Fact
+owner_fact (Some o) = Owned o
+owner_fact None = Absent
+
+-- where the owner's fact names the fifo of an open session, there are copies of its texts
+abbrev pub AreForClosing : Trail → Fact → Option Copies → Type 0
+AreForClosing t (Owned (Fifo c s)) closing = is_open t s ≡ true → AreSome (value t (Sess s)) closing
+AreForClosing t _ closing = Unit {0}

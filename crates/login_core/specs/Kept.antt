@@ -1,0 +1,71 @@
+-- Copies of sessions' texts, kept for the end of each session.
+use Rattle.std.specs.Prelude.{◌≡◌, ◌==◌, ◌<◌, Bool, true, if◌then◌else◌, Option, Some, None, List, [], ◌∷◌}
+use Rattle.login_base.specs.declared.ids.SessId.{SessId}
+use Rattle.login_model.specs.declared.call.Call.{Call}
+use Rattle.login_model.specs.declared.call.Call.TheVariants.{Create}
+use Rattle.login_model.specs.declared.call.Creation.{Creation}
+use Rattle.login_model.specs.declared.event.Event.{Event}
+use Rattle.login_model.specs.declared.event.Event.TheVariants.{Call as Calls}
+use Rattle.login_model.specs.declared.fact.Key.TheVariants.{Sess}
+use Rattle.login_model.specs.MadeWith.{texts_in}
+use Rattle.login_model.specs.Trail.{Trail, value}
+use Rattle.login_model.specs.Where.{is_open, is_session}
+use Rattle.login_core.specs.declared.copies.Copies.{Copies}
+use Rattle.login_core.specs.declared.kept.KeptRow.{KeptRow}
+use Rattle.login_core.specs.declared.texts.FreshTexts.{FreshTexts}
+use Rattle.login_core.specs.declared.texts.Texts.{Texts}
+use Rattle.login_core.specs.Texts.{AreSome, session_texts}
+
+abbrev pub is_row_of : SessId → KeptRow → Bool
+is_row_of s row = row.session.0 == s.0
+
+-- the copies that are kept for a session, if there are any
+unfoldable pub copies_in : List KeptRow → SessId → Option Copies
+copies_in [] s = None
+copies_in (row ∷ rows) s = if is_row_of s row then Some row.copies else copies_in rows s
+
+-- for each of these sessions there are copies of its texts
+abbrev pub AreKept : (Trail → SessId → Bool) → List KeptRow → Trail → Type 0
+AreKept there rows t = (s : SessId) → there t s ≡ true → AreSome (value t (Sess s)) (copies_in rows s)
+
+-- none are kept for a session that was never made
+abbrev pub AreMade : List KeptRow → Trail → Type 0
+AreMade rows t = (s : SessId) → texts_in (value t (Sess s)) ≡ None → copies_in rows s ≡ None
+
+-- there are the copies with which each open session closes
+pub record AreClosing (rows : List KeptRow) (t : Trail) : Type 0 where
+  pub kept : AreKept is_open rows t
+  pub made : AreMade rows t
+
+-- there are the copies with which each session goes that is not gone
+pub record AreGoing (rows : List KeptRow) (t : Trail) : Type 0 where
+  pub kept : AreKept is_session rows t
+  pub made : AreMade rows t
+
+pub record HaveTexts (texts : Texts) (t : Trail) : Type 0 where
+  pub closing : AreClosing texts.closing.items t
+  pub gone : AreGoing texts.gone.items t
+
+-- both copies are of the texts with which a session is created
+pub record AreOf (x : Creation) (c : Copies) : Type 0 where
+  pub mark : c.mark ≡ session_texts x
+  pub fact : c.fact ≡ session_texts x
+
+abbrev pub AreFresh : Creation → Option FreshTexts → Type 0
+AreFresh x None = ⊥
+AreFresh x (Some f) = AreOf x f.created × (AreOf x f.closing × AreOf x f.gone)
+
+-- the copies for a creation are there, and room for those that are kept
+pub record AreReadyFor (x : Creation) (texts : Texts) : Type 0 where
+  pub fresh : AreFresh x texts.fresh
+  pub closing : 0 < texts.closing.spare
+  pub gone : 0 < texts.gone.spare
+
+abbrev pub AreReadyToCall : Call → Texts → Type 0
+AreReadyToCall (Create x) texts = AreReadyFor x texts
+AreReadyToCall _ texts = Unit {0}
+
+-- the texts for an event are there
+abbrev pub AreReady : Event → Texts → Type 0
+AreReady (Calls r) texts = AreReadyToCall r.call texts
+AreReady _ texts = Unit {0}

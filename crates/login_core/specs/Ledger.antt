@@ -1,0 +1,24 @@
+-- The journal, and the room that is kept for its next entries.
+use Rattle.std.specs.Prelude.{ℕ, ◌≡◌, ◌≤◌, List, [], length}
+use Rattle.std.specs.List.{AllByRecursion}
+use Rattle.login_base.specs.Room.{Room}
+use Rattle.login_model.specs.declared.mark.Entry.{Entry}
+use Rattle.login_model.specs.declared.mark.Mark.{Mark}
+
+-- the entries; how many more there is room for, each with how many marks; and how many marks there may
+-- be in all
+pub record LedgerState : Type 0 where
+  pub items : List Entry
+  pub entries : ℕ
+  pub room : ℕ
+  pub reach : ℕ
+
+-- each of these lists of marks is empty, and has room for so many
+abbrev pub HaveRoom : ℕ → List (Room Mark) → Type 0
+HaveRoom room blanks = AllByRecursion (λ (b : Room Mark). (b.items ≡ []) × (room ≤ b.spare)) blanks
+
+-- the room that is told is there
+pub record IsLedger (entries room spare : ℕ) (blanks : List (Room Mark)) : Type 0 where
+  pub entries_fit : entries ≤ spare
+  pub blanks_fit : entries ≤ length blanks
+  pub have_room : HaveRoom room blanks

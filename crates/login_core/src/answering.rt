@@ -1,0 +1,196 @@
+// What a granted event is answered. The answer is made before the event's marks, since it may take memory.
+
+ghost use Rattle.std.specs.Prelude.{◌≡◌, IfOk, map};
+ghost use Rattle.login_model.specs.Fresh.{next_session, next_handle};
+ghost use Rattle.login_model.specs.Where.{sessions, users, seats};
+ghost use Rattle.login_model.specs.Creating.{seat_of};
+ghost use Rattle.login_model.specs.Answers.{name_among, user_name, session_row, known_user, session_answer, seat_answer, call_answer, answer};
+
+use crate::created::seat_of;
+use crate::leaving::owner_of;
+use login_base::{Items, NoMemory, SeatName, SessId, Uid, Word};
+use login_model::{
+    Answer, Call, Created, Creation, Event, Fact, Key, KnownUser, Look, SessionRow, Setup, UserRow,
+};
+use login_table::{list, seat_of_session};
+use std::alloc::Global;
+
+/// The name of the first of these users that has the number.
+fn name_among(users: &[UserRow], uid: u32) -> &[u8]
+    ensures { result.now ≡ name_among users.now uid }
+{
+    for user in users {
+        if user.uid.0 == uid {
+            return user.name.as_slice();
+        }
+    }
+    b"".as_slice()
+}
+
+/// The name of a user in the setup; root's is known without.
+fn user_name(setup: &Setup, uid: u32) -> &[u8]
+    ensures { result.now ≡ user_name setup.now uid }
+{
+    if uid == 0 {
+        b"root".as_slice()
+    } else {
+        name_among(setup.users.as_slice(), uid)
+    }
+}
+
+fn session_row<F: Look>(
+    alloc: Global,
+    facts: &F,
+    setup: &Setup,
+    session: SessId,
+) -> Result<SessionRow, NoMemory>
+    ensures { IfOk result (λ row. row ≡ session_row setup.now (F.trail facts.now) session) }
+{
+    let uid = owner_of(facts.fact(&Key::Sess(session)));
+    let name = Word::from_slice(alloc, user_name(setup, uid.0))?;
+    Ok(SessionRow {
+        session,
+        uid,
+        name,
+        seat: seat_of_session(facts, session),
+    })
+}
+
+fn known_user(alloc: Global, setup: &Setup, uid: Uid) -> Result<KnownUser, NoMemory>
+    ensures { IfOk result (λ row. row ≡ known_user setup.now uid) }
+{
+    let name = Word::from_slice(alloc, user_name(setup, uid.0))?;
+    Ok(KnownUser { uid, name })
+}
+
+fn session_rows<F: Look>(
+    alloc: Global,
+    facts: &F,
+    setup: &Setup,
+    sessions: &[SessId],
+) -> Result<Items<SessionRow>, NoMemory>
+    ensures { IfOk result (λ rows. rows ≡ map (session_row setup.now (F.trail facts.now)) sessions.now) }
+{
+    let mut rows = Items::new(alloc);
+    for session in sessions {
+        let row = session_row(alloc, facts, setup, *session)?;
+        rows.push(row)?;
+    }
+    Ok(rows)
+}
+
+fn known_users(alloc: Global, setup: &Setup, users: &[Uid]) -> Result<Items<KnownUser>, NoMemory>
+    ensures { IfOk result (λ rows. rows ≡ map (known_user setup.now) users.now) }
+{
+    let mut rows = Items::new(alloc);
+    for uid in users {
+        let row = known_user(alloc, setup, *uid)?;
+        rows.push(row)?;
+    }
+    Ok(rows)
+}
+
+/// What ListSessions answers.
+#[tactic(auto, unfolding(login_model::specs::Where::sessions))]
+fn list_sessions<F: Look>(alloc: Global, facts: &F, setup: &Setup) -> Result<Answer, NoMemory>
+    ensures { IfOk result (λ a. a ≡ Answer.Sessions (map (session_row setup.now (F.trail facts.now)) (sessions (F.trail facts.now)))) }
+{
+    let sessions = list::<SessId, F>(alloc, facts)?;
+    let rows = session_rows(alloc, facts, setup, sessions.as_slice())?;
+    Ok(Answer::Sessions(rows))
+}
+
+/// What ListUsers answers.
+#[tactic(auto, unfolding(login_model::specs::Where::users))]
+fn list_users<F: Look>(alloc: Global, facts: &F, setup: &Setup) -> Result<Answer, NoMemory>
+    ensures { IfOk result (λ a. a ≡ Answer.Users (map (known_user setup.now) (users (F.trail facts.now)))) }
+{
+    let users = list::<Uid, F>(alloc, facts)?;
+    let rows = known_users(alloc, setup, users.as_slice())?;
+    Ok(Answer::Users(rows))
+}
+
+/// What ListSeats answers.
+#[tactic(auto, unfolding(login_model::specs::Where::seats))]
+fn list_seats<F: Look>(alloc: Global, facts: &F) -> Result<Answer, NoMemory>
+    ensures { IfOk result (λ a. a ≡ Answer.Seats (seats (F.trail facts.now))) }
+{
+    let seats = list::<SeatName, F>(alloc, facts)?;
+    Ok(Answer::Seats(seats))
+}
+
+fn session_answer(session: Option<SessId>) -> Answer
+    ensures { result ≡ session_answer session }
+{
+    match session {
+        Some(session) => Answer::Session(session),
+        None => Answer::Nothing,
+    }
+}
+
+fn seat_answer(seat: Option<SeatName>) -> Answer
+    ensures { result ≡ seat_answer seat }
+{
+    match seat {
+        Some(seat) => Answer::Seat(seat),
+        None => Answer::Nothing,
+    }
+}
+
+/// What CreateSession answers.
+fn created<F: Look>(facts: &F, session: SessId, creation: &Creation) -> Created
+    requires { session ≡ next_session (F.trail facts.now) }
+    ensures session { result.session ≡ next_session (F.trail facts.now) }
+    ensures fifo { result.fifo ≡ next_handle (F.trail facts.now) }
+    ensures uid { result.uid ≡ creation.now.uid }
+    ensures seat { result.seat ≡ seat_of creation.now.seat }
+    ensures vt { result.vt ≡ creation.now.vt }
+{
+    Created {
+        session,
+        fifo: facts.fresh_handle(),
+        uid: creation.uid,
+        seat: seat_of(creation.seat.as_slice()),
+        vt: creation.vt,
+    }
+}
+
+fn call_answer<F: Look>(
+    alloc: Global,
+    facts: &F,
+    setup: &Setup,
+    session: SessId,
+    call: &Call,
+) -> Result<Answer, NoMemory>
+    requires { session ≡ next_session (F.trail facts.now) }
+    ensures { IfOk result (λ a. a ≡ call_answer setup.now (F.trail facts.now) call.now) }
+{
+    match call {
+        Call::Create(creation) => Ok(Answer::Created(created(facts, session, creation))),
+        Call::GetSession(id) => Ok(session_answer(SessId::read(id.as_slice()))),
+        Call::GetUser(uid) => Ok(Answer::User(*uid)),
+        Call::GetSeat(seat) => Ok(seat_answer(seat_of(seat.as_slice()))),
+        Call::ListSessions => list_sessions(alloc, facts, setup),
+        Call::ListUsers => list_users(alloc, facts, setup),
+        Call::ListSeats => list_seats(alloc, facts),
+        _ => Ok(Answer::Nothing),
+    }
+}
+
+/// What a granted event is answered; `session` is the number of the next session.
+#[tactic(auto, unfolding(login_model::specs::Answers::answer))]
+pub fn answer_of<F: Look>(
+    alloc: Global,
+    facts: &F,
+    setup: &Setup,
+    session: SessId,
+    event: &Event,
+) -> Result<Answer, NoMemory>
+    requires { session ≡ next_session (F.trail facts.now) }
+    ensures { IfOk result (λ a. a ≡ answer setup.now (F.trail facts.now) event.now) }
+{
+    match event {
+        Event::Call(request) => call_answer(alloc, facts, setup, session, &request.call),
+        _ => Ok(Answer::Nothing),
+    }
+}

@@ -1,0 +1,154 @@
+// The journal, and the room that is kept for its next entries.
+
+ghost use Rattle.std.specs.Prelude.{◌≡◌, ◌+◌, ◌<◌, ◌≤◌, ◌^◌, ◌-◌, ◌++◌, [], ◌∷◌, OnOk, length, ℕ};
+ghost use Rattle.login_core.specs.Ledger.{HaveRoom};
+
+use login_base::{NoMemory, Reserved};
+use login_model::{Entry, Journal, Mark};
+use std::alloc::Global;
+use std::marker::Model;
+
+/// The journal, with room for more entries, each of which may have so many marks. Some entries are made
+/// without memory, so their lists of marks are made beforehand.
+#[derive(Drop)]
+pub struct Ledger {
+    journal: Journal,
+    blanks: Vec<Reserved<Mark>>,
+    alloc: Global,
+    entries: u32,
+    room: u32,
+    reach: u32,
+}
+
+impl Model for Ledger {
+    ghost use Rattle.std.specs.Prelude.{◌≤◌, length};
+    ghost use Rattle.login_core.specs.Ledger.{LedgerState, IsLedger};
+
+    ghost Value = { LedgerState };
+
+    ghost view = { λ l. record { items = l.journal.items; entries = l.entries; room = l.room; reach = l.reach } };
+
+    ghost invariant = { λ l. IsLedger l.entries l.room l.journal.spare l.blanks.items };
+}
+
+/// Each of these lists gets room for so many. What there is room for already stays.
+fn widen_each(blanks: &mut [Reserved<Mark>], room: u32) -> Result<(), NoMemory>
+    ensures len { length blanks.new ≡ length blanks.old }
+    ensures keeps { (n : ℕ) → HaveRoom n blanks.old → HaveRoom n blanks.new }
+    ensures wider { OnOk result (HaveRoom 0 blanks.old → HaveRoom room blanks.new) }
+{
+    for blank in blanks.iter_mut() {
+        blank.reserve(room as usize)?;
+    }
+    Ok(())
+}
+
+impl Ledger {
+    /// The empty journal, without room. It takes no memory.
+    pub fn new(alloc: Global) -> Ledger
+        ensures items { result.items ≡ [] }
+        ensures entries { result.entries ≡ 0 }
+        ensures room { result.room ≡ 0 }
+        ensures reach { result.reach ≡ 0 }
+    {
+        Ledger {
+            journal: Journal::new(alloc),
+            blanks: Vec::new(alloc),
+            alloc,
+            entries: 0,
+            room: 0,
+            reach: 0,
+        }
+    }
+
+    /// The journal.
+    pub fn journal(&self) -> &Journal
+        ensures { result.now.items ≡ self.now.items }
+    {
+        &self.journal
+    }
+
+    /// How many marks there may be in all.
+    pub fn reach(&self) -> u32
+        ensures { result ≡ self.now.reach }
+    {
+        self.reach
+    }
+
+    /// There may be so many marks in all.
+    pub fn raise(&mut self, reach: u32)
+        ensures reach { self.new.reach ≡ reach }
+        ensures items { self.new.items ≡ self.old.items }
+        ensures entries { self.new.entries ≡ self.old.entries }
+        ensures room { self.new.room ≡ self.old.room }
+    {
+        self.reach = reach;
+    }
+
+    /// Each of the lists of marks gets room for so many.
+    fn widen(&mut self, room: u32) -> Result<(), NoMemory>
+        ensures room { OnOk result (room ≤ self.new.room) }
+        ensures keeps_room { self.old.room ≤ self.new.room }
+        ensures items { self.new.items ≡ self.old.items }
+        ensures entries { self.new.entries ≡ self.old.entries }
+        ensures reach { self.new.reach ≡ self.old.reach }
+    {
+        if room <= self.room {
+            return Ok(());
+        }
+        widen_each(&mut self.blanks, room)?;
+        self.room = room;
+        Ok(())
+    }
+
+    /// Another empty list of marks.
+    fn add_blank(&mut self) -> Result<(), NoMemory>
+        requires { self.old.entries < 2 ^ 32 - 1 }
+        ensures items { self.new.items ≡ self.old.items }
+        ensures reach { self.new.reach ≡ self.old.reach }
+        ensures room { self.new.room ≡ self.old.room }
+        ensures keeps { self.old.entries ≤ self.new.entries }
+        ensures more { OnOk result (self.new.entries ≡ self.old.entries + 1) }
+    {
+        self.journal.reserve(self.entries as usize + 1)?;
+        let mut blank = Reserved::new(self.alloc);
+        blank.reserve(self.room as usize)?;
+        self.blanks.push(blank)?;
+        self.entries += 1;
+        Ok(())
+    }
+
+    /// Makes room for so many more entries, each with so many marks. What there is room for already stays.
+    pub fn reserve(&mut self, entries: u32, room: u32) -> Result<(), NoMemory>
+        ensures entries { OnOk result (entries ≤ self.new.entries) }
+        ensures room { OnOk result (room ≤ self.new.room) }
+        ensures keeps_entries { self.old.entries ≤ self.new.entries }
+        ensures keeps_room { self.old.room ≤ self.new.room }
+        ensures items { self.new.items ≡ self.old.items }
+        ensures reach { self.new.reach ≡ self.old.reach }
+    {
+        self.widen(room)?;
+        while self.entries < entries {
+            self.add_blank()?;
+        }
+        Ok(())
+    }
+
+    /// Puts an entry at the end, and gives an empty list for the marks of the next. It takes no memory.
+    pub fn close(&mut self, entry: Entry) -> Reserved<Mark>
+        requires { 0 < self.old.entries }
+        ensures items { self.new.items ≡ self.old.items ++ entry ∷ [] }
+        ensures entries { self.new.entries + 1 ≡ self.old.entries }
+        ensures room { self.new.room ≡ self.old.room }
+        ensures reach { self.new.reach ≡ self.old.reach }
+        ensures blank { result.items ≡ [] }
+        ensures blank_room { self.old.room ≤ result.spare }
+    {
+        self.entries -= 1;
+        self.journal.push(entry);
+        match self.blanks.pop() {
+            Some(blank) => blank,
+            None => unreachable!(),
+        }
+    }
+}

@@ -1,0 +1,199 @@
+// How a seat turns to the next or the previous of its sessions.
+
+ghost use Rattle.std.specs.Prelude.{◌≡◌, ◌≤◌, length};
+ghost use Rattle.login_model.specs.Names.{is_above};
+ghost use Rattle.login_model.specs.Where.{is_this_seat};
+ghost use Rattle.login_model.specs.Procedure.{if_some};
+ghost use Rattle.login_model.specs.Turning.{turn_to_next, turn_to_previous};
+ghost use Rattle.login_core.specs.Name.{is_lower};
+ghost use Rattle.login_core.specs.Places.{is_before, behind, around, is_open_on, place_of, places, current_place, nearer_place, nearer_open, turn_to_place, turn_to};
+
+use crate::machine::Machine;
+use login_base::{SeatName, SessId};
+use login_model::{Key, Look, is_open_fact, seat0};
+use login_table::{active_on, current_vt, seat_of_session};
+
+/// Which way a seat turns.
+#[derive(Clone, Copy, Debug, PartialEq, Eq)]
+pub(crate) enum Way {
+    Next,
+    Previous,
+}
+
+/// Whether one place comes before another, that way.
+fn is_before(way: Way, place: u32, other: u32) -> bool
+    ensures { result ≡ is_before way place other }
+{
+    match way {
+        Way::Next => place < other,
+        Way::Previous => other < place,
+    }
+}
+
+fn is_behind(way: Way, start: Option<u32>, place: u32) -> bool
+    ensures { result ≡ is_above (is_before way) start place }
+{
+    match start {
+        Some(start) => is_before(way, start, place),
+        None => true,
+    }
+}
+
+fn is_nearer(way: Way, place: u32, best: Option<u32>) -> bool
+    ensures { result ≡ is_lower (is_before way) place best }
+{
+    match best {
+        Some(best) => is_before(way, place, best),
+        None => true,
+    }
+}
+
+/// The nearer of the best place so far and another, if that is behind.
+fn nearer_place(way: Way, start: Option<u32>, place: u32, best: Option<u32>) -> Option<u32>
+    ensures { result ≡ nearer_place way start place best }
+{
+    if is_behind(way, start, place) && is_nearer(way, place, best) {
+        Some(place)
+    } else {
+        best
+    }
+}
+
+fn is_this_seat(seat: SeatName, name: Option<SeatName>) -> bool
+    ensures { result ≡ is_this_seat seat name }
+{
+    match name {
+        Some(name) => name.as_slice() == seat.as_slice(),
+        None => false,
+    }
+}
+
+#[tactic(auto, using(crate::proofs::Growing::growing))]
+impl Machine {
+    ghost use Rattle.login_core.specs.Board.{trail};
+
+    /// Whether a session is on a seat, and open.
+    fn is_open_on(&self, seat: SeatName, session: SessId) -> bool
+        ensures { result ≡ is_open_on (trail self.now) seat session }
+    {
+        is_this_seat(seat, seat_of_session(self, session))
+            && is_open_fact(self.fact(&Key::Sess(session)))
+    }
+
+    /// The place of a session on a seat: on seat0 its terminal, on another seat its number.
+    fn place_of(&self, seat: SeatName, session: SessId) -> u32
+        ensures { result ≡ place_of (trail self.now) seat session }
+    {
+        if seat.as_slice() == seat0().as_slice() {
+            self.vt_of(session)
+        } else {
+            session.0
+        }
+    }
+
+    /// The nearer of the best place so far and a session's, if that is open there.
+    fn nearer_open(
+        &self,
+        way: Way,
+        seat: SeatName,
+        start: Option<u32>,
+        session: SessId,
+        best: Option<u32>,
+    ) -> Option<u32>
+        ensures { result ≡ nearer_open way (trail self.now) seat start session best }
+    {
+        if self.is_open_on(seat, session) {
+            nearer_place(way, start, self.place_of(seat, session), best)
+        } else {
+            best
+        }
+    }
+
+    /// The nearest place of an open session behind a place of a seat, or the first of all.
+    fn nearest_place(&self, way: Way, seat: SeatName, start: Option<u32>) -> Option<u32>
+        ensures { result ≡ behind way start (places (trail self.now) seat) }
+    {
+        let mut best = None;
+        let mut above = None;
+        while let Some(session) = self.next_session(above) {
+            best = self.nearer_open(way, seat, start, session, best);
+            above = Some(session);
+        }
+        best
+    }
+
+    /// The place of a seat's active session, or of its current terminal.
+    fn current_place(&self, seat: SeatName) -> Option<u32>
+        ensures { result ≡ current_place (trail self.now) seat }
+    {
+        if seat.as_slice() == seat0().as_slice() {
+            Some(current_vt(self))
+        } else {
+            match active_on(self, seat) {
+                Some(session) => Some(session.0),
+                None => None,
+            }
+        }
+    }
+
+    /// The next place of a seat.
+    fn next_place(&self, way: Way, seat: SeatName) -> Option<u32>
+        ensures { result ≡ around way (current_place (trail self.now) seat) (places (trail self.now) seat) }
+    {
+        let start = self.current_place(seat);
+        match self.nearest_place(way, seat, start) {
+            Some(place) => Some(place),
+            None => self.nearest_place(way, seat, None),
+        }
+    }
+
+    fn turn_to_place(&mut self, seat: SeatName, place: u32)
+        requires room { length (turn_to_place seat place (trail self.old)) ≤ self.old.journal.reach }
+        ensures marked { trail self.new ≡ turn_to_place seat place (trail self.old) }
+        ensures journal { self.new.journal ≡ self.old.journal }
+    {
+        if seat.as_slice() == seat0().as_slice() {
+            self.request(place);
+        } else {
+            self.front(seat, SessId(place));
+        }
+    }
+
+    fn turn_to_some(&mut self, seat: SeatName, place: Option<u32>)
+        requires room { length (if_some (turn_to_place seat) place (trail self.old)) ≤ self.old.journal.reach }
+        ensures marked { trail self.new ≡ if_some (turn_to_place seat) place (trail self.old) }
+        ensures journal { self.new.journal ≡ self.old.journal }
+    {
+        if let Some(place) = place {
+            self.turn_to_place(seat, place);
+        }
+    }
+
+    fn turn_to(&mut self, way: Way, seat: SeatName)
+        requires room { length (turn_to way seat (trail self.old)) ≤ self.old.journal.reach }
+        ensures marked { trail self.new ≡ turn_to way seat (trail self.old) }
+        ensures journal { self.new.journal ≡ self.old.journal }
+    {
+        let place = self.next_place(way, seat);
+        self.turn_to_some(seat, place);
+    }
+
+    /// The next session of a seat becomes active, in the order of terminals on seat0, of sessions on
+    /// another seat.
+    pub fn turn_to_next(&mut self, seat: SeatName)
+        requires room { length (turn_to_next seat (trail self.old)) ≤ self.old.journal.reach }
+        ensures marked { trail self.new ≡ turn_to_next seat (trail self.old) }
+        ensures journal { self.new.journal ≡ self.old.journal }
+    {
+        self.turn_to(Way::Next, seat);
+    }
+
+    /// The previous session of a seat becomes active.
+    pub fn turn_to_previous(&mut self, seat: SeatName)
+        requires room { length (turn_to_previous seat (trail self.old)) ≤ self.old.journal.reach }
+        ensures marked { trail self.new ≡ turn_to_previous seat (trail self.old) }
+        ensures journal { self.new.journal ≡ self.old.journal }
+    {
+        self.turn_to(Way::Previous, seat);
+    }
+}

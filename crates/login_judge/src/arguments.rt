@@ -1,0 +1,122 @@
+// Whether values are those that a call takes.
+
+ghost use Rattle.std.specs.Prelude.{◌≡◌, ◌&&◌, codes, map};
+ghost use Rattle.std.specs.List.{list_any};
+ghost use Rattle.std.specs.Str.{bytes_eq};
+ghost use Rattle.login_model.specs.Policy.{broken_if, bad_arguments, is_one_of, is_type, is_class, is_vt, is_seat_or_none, fits_seat, fits_creation, is_signal, is_whom};
+
+use login_base::{SeatName, Word};
+use login_model::{Creation, Rule};
+
+pub(crate) fn broken_if(broken: bool, rule: Rule) -> Option<Rule>
+    ensures { result ≡ broken_if broken rule }
+{
+    if broken { Some(rule) } else { None }
+}
+
+pub(crate) fn bad_arguments(fits: bool) -> Option<Rule>
+    ensures { result ≡ bad_arguments fits }
+{
+    broken_if(!fits, Rule::BadArguments)
+}
+
+/// Whether a text is one of these names.
+fn is_one_of(names: &[&[u8]], text: &[u8]) -> bool
+    ensures { result ≡ is_one_of (map (λ name. name.now) names.now) text.now }
+{
+    match names.split_first() {
+        Some((name, names)) => *name == text || is_one_of(names, text),
+        None => false,
+    }
+}
+
+fn is_type(text: &[u8]) -> bool
+    ensures { result ≡ is_type text.now }
+{
+    is_one_of(
+        &[
+            b"".as_slice(),
+            b"unspecified".as_slice(),
+            b"tty".as_slice(),
+            b"x11".as_slice(),
+            b"wayland".as_slice(),
+            b"mir".as_slice(),
+            b"web".as_slice(),
+        ],
+        text,
+    )
+}
+
+fn is_class(text: &[u8]) -> bool
+    ensures { result ≡ is_class text.now }
+{
+    is_one_of(
+        &[
+            b"".as_slice(),
+            b"user".as_slice(),
+            b"greeter".as_slice(),
+            b"lock-screen".as_slice(),
+            b"background".as_slice(),
+        ],
+        text,
+    )
+}
+
+/// Whether there is a virtual terminal of this number.
+pub(crate) fn is_vt(vt: u32) -> bool
+    ensures { result ≡ is_vt vt }
+{
+    1 <= vt && vt <= 63
+}
+
+fn is_seat_or_none(text: &[u8]) -> bool
+    ensures { result ≡ is_seat_or_none text.now }
+{
+    text.is_empty() || SeatName::read(text).is_ok()
+}
+
+/// Whether a text is the name of the seat with virtual terminals.
+pub(crate) fn is_seat0(text: &[u8]) -> bool
+    ensures { result ≡ bytes_eq text.now (codes "seat0") }
+{
+    text == b"seat0".as_slice()
+}
+
+fn fits_seat(seat: &[u8], vt: u32) -> bool
+    ensures { result ≡ fits_seat seat.now vt }
+{
+    if is_seat0(seat) { is_vt(vt) } else { vt == 0 }
+}
+
+/// Whether a session can be created with these values.
+pub(crate) fn fits_creation(creation: &Creation) -> bool
+    ensures { result ≡ fits_creation creation.now }
+{
+    is_type(creation.session_type.as_slice())
+        && is_class(creation.class.as_slice())
+        && is_seat_or_none(creation.seat.as_slice())
+        && fits_seat(creation.seat.as_slice(), creation.vt)
+}
+
+/// Whether there is a signal of this number.
+pub(crate) fn is_signal(signal: i32) -> bool
+    ensures { result ≡ is_signal signal }
+{
+    1 <= signal && signal <= 64
+}
+
+pub(crate) fn is_leader(who: &Word) -> bool
+    ensures { result ≡ bytes_eq who.now (codes "leader") }
+{
+    who.as_slice() == b"leader".as_slice()
+}
+
+/// Whether a text says whom a signal is for.
+pub(crate) fn is_whom(who: &Word) -> bool
+    ensures { result ≡ is_whom who.now }
+{
+    is_one_of(
+        &[b"".as_slice(), b"all".as_slice(), b"leader".as_slice()],
+        who.as_slice(),
+    )
+}

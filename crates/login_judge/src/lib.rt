@@ -1,0 +1,13 @@
+//! What the policy says to an event: the first rule that it breaks, by the facts and the setup.
+#![tactic(auto)]
+
+mod arguments;
+mod owners;
+mod places;
+mod seated;
+mod session_calls;
+mod standing;
+mod verdict;
+
+pub use standing::meant_user;
+pub use verdict::judge;
