@@ -1,1 +1,3 @@
+pub mod Fullness
+pub mod Endings
 pub mod Completions

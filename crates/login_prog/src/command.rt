@@ -3,7 +3,7 @@
 ghost use Rattle.std.specs.Prelude.{◌≡◌, ◌≤◌, ◌⊎◌, ◌↔◌, IfSome, IsTrue};
 ghost use Rattle.login_edge.specs.Faults.{Rose};
 ghost use Rattle.replay.specs.Outcome.{Replayed, Broken, Fronted};
-ghost use Rattle.login_prog.specs.Statuses.{AreReplay, RefusedSo, Says, Stays, Completes};
+ghost use Rattle.login_prog.specs.Statuses.{AreReplay, RefusedSo, FullSo, Says, Stays, Completes, Refuses, Fills};
 
 use login_base::{Items, Word};
 use login_edge::{Sink, Source};
@@ -37,7 +37,7 @@ pub fn run<S: Source, K: Sink, E: Sink>(
     output: &mut K,
     errors: &mut E,
 ) -> u8
-    ensures status { result ≤ 5 }
+    ensures status { result ≤ 6 }
     ensures usage { (result ≡ 1) ↔ (AreReplay words.now → ⊥) }
     ensures untouched { result ≡ 1 → Stays (S.left input.old) (S.left input.new) (S.faults input.old) (S.faults input.new)
         × Stays (K.held output.old) (K.held output.new) (K.faults output.old) (K.faults output.new) }
@@ -49,14 +49,21 @@ pub fn run<S: Source, K: Sink, E: Sink>(
 
     ensures refused { result ≡ 2 → RefusedSo (S.left input.old) (K.held output.old) (K.held output.new)
         (E.held errors.old) (E.held errors.new) (E.faults errors.old) (E.faults errors.new) }
+    ensures full { result ≡ 6 → FullSo (S.left input.old) (K.held output.old) (K.held output.new)
+        (E.held errors.old) (E.held errors.new) (E.faults errors.old) (E.faults errors.new) }
     ensures read { result ≡ 3 → Rose (S.faults input.old) (S.faults input.new) }
     ensures broken { result ≡ 3 → IfSome (S.left input.old) (λ text. Broken text (S.left input.new) (K.held output.old) (K.held output.new)) }
     ensures write { result ≡ 4 → Rose (K.faults output.old) (K.faults output.new) }
     ensures front { (result ≡ 4) ⊎ (result ≡ 5) → IfSome (S.left input.old) (λ text. Fronted text (S.left input.new) (K.held output.old) (K.held output.new)) }
     ensures said { Says result (E.held errors.old) (E.held errors.new) (E.faults errors.old) (E.faults errors.new) }
 
-    // A recording is replayed where nothing fails and memory lasts.
+    // Where nothing fails and memory lasts, the text says the status: a recording is replayed, a line is
+    // refused, or an event finds the journal full.
     ensures complete { AreReplay words.now → Completes result (S.left input.old)
+        (Rose (S.faults input.old) (S.faults input.new)) (Rose (K.faults output.old) (K.faults output.new)) }
+    ensures refuses { AreReplay words.now → Refuses result (S.left input.old)
+        (Rose (S.faults input.old) (S.faults input.new)) (Rose (K.faults output.old) (K.faults output.new)) }
+    ensures fills { AreReplay words.now → Fills result (S.left input.old)
         (Rose (S.faults input.old) (S.faults input.new)) (Rose (K.faults output.old) (K.faults output.new)) }
 {
     if !are_replay(words) {
@@ -69,5 +76,6 @@ pub fn run<S: Source, K: Sink, E: Sink>(
         ReplayEnd::ReadFault => 3,
         ReplayEnd::WriteFault => 4,
         ReplayEnd::NoMemory => 5,
+        ReplayEnd::Full(_) => 6,
     }
 }

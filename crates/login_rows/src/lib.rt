@@ -5,16 +5,28 @@
 #![tactic(auto)]
 
 #[cfg(test)]
+mod answers;
+#[cfg(test)]
+mod denials;
+#[cfg(test)]
 mod faults;
+#[cfg(test)]
+mod limits;
 #[cfg(test)]
 mod links;
 #[cfg(test)]
 mod one_by_one;
+#[cfg(test)]
+mod places;
 #[cfg(test)]
 mod refusals;
 #[cfg(test)]
 mod rules;
 #[cfg(test)]
 mod running;
+#[cfg(test)]
+mod sessions;
+#[cfg(test)]
+mod terminals;
 #[cfg(test)]
 mod turns;

@@ -44,6 +44,7 @@ fn the_next_link_is_denied(rt: HostRuntime) -> Result<(), Fail> {
             2,
         ),
         (65, "connect 65 0\n", "", "line 68: wrong-place\n", 2),
+        (65, "disconnect 65\n", "", "line 68: wrong-place\n", 2),
     ];
     for (count, line, last, errors, status) in cases {
         let mut text = recording(alloc, count)?;

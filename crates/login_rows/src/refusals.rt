@@ -1,9 +1,6 @@
-// Lines that are refused: each is the first at fault, and the transcript ends before it.
+// Lines that are refused by themselves: each is the first at fault, and the transcript ends before it.
 
-use crate::running::{joined, replay};
-use login_base::NoMemory;
-use std::alloc::Global;
-use std::process::Abort;
+use crate::running::refuse;
 use std::test::Fail;
 
 /// What is no first line. A recording that ends is at fault at the place of the next line.
@@ -30,11 +27,8 @@ const FIRST: [(&[u8], &str); 20] = [
     (b"\xff\n", "unknown-word"),
 ];
 
-/// What may not follow the first line and a line of user 1000.
-const PREAMBLE: [(&[u8], &str); 31] = [
-    (b"", "ended"),
-    (b"\n", "unknown-word"),
-    (b"login-recording 1\n", "wrong-place"),
+/// What may not follow the first line and a line of user 1000: users.
+const USERS: [(&[u8], &str); 20] = [
     (b"user 1000 5 bob\n", "wrong-place"),
     (b"user 0 0 root\n", "bad-number"),
     (b"user 1001 1001\n", "missing-word"),
@@ -54,30 +48,37 @@ const PREAMBLE: [(&[u8], &str); 31] = [
     (b"user 1001 1001 b%%\n", "bad-hex"),
     (b"user 1001 1001 b\xc3\xa9\n", "bad-hex"),
     (b"user 1001 1001 bob", "ended"),
-    (b"guid 0123456789abcdef0123456789abcdef\n", "not-built"),
-    (b"conf [Login]\n", "not-built"),
-    (b"action chvt yes yes yes\n", "not-built"),
-    (b"connect 1 0\n", "wrong-place"),
-    (b"end\n", "wrong-place"),
+    (b"user\n", "missing-word"),
+];
+
+/// What may not follow them: other lines.
+const PREAMBLE: [(&[u8], &str); 18] = [
+    (b"", "ended"),
+    (b"\n", "unknown-word"),
     (b"go", "ended"),
     (b"go \n", "extra-word"),
     (b"go 1\n", "extra-word"),
-    (b"stop\n", "not-built"),
+    (b"guid\n", "missing-word"),
+    (b"guid \n", "bad-hex"),
+    (b"guid 0123456789abcdef\n", "bad-hex"),
+    (b"guid 0123456789ABCDEF0123456789ABCDEF\n", "bad-hex"),
+    (b"guid 0123456789abcdef0123456789abcdeg\n", "bad-hex"),
+    (b"guid 0123456789abcdef0123456789abcdef0\n", "bad-hex"),
+    (b"guid 0123456789abcdef0123456789abcdef x\n", "extra-word"),
+    (b"confx\n", "unknown-word"),
+    (b"conf\n", "not-built"),
+    (b"conf [Login]\n", "not-built"),
+    (b"action chvt yes yes yes\n", "not-built"),
+    (b"action chvt yes yes\n", "missing-word"),
+    (b"action chvt yes yes yes yes\n", "extra-word"),
 ];
 
-/// What may not follow `go` and the connect of connection 1.
-const EVENT: [(&[u8], &str); 64] = [
+/// What may not follow `go` and the connect of connection 1: events.
+const EVENTS: [(&[u8], &str); 28] = [
     (b"", "ended"),
     (b"\n", "unknown-word"),
     (b"frob\n", "unknown-word"),
-    (b"login-recording 1\n", "wrong-place"),
-    (b"user 1001 1001 bob\n", "wrong-place"),
-    (b"go\n", "wrong-place"),
-    (b"connect 1 0\n", "wrong-place"),
-    (b"connect 1 1000\n", "wrong-place"),
     (b"connect 0 0\n", "bad-number"),
-    (b"connect 4294967296 0\n", "bad-number"),
-    (b"connect 2 4294967296\n", "bad-number"),
     (b"connect 02 0\n", "bad-number"),
     (b"connect 2 00\n", "bad-number"),
     (b"connect 2\n", "missing-word"),
@@ -90,74 +91,55 @@ const EVENT: [(&[u8], &str); 64] = [
     (b"connect 2 0\r\n", "bad-number"),
     (b"connect\t2 0\n", "unknown-word"),
     (b"connect 2 -0\n", "bad-number"),
-    (b"call 2 1 uncontrol c1\n", "wrong-place"),
+    (b"disconnect\n", "missing-word"),
+    (b"disconnect 0\n", "bad-number"),
+    (b"disconnect 1 1\n", "extra-word"),
+    (b"vtkey\n", "missing-word"),
+    (b"vtkey seat0\n", "bad-number"),
+    (b"exit\n", "missing-word"),
+    (b"exit \n", "bad-hex"),
+    (b"exit c%31\n", "bad-hex"),
+    (b"exit c1 c1\n", "extra-word"),
+    (b"tick -1\n", "bad-number"),
+    (b"stop 1\n", "extra-word"),
+    (b"end 1\n", "extra-word"),
+];
+
+/// What may not follow them: calls.
+const CALLS: [(&[u8], &str); 26] = [
     (b"call 1 0 uncontrol c1\n", "bad-number"),
     (b"call 0 1 uncontrol c1\n", "bad-number"),
-    (b"call 1 4294967296 uncontrol c1\n", "bad-number"),
     (b"call 1 1\n", "missing-word"),
     (b"call 1 uncontrol c1\n", "bad-number"),
-    (b"send 1 1 uncontrol c1\n", "not-built"),
     (b"call 1 1 frob\n", "unknown-word"),
+    (b"call 1 1 \n", "unknown-word"),
+    (b"send 1 1 frob\n", "unknown-word"),
+    (b"send 0 1 nothing\n", "bad-number"),
     (b"call 1 1 uncontrol\n", "missing-word"),
     (b"call 1 1 uncontrol c1 c1\n", "extra-word"),
     (b"call 1 1 uncontrol \n", "bad-hex"),
     (b"call 1 1 uncontrol c%31\n", "bad-hex"),
-    (b"call 1 1 control c1 true\n", "not-built"),
     (b"call 1 1 control c1 no\n", "unknown-word"),
     (b"call 1 1 control c1\n", "missing-word"),
     (b"call 1 1 control c1 false \n", "extra-word"),
     (b"call 1 1 control c1 false x\n", "extra-word"),
-    (b"call 1 1 activate c1\n", "not-built"),
-    (b"call 1 1 hello\n", "not-built"),
-    (b"disconnect 1\n", "not-built"),
-    (b"vtkey 2\n", "not-built"),
-    (b"tick 5\n", "not-built"),
-    (b"exit c1\n", "not-built"),
-    (b"stop\n", "not-built"),
-    (b"link 2 0\n", "not-built"),
-    (
-        b"call 1 1 create 1000 1 login x11 user % seat0 1 tty1 % false % %\n",
-        "not-built",
-    ),
-    (
-        b"call 1 1 create 1000 1 login % user % seat0 1 tty1 % false % %\n",
-        "not-built",
-    ),
-    (
-        b"call 1 1 create 1000 1 login Tty user % seat0 1 tty1 % false % %\n",
-        "not-built",
-    ),
-    (
-        b"call 1 1 create 1000 1 login tty greeter % seat0 1 tty1 % false % %\n",
-        "not-built",
-    ),
-    (
-        b"call 1 1 create 1000 1 login tty % % seat0 1 tty1 % false % %\n",
-        "not-built",
-    ),
-    (
-        b"call 1 1 create 1000 1 login tty user % seat1 1 tty1 % false % %\n",
-        "not-built",
-    ),
-    (
-        b"call 1 1 create 1000 1 login tty user % % 1 tty1 % false % %\n",
-        "not-built",
-    ),
-    (
-        b"call 1 1 create 1000 1 login tty user % seat0 0 tty1 % false % %\n",
-        "not-built",
-    ),
-    (
-        b"call 1 1 create 1000 1 login tty user % seat0 64 tty1 % false % %\n",
-        "not-built",
-    ),
+    (b"call 1 1 list-sessions c1\n", "extra-word"),
+    (b"call 1 1 nothing 1\n", "extra-word"),
+    (b"call 1 1 get-user alice\n", "bad-number"),
+    (b"call 1 1 linger 1000\n", "missing-word"),
+    (b"call 1 1 linger 1000 yes\n", "unknown-word"),
+    (b"call 1 1 kill c1 all TERM\n", "bad-number"),
+    (b"call 1 1 switch seat0\n", "missing-word"),
+    (b"call 1 1 switch seat0 tty2\n", "bad-number"),
+    (b"call 1 1 activate-on c1\n", "missing-word"),
+    (b"call 1 1 close c1\n", "bad-number"),
+];
+
+/// What may not follow them: calls that create sessions.
+const CREATIONS: [(&[u8], &str); 8] = [
     (
         b"call 1 1 create 1000 1 login tty user % seat0 01 tty1 % false % %\n",
         "bad-number",
-    ),
-    (
-        b"call 1 1 create 1000 1 login tty user % seat0 1 tty1 % true % %\n",
-        "not-built",
     ),
     (
         b"call 1 1 create 1000 1 login tty user % seat0 1 tty1 % % % %\n",
@@ -179,23 +161,93 @@ const EVENT: [(&[u8], &str); 64] = [
         b"call 1 1 create 1000 4294967296 login tty user % seat0 1 tty1 % false % %\n",
         "bad-number",
     ),
+    (
+        b"call 1 1 create 1000 1 login  user % seat0 1 tty1 % false % %\n",
+        "bad-hex",
+    ),
+    (
+        b"call 1 1 create alice 1 login tty user % seat0 1 tty1 % false % %\n",
+        "bad-number",
+    ),
 ];
 
-/// The edges of each type of number. What is within its type is not built, or is a call of nobody.
-const NUMBERS: [(&[u8], &str); 34] = [
+/// What may not follow them, and has another fault: words that are not built.
+const FAULTS_FIRST: [(&[u8], &str); 12] = [
+    (b"add 226 1 drm desk\n", "bad-name"),
+    (b"add 226 1 tty seat0\n", "unknown-word"),
+    (b"remove 226\n", "missing-word"),
+    (b"key f1\n", "unknown-word"),
+    (b"dock 1\n", "unknown-word"),
+    (b"jobdone 1\n", "extra-word"),
+    (b"link 0 1000\n", "bad-number"),
+    (b"in 1\n", "missing-word"),
+    (b"in 1 0A\n", "bad-hex"),
+    (b"call 1 1 power off\n", "unknown-word"),
+    (b"call 1 1 hello 1\n", "extra-word"),
+    (b"call 1 1 take c1 226\n", "missing-word"),
+];
+
+/// The events and lines of links that are not built.
+const UNBUILT_LINES: [(&[u8], &str); 14] = [
+    (b"conf\n", "not-built"),
+    (b"action chvt yes yes yes\n", "not-built"),
+    (b"add 226 1 drm seat0\n", "not-built"),
+    (b"remove 226 1\n", "not-built"),
+    (b"input 13 64 1 30 1\n", "not-built"),
+    (b"key power\n", "not-built"),
+    (b"key suspend\n", "not-built"),
+    (b"key hibernate\n", "not-built"),
+    (b"key lid\n", "not-built"),
+    (b"dock true\n", "not-built"),
+    (b"jobdone\n", "not-built"),
+    (b"link 2 0\n", "not-built"),
+    (b"in 2 00\n", "not-built"),
+    (b"hangup 2\n", "not-built"),
+];
+
+/// The calls that are not built, also of a connection that is not connected.
+const UNBUILT_CALLS: [(&[u8], &str); 20] = [
+    (b"call 1 1 list-inhibitors\n", "not-built"),
+    (b"call 1 1 power poweroff\n", "not-built"),
+    (b"call 1 1 can suspend\n", "not-built"),
+    (b"call 1 1 inhibit sleep who why block\n", "not-built"),
+    (b"call 1 1 take c1 226 1\n", "not-built"),
+    (b"call 1 1 release c1 226 1\n", "not-built"),
+    (b"call 1 1 paused c1 226 1\n", "not-built"),
+    (b"call 1 1 read 1\n", "not-built"),
+    (b"call 1 1 set-mode 1 7\n", "not-built"),
+    (
+        b"call 1 1 get /org/freedesktop/login1 % Docked\n",
+        "not-built",
+    ),
+    (b"call 1 1 get-all /org/freedesktop/login1 %\n", "not-built"),
+    (
+        b"call 1 1 set /org/freedesktop/login1 % Docked\n",
+        "not-built",
+    ),
+    (b"call 1 1 ping\n", "not-built"),
+    (b"call 1 1 machine-id\n", "not-built"),
+    (b"call 1 1 hello\n", "not-built"),
+    (b"call 1 1 owner org.freedesktop.login1\n", "not-built"),
+    (b"call 1 1 add-match type=signal\n", "not-built"),
+    (b"call 1 1 remove-match %\n", "not-built"),
+    (b"send 1 1 hello\n", "not-built"),
+    (b"call 9 1 hello\n", "not-built"),
+];
+
+/// The edges of each type of number.
+const NUMBERS: [(&[u8], &str); 30] = [
     (b"connect 4294967296 0\n", "bad-number"),
-    (b"call 4294967295 1 uncontrol c1\n", "wrong-place"),
+    (b"connect 2 4294967296\n", "bad-number"),
+    (b"disconnect 4294967296\n", "bad-number"),
     (b"call 4294967296 1 uncontrol c1\n", "bad-number"),
-    (b"vtkey 0\n", "not-built"),
-    (b"vtkey 4294967295\n", "not-built"),
+    (b"call 1 4294967296 uncontrol c1\n", "bad-number"),
+    (b"call 1 4294967295 uncontrol\n", "missing-word"),
     (b"vtkey 4294967296\n", "bad-number"),
     (b"vtkey 00\n", "bad-number"),
     (b"vtkey 99999999999999999999999999\n", "bad-number"),
-    (b"tick 0\n", "not-built"),
-    (b"tick 18446744073709551615\n", "not-built"),
     (b"tick 18446744073709551616\n", "bad-number"),
     (b"tick 05\n", "bad-number"),
-    (b"tick -1\n", "bad-number"),
     (b"tick\n", "missing-word"),
     (b"tick \n", "bad-number"),
     (
@@ -213,135 +265,95 @@ const NUMBERS: [(&[u8], &str); 34] = [
     (b"input 0 0 0 0 -01\n", "bad-number"),
     (b"input 0 0 0 0 +1\n", "bad-number"),
     (b"input 0 0 0 0 -\n", "bad-number"),
-    (b"call 1 1 kill c1 all -2147483648\n", "not-built"),
     (b"call 1 1 kill c1 all 2147483648\n", "bad-number"),
-    (b"call 1 1 kill-user 4294967295 1\n", "not-built"),
     (b"call 1 1 kill-user 4294967296 1\n", "bad-number"),
     (b"call 1 1 take c1 4294967295 4294967295\n", "not-built"),
     (b"call 1 1 take c1 4294967296 0\n", "bad-number"),
-    (b"call 1 4294967295 uncontrol\n", "missing-word"),
+    (b"call 1 1 close 4294967296\n", "bad-number"),
 ];
 
 /// The worked cases of causes, behind the first line and `go`.
-const WORKED: [(&[u8], &str); 6] = [
-    (b"connect 1 01\n", "bad-number"),
-    (b"tick\n", "missing-word"),
-    (b"frob\n", "unknown-word"),
-    (b"stop 1\n", "extra-word"),
-    (b"add 1 1 drm desk\n", "bad-name"),
-    (b"call 9 1 hello\n", "not-built"),
+const WORKED: [(&[u8], &str); 7] = [
+    (b"", "ended"),
+    (b"connect 1 01\nend\n", "bad-number"),
+    (b"tick\nend\n", "missing-word"),
+    (b"frob\nend\n", "unknown-word"),
+    (b"stop 1\nend\n", "extra-word"),
+    (b"add 1 1 drm desk\nend\n", "bad-name"),
+    (b"call 9 1 hello\nend\n", "not-built"),
 ];
 
-/// What may not follow `end`.
-const AFTER: [(&[u8], &str); 6] = [
-    (b"end\n", "wrong-place"),
-    (b"\n", "unknown-word"),
-    (b"x", "ended"),
-    (b"go\n", "wrong-place"),
-    (b"connect 1 0\n", "wrong-place"),
-    (b"frob\n", "unknown-word"),
-];
+/// The first line, and a user.
+const SETUP: &[u8] = b"login-recording 1\nuser 1000 1000 alice\n";
 
-/// Runs a recording that ends with each of the lines in turn. Each has to be refused as line `number`,
-/// for its cause.
-fn refuse(
-    rt: &impl Abort,
-    alloc: Global,
-    front: &[u8],
-    lines: &[(&[u8], &str)],
-    number: u32,
-    transcript: &[u8],
-) -> Result<(), Fail> {
-    for (i, (line, cause)) in lines.iter().enumerate() {
-        let errors = format!(in alloc; "line {number}: {cause}\n")?;
-        let text = joined(alloc, &[front, line])?;
-        let run = replay(alloc, text.as_slice())?;
-        assert_eq!(rt; run.status, 2, "at {i} of line {number}");
-        assert_eq!(rt; run.output(), transcript, "at {i} of line {number}");
-        assert_eq!(rt; run.errors(), errors.as_bytes(), "at {i} of line {number}");
-    }
-    Ok(())
+/// A setup, and a connection.
+const CONNECTED: &[u8] = b"login-recording 1\nuser 1000 1000 alice\ngo\nconnect 1 0\n";
+
+/// Its transcript.
+const CONNECTED_TRANSCRIPT: &[u8] = b"login-transcript 1\n1 connect 1 0\n granted\n set conn 1 0\n";
+
+#[test]
+fn first_lines(rt: HostRuntime) -> Result<(), Fail> {
+    refuse(&rt, rt.alloc(), b"", &FIRST, 1, b"")
 }
 
 #[test]
-fn lines_that_do_not_fit_are_refused(rt: HostRuntime) -> Result<(), Fail> {
+fn lines_of_users(rt: HostRuntime) -> Result<(), Fail> {
+    refuse(&rt, rt.alloc(), SETUP, &USERS, 3, b"")
+}
+
+#[test]
+fn other_lines_of_a_preamble(rt: HostRuntime) -> Result<(), Fail> {
+    refuse(&rt, rt.alloc(), SETUP, &PREAMBLE, 3, b"")
+}
+
+#[test]
+fn events(rt: HostRuntime) -> Result<(), Fail> {
     let alloc = rt.alloc();
-    let preamble = b"login-recording 1\nuser 1000 1000 alice\n";
-    let events = b"login-recording 1\nuser 1000 1000 alice\ngo\nconnect 1 0\n";
-    let block = b"login-transcript 1\n1 connect 1 0\n granted\n set conn 1 0\n";
-    let empty = b"login-recording 1\ngo\n";
-    let whole = b"login-recording 1\ngo\nend\n";
-    refuse(&rt, alloc, b"", &FIRST, 1, b"")?;
-    refuse(&rt, alloc, preamble, &PREAMBLE, 3, b"")?;
-    refuse(&rt, alloc, events, &EVENT, 5, block)?;
-    refuse(&rt, alloc, events, &NUMBERS, 5, block)?;
-    refuse(&rt, alloc, empty, &WORKED, 3, b"login-transcript 1\n")?;
+    refuse(&rt, alloc, CONNECTED, &EVENTS, 5, CONNECTED_TRANSCRIPT)
+}
+
+#[test]
+fn calls(rt: HostRuntime) -> Result<(), Fail> {
+    let alloc = rt.alloc();
+    refuse(&rt, alloc, CONNECTED, &CALLS, 5, CONNECTED_TRANSCRIPT)
+}
+
+#[test]
+fn calls_that_create_sessions(rt: HostRuntime) -> Result<(), Fail> {
+    let alloc = rt.alloc();
+    refuse(&rt, alloc, CONNECTED, &CREATIONS, 5, CONNECTED_TRANSCRIPT)
+}
+
+#[test]
+fn lines_that_are_not_built(rt: HostRuntime) -> Result<(), Fail> {
+    let alloc = rt.alloc();
+    let transcript = CONNECTED_TRANSCRIPT;
+    refuse(&rt, alloc, CONNECTED, &FAULTS_FIRST, 5, transcript)?;
+    refuse(&rt, alloc, CONNECTED, &UNBUILT_LINES, 5, transcript)
+}
+
+#[test]
+fn calls_that_are_not_built(rt: HostRuntime) -> Result<(), Fail> {
+    let alloc = rt.alloc();
     refuse(
         &rt,
         alloc,
-        empty,
-        &[(b"", "ended")],
-        3,
-        b"login-transcript 1\n",
-    )?;
-    refuse(&rt, alloc, whole, &AFTER, 4, b"login-transcript 1\nend 0\n")
-}
-
-/// A text of so many letters between two other texts.
-fn framed(alloc: Global, front: &[u8], letters: usize, rest: &[u8]) -> Result<Vec<u8>, NoMemory> {
-    let middle = vec![in alloc; b'a'; letters]?;
-    joined(alloc, &[front, middle.as_slice(), rest])
+        CONNECTED,
+        &UNBUILT_CALLS,
+        5,
+        CONNECTED_TRANSCRIPT,
+    )
 }
 
 #[test]
-fn texts_and_lines_have_a_greatest_length(rt: HostRuntime) -> Result<(), Fail> {
+fn numbers(rt: HostRuntime) -> Result<(), Fail> {
     let alloc = rt.alloc();
-    let user = "login-recording 1\nuser 1 1 ";
-    let call = "login-recording 1\ngo\nconnect 1 0\ncall 1 1 uncontrol ";
-    let cases = [
-        (user, 255, "\ngo\nend\n", 0, ""),
-        (user, 256, "\ngo\nend\n", 2, "line 2: bad-name\n"),
-        (call, 512, "\nend\n", 0, ""),
-        (call, 513, "\nend\n", 2, "line 4: not-built\n"),
-        (user, 16_375, "\ngo\nend\n", 2, "line 2: bad-name\n"),
-        (user, 16_376, "\ngo\nend\n", 2, "line 2: too-long\n"),
-        (user, 16_375, "", 2, "line 2: ended\n"),
-        (user, 16_376, "", 2, "line 2: too-long\n"),
-        (user, 100_000, "\ngo\nend\n", 2, "line 2: too-long\n"),
-    ];
-    for (front, letters, rest, status, errors) in cases {
-        let text = framed(alloc, front.as_bytes(), letters, rest.as_bytes())?;
-        let run = replay(alloc, text.as_slice())?;
-        assert_eq!(rt; run.status, status, "at {letters} bytes");
-        assert_eq!(rt; run.errors(), errors.as_bytes(), "at {letters} bytes");
-    }
-    Ok(())
-}
-
-/// A recording of a setup with so many users beside root, and no event.
-fn users(alloc: Global, count: u32) -> Result<Vec<u8>, NoMemory> {
-    let mut text = Vec::from_slice(alloc, b"login-recording 1\n")?;
-    for uid in 1..=count {
-        let line = format!(in alloc; "user {uid} {uid} u{uid}\n")?;
-        text.extend_from_slice(line.as_bytes())?;
-    }
-    text.extend_from_slice(b"go\nend\n")?;
-    Ok(text)
+    refuse(&rt, alloc, CONNECTED, &NUMBERS, 5, CONNECTED_TRANSCRIPT)
 }
 
 #[test]
-fn a_setup_has_a_greatest_number_of_users(rt: HostRuntime) -> Result<(), Fail> {
-    let alloc = rt.alloc();
-    let cases = [
-        (1024, 0, "login-transcript 1\nend 0\n", ""),
-        (1025, 2, "", "line 1026: wrong-place\n"),
-    ];
-    for (count, status, output, errors) in cases {
-        let text = users(alloc, count)?;
-        let run = replay(alloc, text.as_slice())?;
-        assert_eq!(rt; run.status, status, "at {count} users");
-        assert_eq!(rt; run.output(), output.as_bytes(), "at {count} users");
-        assert_eq!(rt; run.errors(), errors.as_bytes(), "at {count} users");
-    }
-    Ok(())
+fn worked_lines(rt: HostRuntime) -> Result<(), Fail> {
+    let front = b"login-recording 1\ngo\n";
+    refuse(&rt, rt.alloc(), front, &WORKED, 3, b"login-transcript 1\n")
 }

@@ -1,225 +1,213 @@
 // What each rule refuses, and what a granted event does.
 
-use crate::running::{lines, replay};
-use std::alloc::Global;
-use std::process::Abort;
+use crate::running::{accept, compare};
 use std::test::Fail;
 
 /// A recording without events.
-const NOTHING: [&str; 3] = ["login-recording 1", "go", "end"];
+const NOTHING: &str = "\
+login-recording 1
+go
+end
+";
 
 /// Its transcript.
-const NOTHING_TRANSCRIPT: [&str; 2] = ["login-transcript 1", "end 0"];
+const NOTHING_TRANSCRIPT: &str = "\
+login-transcript 1
+end 0
+";
 
 /// Who may create a session, for whom, and where; what a first and a second session of a user do.
-const CREATING: [&str; 14] = [
-    "login-recording 1",
-    "user 1000 1000 alice",
-    "go",
-    "connect 7 0",
-    "connect 8 1000",
-    "call 8 1 create 1001 9 login tty user % seat0 1 tty1 % false % %",
-    "call 7 1 create 1001 9 login tty user % seat0 1 tty1 % false % %",
-    "call 7 2 create 1000 9 login tty user % seat0 1 tty1 % false % %",
-    "call 7 3 create 1000 0 login tty user % seat0 2 tty2 % false % %",
-    "call 7 4 create 1000 9 login tty user % seat0 2 tty2 % false % %",
-    "call 7 5 create 1000 8 login tty user % seat0 2 tty2 % false % %",
-    "call 7 6 create 1000 8 login tty user % seat0 1 tty1 % false % %",
-    "call 7 7 create 0 7 login tty user % seat0 63 tty63 % false % %",
-    "end",
-];
+const CREATING: &str = "\
+login-recording 1
+user 1000 1000 alice
+go
+connect 7 0
+connect 8 1000
+call 8 1 create 1001 9 login tty user % seat0 1 tty1 % false % %
+call 7 1 create 1001 9 login tty user % seat0 1 tty1 % false % %
+call 7 2 create 1000 9 login tty user % seat0 1 tty1 % false % %
+call 7 3 create 1000 0 login tty user % seat0 2 tty2 % false % %
+call 7 4 create 1000 9 login tty user % seat0 2 tty2 % false % %
+call 7 5 create 1000 8 login tty user % seat0 2 tty2 % false % %
+call 7 6 create 1000 8 login tty user % seat0 1 tty1 % false % %
+call 7 7 create 0 7 login tty user % seat0 63 tty63 % false % %
+end
+";
 
 /// Its transcript.
-const CREATING_TRANSCRIPT: [&str; 38] = [
-    "login-transcript 1",
-    "1 connect 7 0",
-    " granted",
-    " set conn 7 0",
-    "2 connect 8 1000",
-    " granted",
-    " set conn 8 1000",
-    "3 call 8 1 create 1001 9 login tty user % seat0 1 tty1 % false % %",
-    " denied P09 not-root",
-    "4 call 7 1 create 1001 9 login tty user % seat0 1 tty1 % false % %",
-    " denied P05 no-such-user",
-    "5 call 7 2 create 1000 9 login tty user % seat0 1 tty1 % false % %",
-    " denied P35 nobody",
-    "6 call 7 3 create 1000 0 login tty user % seat0 2 tty2 % false % %",
-    " granted c1 /org/freedesktop/login1/session/c1 /run/user/1000 1 1000 seat0 2 false",
-    " set user 1000 known",
-    " all user-new 1000",
-    " set owner 1 fifo 7 c1",
-    " set sess c1 open 1000 seat0 2 tty user",
-    " all session-new c1",
-    "7 call 7 4 create 1000 9 login tty user % seat0 2 tty2 % false % %",
-    " denied P35 nobody",
-    "8 call 7 5 create 1000 8 login tty user % seat0 2 tty2 % false % %",
-    " denied P21 vt-busy c1",
-    "9 call 7 6 create 1000 8 login tty user % seat0 1 tty1 % false % %",
-    " granted c2 /org/freedesktop/login1/session/c2 /run/user/1000 2 1000 seat0 1 false",
-    " set owner 2 fifo 7 c2",
-    " set sess c2 open 1000 seat0 1 tty user",
-    " all session-new c2",
-    " all active seat0 - c2",
-    "10 call 7 7 create 0 7 login tty user % seat0 63 tty63 % false % %",
-    " granted c3 /org/freedesktop/login1/session/c3 /run/user/0 3 0 seat0 63 false",
-    " set user 0 known",
-    " all user-new 0",
-    " set owner 3 fifo 7 c3",
-    " set sess c3 open 0 seat0 63 tty user",
-    " all session-new c3",
-    "end 10",
-];
+const CREATING_TRANSCRIPT: &str = "\
+login-transcript 1
+1 connect 7 0
+ granted
+ set conn 7 0
+2 connect 8 1000
+ granted
+ set conn 8 1000
+3 call 8 1 create 1001 9 login tty user % seat0 1 tty1 % false % %
+ denied P09 not-root
+4 call 7 1 create 1001 9 login tty user % seat0 1 tty1 % false % %
+ denied P05 no-such-user
+5 call 7 2 create 1000 9 login tty user % seat0 1 tty1 % false % %
+ denied P35 nobody
+6 call 7 3 create 1000 0 login tty user % seat0 2 tty2 % false % %
+ granted c1 /org/freedesktop/login1/session/c1 /run/user/1000 1 1000 seat0 2 false
+ set user 1000 known
+ all user-new 1000
+ set owner 1 fifo 7 c1
+ set sess c1 open 1000 seat0 2 tty user
+ all session-new c1
+7 call 7 4 create 1000 9 login tty user % seat0 2 tty2 % false % %
+ denied P35 nobody
+8 call 7 5 create 1000 8 login tty user % seat0 2 tty2 % false % %
+ denied P21 vt-busy c1
+9 call 7 6 create 1000 8 login tty user % seat0 1 tty1 % false % %
+ granted c2 /org/freedesktop/login1/session/c2 /run/user/1000 2 1000 seat0 1 false
+ set owner 2 fifo 7 c2
+ set sess c2 open 1000 seat0 1 tty user
+ all session-new c2
+ all active seat0 - c2
+10 call 7 7 create 0 7 login tty user % seat0 63 tty63 % false % %
+ granted c3 /org/freedesktop/login1/session/c3 /run/user/0 3 0 seat0 63 false
+ set user 0 known
+ all user-new 0
+ set owner 3 fifo 7 c3
+ set sess c3 open 0 seat0 63 tty user
+ all session-new c3
+end 10
+";
 
 /// Who may take and give up control of a session.
-const CONTROLLING: [&str; 27] = [
-    "login-recording 1",
-    "user 1000 1000 alice",
-    "user 1001 1001 bob",
-    "go",
-    "connect 1 0",
-    "connect 2 1000",
-    "connect 3 1001",
-    "connect 4 1000",
-    "call 1 1 create 1000 2 login tty user % seat0 2 tty2 % false % %",
-    "call 2 1 control c9 false",
-    "call 2 2 control x false",
-    "call 2 3 control c01 false",
-    "call 2 4 control % false",
-    "call 2 5 uncontrol c2",
-    "call 3 1 control c1 false",
-    "call 2 6 uncontrol c1",
-    "call 2 7 control c1 false",
-    "call 2 8 control c1 false",
-    "call 3 2 control c1 false",
-    "call 4 1 control c1 false",
-    "call 1 2 control c1 false",
-    "call 1 3 uncontrol c1",
-    "call 4 2 uncontrol c1",
-    "call 2 9 uncontrol c1",
-    "call 2 10 uncontrol c1",
-    "call 1 4 control c1 false",
-    "end",
-];
+const CONTROLLING: &str = "\
+login-recording 1
+user 1000 1000 alice
+user 1001 1001 bob
+go
+connect 1 0
+connect 2 1000
+connect 3 1001
+connect 4 1000
+call 1 1 create 1000 2 login tty user % seat0 2 tty2 % false % %
+call 2 1 control c9 false
+call 2 2 control x false
+call 2 3 control c01 false
+call 2 4 control % false
+call 2 5 uncontrol c2
+call 3 1 control c1 false
+call 2 6 uncontrol c1
+call 2 7 control c1 false
+call 2 8 control c1 false
+call 3 2 control c1 false
+call 4 1 control c1 false
+call 1 2 control c1 false
+call 1 3 uncontrol c1
+call 4 2 uncontrol c1
+call 2 9 uncontrol c1
+call 2 10 uncontrol c1
+call 1 4 control c1 false
+end
+";
 
 /// Its transcript.
-const CONTROLLING_TRANSCRIPT: [&str; 58] = [
-    "login-transcript 1",
-    "1 connect 1 0",
-    " granted",
-    " set conn 1 0",
-    "2 connect 2 1000",
-    " granted",
-    " set conn 2 1000",
-    "3 connect 3 1001",
-    " granted",
-    " set conn 3 1001",
-    "4 connect 4 1000",
-    " granted",
-    " set conn 4 1000",
-    "5 call 1 1 create 1000 2 login tty user % seat0 2 tty2 % false % %",
-    " granted c1 /org/freedesktop/login1/session/c1 /run/user/1000 1 1000 seat0 2 false",
-    " set user 1000 known",
-    " all user-new 1000",
-    " set owner 1 fifo 1 c1",
-    " set sess c1 open 1000 seat0 2 tty user",
-    " all session-new c1",
-    "6 call 2 1 control c9 false",
-    " denied P04 no-such-session",
-    "7 call 2 2 control x false",
-    " denied P04 no-such-session",
-    "8 call 2 3 control c01 false",
-    " denied P04 no-such-session",
-    "9 call 2 4 control % false",
-    " denied P04 no-such-session",
-    "10 call 2 5 uncontrol c2",
-    " denied P04 no-such-session",
-    "11 call 3 1 control c1 false",
-    " denied P10 not-owner",
-    "12 call 2 6 uncontrol c1",
-    " denied P18 not-in-control",
-    "13 call 2 7 control c1 false",
-    " granted",
-    " set ctl c1 2",
-    "14 call 2 8 control c1 false",
-    " granted",
-    "15 call 3 2 control c1 false",
-    " denied P10 not-owner",
-    "16 call 4 1 control c1 false",
-    " denied P17 controlled 2",
-    "17 call 1 2 control c1 false",
-    " denied P17 controlled 2",
-    "18 call 1 3 uncontrol c1",
-    " denied P18 not-in-control",
-    "19 call 4 2 uncontrol c1",
-    " denied P18 not-in-control",
-    "20 call 2 9 uncontrol c1",
-    " granted",
-    " set ctl c1 -",
-    "21 call 2 10 uncontrol c1",
-    " denied P18 not-in-control",
-    "22 call 1 4 control c1 false",
-    " granted",
-    " set ctl c1 1",
-    "end 22",
-];
+const CONTROLLING_TRANSCRIPT: &str = "\
+login-transcript 1
+1 connect 1 0
+ granted
+ set conn 1 0
+2 connect 2 1000
+ granted
+ set conn 2 1000
+3 connect 3 1001
+ granted
+ set conn 3 1001
+4 connect 4 1000
+ granted
+ set conn 4 1000
+5 call 1 1 create 1000 2 login tty user % seat0 2 tty2 % false % %
+ granted c1 /org/freedesktop/login1/session/c1 /run/user/1000 1 1000 seat0 2 false
+ set user 1000 known
+ all user-new 1000
+ set owner 1 fifo 1 c1
+ set sess c1 open 1000 seat0 2 tty user
+ all session-new c1
+6 call 2 1 control c9 false
+ denied P04 no-such-session
+7 call 2 2 control x false
+ denied P04 no-such-session
+8 call 2 3 control c01 false
+ denied P04 no-such-session
+9 call 2 4 control % false
+ denied P04 no-such-session
+10 call 2 5 uncontrol c2
+ denied P04 no-such-session
+11 call 3 1 control c1 false
+ denied P10 not-owner
+12 call 2 6 uncontrol c1
+ denied P18 not-in-control
+13 call 2 7 control c1 false
+ granted
+ set ctl c1 2
+14 call 2 8 control c1 false
+ granted
+15 call 3 2 control c1 false
+ denied P10 not-owner
+16 call 4 1 control c1 false
+ denied P17 controlled 2
+17 call 1 2 control c1 false
+ denied P17 controlled 2
+18 call 1 3 uncontrol c1
+ denied P18 not-in-control
+19 call 4 2 uncontrol c1
+ denied P18 not-in-control
+20 call 2 9 uncontrol c1
+ granted
+ set ctl c1 -
+21 call 2 10 uncontrol c1
+ denied P18 not-in-control
+22 call 1 4 control c1 false
+ granted
+ set ctl c1 1
+end 22
+";
 
 /// Texts and the greatest numbers; the last line spells a byte that stands for itself, and is refused.
-const SPELLING: [&str; 7] = [
-    "login-recording 1",
-    "user 4294967295 0 %",
-    "user 1 4294967295 %e2%82%ac%20%25",
-    "go",
-    "connect 4294967295 0",
-    "call 4294967295 4294967295 create 4294967295 0 a%20b tty user %25 seat0 3 %c3%a9 %7f false %0a !~",
-    "call 4294967295 1 control %63%31 false",
-];
+const SPELLING: &str = "\
+login-recording 1
+user 4294967295 0 %
+user 1 4294967295 %e2%82%ac%20%25
+go
+connect 4294967295 0
+call 4294967295 4294967295 create 4294967295 0 a%20b tty user %25 seat0 3 %c3%a9 %7f false %0a !~
+call 4294967295 1 control %63%31 false
+";
 
 /// Its transcript, up to that line.
-const SPELLING_TRANSCRIPT: [&str; 11] = [
-    "login-transcript 1",
-    "1 connect 4294967295 0",
-    " granted",
-    " set conn 4294967295 0",
-    "2 call 4294967295 4294967295 create 4294967295 0 a%20b tty user %25 seat0 3 %c3%a9 %7f false %0a !~",
-    " granted c1 /org/freedesktop/login1/session/c1 /run/user/4294967295 1 4294967295 seat0 3 false",
-    " set user 4294967295 known",
-    " all user-new 4294967295",
-    " set owner 1 fifo 4294967295 c1",
-    " set sess c1 open 4294967295 seat0 3 tty user",
-    " all session-new c1",
-];
+const SPELLING_TRANSCRIPT: &str = "\
+login-transcript 1
+1 connect 4294967295 0
+ granted
+ set conn 4294967295 0
+2 call 4294967295 4294967295 create 4294967295 0 a%20b tty user %25 seat0 3 %c3%a9 %7f false %0a !~
+ granted c1 /org/freedesktop/login1/session/c1 /run/user/4294967295 1 4294967295 seat0 3 false
+ set user 4294967295 known
+ all user-new 4294967295
+ set owner 1 fifo 4294967295 c1
+ set sess c1 open 4294967295 seat0 3 tty user
+ all session-new c1
+";
 
-/// Runs a recording, and compares all that it leaves.
-fn compare(
-    rt: &impl Abort,
-    alloc: Global,
-    recording: &[&str],
-    transcript: &[&str],
-    status: u8,
-    errors: &str,
-) -> Result<(), Fail> {
-    let text = lines(alloc, recording)?;
-    let want = lines(alloc, transcript)?;
-    let run = replay(alloc, text.as_slice())?;
-    assert_eq!(rt; run.output(), want.as_slice());
-    assert_eq!(rt; run.errors(), errors.as_bytes());
-    assert_eq!(rt; run.status, status);
-    Ok(())
+#[test]
+fn a_recording_without_events(rt: HostRuntime) -> Result<(), Fail> {
+    accept(&rt, rt.alloc(), NOTHING, NOTHING_TRANSCRIPT)
 }
 
 #[test]
-fn rules_hold_in_their_order(rt: HostRuntime) -> Result<(), Fail> {
-    compare(&rt, rt.alloc(), &NOTHING, &NOTHING_TRANSCRIPT, 0, "")?;
-    compare(&rt, rt.alloc(), &CREATING, &CREATING_TRANSCRIPT, 0, "")?;
-    compare(
-        &rt,
-        rt.alloc(),
-        &CONTROLLING,
-        &CONTROLLING_TRANSCRIPT,
-        0,
-        "",
-    )
+fn who_may_create_a_session(rt: HostRuntime) -> Result<(), Fail> {
+    accept(&rt, rt.alloc(), CREATING, CREATING_TRANSCRIPT)
+}
+
+#[test]
+fn who_may_control_a_session(rt: HostRuntime) -> Result<(), Fail> {
+    accept(&rt, rt.alloc(), CONTROLLING, CONTROLLING_TRANSCRIPT)
 }
 
 #[test]
@@ -227,8 +215,8 @@ fn texts_have_one_spelling(rt: HostRuntime) -> Result<(), Fail> {
     compare(
         &rt,
         rt.alloc(),
-        &SPELLING,
-        &SPELLING_TRANSCRIPT,
+        SPELLING.as_bytes(),
+        SPELLING_TRANSCRIPT.as_bytes(),
         2,
         "line 7: bad-hex\n",
     )

@@ -4,6 +4,8 @@ use login_base::{Bytes, Items, NoMemory, Word};
 use login_edge::{MemSink, MemSource, Source};
 use login_prog::run;
 use std::alloc::Global;
+use std::process::Abort;
+use std::test::Fail;
 
 /// Room enough for what a run of a test writes.
 const ROOM: usize = 100_000;
@@ -74,12 +76,92 @@ pub fn joined(alloc: Global, pieces: &[&[u8]]) -> Result<Vec<u8>, NoMemory> {
     Ok(text)
 }
 
-/// The lines, each with its line feed.
-pub fn lines(alloc: Global, lines: &[&str]) -> Result<Vec<u8>, NoMemory> {
-    let mut text = Vec::new(alloc);
-    for line in lines {
-        text.extend_from_slice(line.as_bytes())?;
-        text.push(b'\n')?;
+/// Runs a recording, and compares all that it leaves.
+pub fn compare(
+    rt: &impl Abort,
+    alloc: Global,
+    recording: &[u8],
+    transcript: &[u8],
+    status: u8,
+    errors: &str,
+) -> Result<(), Fail> {
+    let run = replay(alloc, recording)?;
+    assert_eq!(rt; run.output(), transcript);
+    assert_eq!(rt; run.errors(), errors.as_bytes());
+    assert_eq!(rt; run.status, status);
+    Ok(())
+}
+
+/// Runs a recording, which is accepted whole, and compares its transcript.
+pub fn accept(
+    rt: &impl Abort,
+    alloc: Global,
+    recording: &str,
+    transcript: &str,
+) -> Result<(), Fail> {
+    compare(
+        rt,
+        alloc,
+        recording.as_bytes(),
+        transcript.as_bytes(),
+        0,
+        "",
+    )
+}
+
+/// The front of a recording through some of its events, its transcript, and how many events these are.
+pub struct Front {
+    pub recording: &'static str,
+    pub transcript: &'static str,
+    pub entries: u32,
+}
+
+/// Runs a recording with these lines behind a front, none of which makes a mark, and compares what each
+/// of them is answered.
+pub fn answer(
+    rt: &impl Abort,
+    alloc: Global,
+    front: &Front,
+    lines: &[(&str, &str)],
+) -> Result<(), Fail> {
+    let mut recording = Vec::from_slice(alloc, front.recording.as_bytes())?;
+    let mut transcript = Vec::from_slice(alloc, front.transcript.as_bytes())?;
+    let mut number = front.entries;
+    for (line, reply) in lines {
+        number = number.saturating_add(1);
+        recording.extend_from_slice(format!(in alloc; "{line}\n")?.as_bytes())?;
+        let block = format!(in alloc; "{number} {line}\n {reply}\n")?;
+        transcript.extend_from_slice(block.as_bytes())?;
     }
-    Ok(text)
+    recording.extend_from_slice(b"end\n")?;
+    transcript.extend_from_slice(format!(in alloc; "end {number}\n")?.as_bytes())?;
+    compare(
+        rt,
+        alloc,
+        recording.as_slice(),
+        transcript.as_slice(),
+        0,
+        "",
+    )
+}
+
+/// Runs a recording that ends with each of the lines in turn. Each has to be refused as line `number`,
+/// for its cause.
+pub fn refuse(
+    rt: &impl Abort,
+    alloc: Global,
+    front: &[u8],
+    lines: &[(&[u8], &str)],
+    number: u32,
+    transcript: &[u8],
+) -> Result<(), Fail> {
+    for (i, (line, cause)) in lines.iter().enumerate() {
+        let errors = format!(in alloc; "line {number}: {cause}\n")?;
+        let text = joined(alloc, &[front, line])?;
+        let run = replay(alloc, text.as_slice())?;
+        assert_eq!(rt; run.status, 2, "at {i} of line {number}");
+        assert_eq!(rt; run.output(), transcript, "at {i} of line {number}");
+        assert_eq!(rt; run.errors(), errors.as_bytes(), "at {i} of line {number}");
+    }
+    Ok(())
 }

@@ -18,7 +18,7 @@ use Rattle.recording.specs.declared.creation.Place.{Place}
 use Rattle.recording.specs.declared.creation.Origin.{Origin}
 use Rattle.recording.specs.Text.{spell_text, spell_flag}
 use Rattle.recording.specs.CallSpelling.{operation_word, device_words, property_words, FitsDevice}
-use Rattle.recording.specs.Words.{flag_of, text_of, signed_of, operation_of}
+use Rattle.recording.specs.Words.{flag_of, text_of, signed_of}
 use Rattle.recording.specs.CallReadings.{owner_of, purpose_of, place_of, origin_of, creation_from, creation_of, one_text_of, two_texts_of, text_flag_of, text_number_of, text_device_of, one_number_of, two_numbers_of, number_flag_of, number_signed_of, one_operation_of, inhibition_of, property_of}
 use Rattle.recording.proofs.Texts.{text_of-spell_text, text_of_is}
 use Rattle.recording.proofs.Singles.{flag_of-spell_flag, flag_of_is, signed_of-decimal, signed_of_is, operation_of-word, operation_of_is}

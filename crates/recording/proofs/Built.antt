@@ -1,62 +1,31 @@
--- Which events are built, and that these mean themselves.
-use Rattle.std.proofs.Common.{◌≡◌, ℕ, ◌<◌, ◌≤◌, List, [], ◌∷◌, length, refl, ap, sym, ◌∙◌, arith, codes, Bool, true, false, not, cond, ltb, leb}
+-- What written events mean, and that what means something built is built by its words.
+use Rattle.std.proofs.Common.{◌≡◌, ℕ, ◌≤◌, List, [], ◌∷◌, length, refl, sym, subst, arith, Bool, true, false, not, leb}
+use Rattle.std.specs.Fmt.{decimal}
 use Rattle.std.specs.List.{AllByRecursion, list_all}
-use Rattle.std.specs.Str.{bytes_eq}
 use Rattle.std.proofs.lemmas.Bool.Decides.{nat_tests}
-use Rattle.std.proofs.lemmas.Slice.Eq.{bytes_eq-Decides}
 use Rattle.login_model.specs.declared.call.Call.{Call}
-use Rattle.login_model.specs.declared.call.Call.TheVariants.{Create, Control, Uncontrol, NoObject, BadArguments}
+use Rattle.login_model.specs.declared.call.Call.TheVariants as call
+use Rattle.login_model.specs.declared.hardware.Hardware.{Hardware}
+use Rattle.login_model.specs.declared.hardware.Hardware.TheVariants.{Add}
 use Rattle.login_model.specs.declared.event.Event.{Event}
-use Rattle.login_model.specs.declared.event.Event.TheVariants.{Connect, Call as Calls}
-use Rattle.login_model.specs.Legal.{IsBuilt, IsBuiltCall}
+use Rattle.login_model.specs.declared.event.Event.TheVariants.{Connect, Call as Calls, Hardware as Happens}
+use Rattle.login_model.specs.Built.{is_built_call, is_built_hardware, is_built}
 use Rattle.login_model.specs.Texts.{IsText, texts, has_object}
-use Rattle.recording.specs.EventSpelling.{Fits, IsWrittenEvent}
-use Rattle.recording.specs.Lines.{IsEventLine}
-use Rattle.recording.specs.Meaning.{are_short, meant_call, meant_event, is_built_call, is_built}
+use Rattle.recording.specs.declared.line.Line.{Line}
+use Rattle.recording.specs.declared.line.Line.TheVariants.{Conf, Event as EventLine}
+use Rattle.recording.specs.CallSpelling.{call_words, FitsCall}
+use Rattle.recording.specs.EventSpelling.{request_word, hardware_words, event_words, Fits, IsWrittenEvent}
+use Rattle.recording.specs.Lines.{fields, IsEventLine}
+use Rattle.recording.specs.Unbuilt.{is_unbuilt_call, has_unbuilt_word}
+use Rattle.recording.specs.Meaning.{are_short, meant_call, meant_event, is_built_line}
 use Rattle.recording.proofs.Texts.{both}
 
-same : (xs ys : List ℕ) → xs ≡ ys → bytes_eq xs ys ≡ true
-same xs ys e = (bytes_eq-Decides xs ys).1 e
-
-below : (a b : ℕ) → a < b → ltb a b ≡ true
-below a b h = grind (arith, nat_tests)
-
-is_below : (a b : ℕ) → ltb a b ≡ true → a < b
-is_below a b h = grind (arith, nat_tests)
-
-is_false : (b : Bool) → not b ≡ true → b ≡ false
-is_false false e = refl
-is_false true e = cc
-
-is_built_call-from : (call : Call) → IsBuiltCall call → is_built_call call ≡ true
-is_built_call-from (Create x) h = rw (same _ _ h.0, same _ _ h.1, same _ _ h.2, below 0 x.vt h.3, below x.vt 64 h.4, h.5) refl
-is_built_call-from (Control id force) h = rw h refl
-is_built_call-from (Uncontrol id) h = refl
-is_built_call-from _ h = absurd h
-
-is_built_call_is : (call : Call) → is_built_call call ≡ true → IsBuiltCall call
-is_built_call_is (Create x) e =
-    let p = both _ _ e in
-    let q = both _ _ p.0 in
-    let r = both _ _ q.0 in
-    let s = both _ _ r.0 in
-    let t = both _ _ s.0 in (
-      (bytes_eq-Decides x.session_type (codes "tty")).0 t.0,
-      (bytes_eq-Decides x.class (codes "user")).0 t.1,
-      (bytes_eq-Decides x.seat (codes "seat0")).0 s.1,
-      is_below 0 x.vt r.1,
-      is_below x.vt 64 q.1,
-      is_false x.remote p.1,
-    )
-is_built_call_is (Control id force) e = is_false force e
-is_built_call_is (Uncontrol id) e = tt
-is_built_call_is _ e = cc
-
-built_has_object : (call : Call) → is_built_call call ≡ true → has_object call ≡ true
-built_has_object (Create x) e = refl
-built_has_object (Control id force) e = refl
-built_has_object (Uncontrol id) e = refl
-built_has_object _ e = cc
+-- a call that is built names no object with properties
+built_has_object : (c : Call) → is_built_call c ≡ true → has_object c ≡ true
+built_has_object (call.GetProperty x) e = cc
+built_has_object (call.GetAllProperties path interface) e = cc
+built_has_object (call.SetProperty x) e = cc
+built_has_object _ e = refl
 
 -- texts of at most 512 bytes
 shorter : (ts : List (List ℕ)) → list_all (λ t. leb (length t) 512) ts ≡ true → AllByRecursion (IsText 16384) ts → AllByRecursion (IsText 512) ts
@@ -68,7 +37,7 @@ shorter (t ∷ ts) e h =
     within : (n : ℕ) → leb n 512 ≡ true → n ≤ 512
     within n h = grind (arith, nat_tests)
 
-pub longer : (ts : List (List ℕ)) → AllByRecursion (IsText 512) ts → AllByRecursion (IsText 16384) ts
+longer : (ts : List (List ℕ)) → AllByRecursion (IsText 512) ts → AllByRecursion (IsText 16384) ts
 longer [] h = tt
 longer (t ∷ ts) h = (record { utf8 = h.0.utf8; no_nul = h.0.no_nul; short = omega (arith, h.0.short) }, longer ts h.1)
 
@@ -79,43 +48,74 @@ tested_short (t ∷ ts) h = rw (within (length t) h.0.short, tested_short ts h.1
     within : (n : ℕ) → n ≤ 512 → leb n 512 ≡ true
     within n h = grind (arith, nat_tests)
 
--- a call that is built, and so is what it means, means itself
-meant_itself : (call : Call) → has_object call ≡ true → is_built_call (meant_call call) ≡ true → (meant_call call ≡ call) × (are_short call ≡ true)
-meant_itself call object e = by (are_short call) refl
+-- a call of a line of a recording
+record IsCallLine (c : Call) : Type 0 where
+  fits : FitsCall c
+  short : AllByRecursion (IsText 512) (texts c)
+  object : has_object c ≡ true
+  built : is_built_call c ≡ true
+
+-- what a call that is built means is one of these
+meant_fits : (c : Call) → is_built_call c ≡ true → FitsCall c → AllByRecursion (IsText 16384) (texts c) → IsCallLine (meant_call c)
+meant_fits c b f t = by (are_short c) refl
   where
-    by : (x : Bool) → are_short call ≡ x → (meant_call call ≡ call) × (are_short call ≡ true)
-    by true h = (rw (object, h) refl, h)
+    object : has_object c ≡ true
+    object = built_has_object c b
+
+    by : (x : Bool) → are_short c ≡ x → IsCallLine (meant_call c)
+    by true h =
+        let same : meant_call c ≡ c = rw (object, h) refl in
+        subst IsCallLine (sym same) (record { fits = f; short = shorter (texts c) h t; object = object; built = b })
     by false h =
-        let other : meant_call call ≡ BadArguments = rw (object, h) refl in
-        let none : is_built_call (meant_call call) ≡ false = ap is_built_call other in
-        cc
+        let other : meant_call c ≡ call.BadArguments = rw (object, h) refl in
+        subst IsCallLine (sym other) (record { fits = tt; short = tt; object = refl; built = refl })
 
--- an event that is written and built, and so is what it means, is one of a line of a recording
-pub built_event : (e : Event) → IsWrittenEvent e → is_built e ≡ true → is_built (meant_event e) ≡ true → (meant_event e ≡ e) × IsEventLine e
-built_event (Connect c u) w b m = (refl, record { fits = w; built = tt })
-built_event (Calls r) w b m =
-    let p = both (not r.quiet) (is_built_call r.call) b in
-    let q = both (not r.quiet) (is_built_call (meant_call r.call)) m in
-    let object = built_has_object r.call p.1 in
-    let t = meant_itself r.call object q.1 in (
-      rw t.0 refl,
-      record {
-        fits = (w.0, w.1, w.2, w.3, w.4, shorter (texts r.call) t.1 w.5, object);
-        built = (is_false r.quiet p.0, is_built_call_is r.call p.1);
-      },
-    )
-built_event _ w b m = cc
+-- what a written event that is built means is one of a line of a recording
+pub meant_line : (e : Event) → IsWrittenEvent e → is_built e ≡ true → IsEventLine (meant_event e)
+meant_line (Calls r) w b =
+    let t = meant_fits r.call b w.4 w.5 in
+    record { fits = (w.0, w.1, w.2, w.3, t.fits, t.short, t.object); built = t.built }
+meant_line (Connect c u) w b = record { fits = w; built = refl }
+meant_line (Happens x) w b = record { fits = w; built = b }
+meant_line _ w b = record { fits = w; built = refl }
 
--- an event of a line of a recording is written, it is built, and it means itself
+-- an event of a line of a recording is written, and it means itself
 pub event_written : (e : Event) → Fits e → IsWrittenEvent e
 event_written (Calls r) f = (f.0, f.1, f.2, f.3, f.4, longer (texts r.call) f.5)
 event_written (Connect c u) f = f
 event_written _ f = f
 
-pub event_built : (e : Event) → IsEventLine e → (is_built e ≡ true) × (meant_event e ≡ e)
-event_built e h = by e h.fits h.built
-  where
-    by : (e : Event) → Fits e → IsBuilt e → (is_built e ≡ true) × (meant_event e ≡ e)
-    by (Connect c u) f b = (refl, refl)
-    by (Calls r) f b = (rw (b.0, is_built_call-from r.call b.1) refl, rw (f.6, tested_short (texts r.call) f.5) refl)
-    by _ f b = absurd b
+pub means_itself : (e : Event) → Fits e → meant_event e ≡ e
+means_itself (Calls r) f = rw (f.6, tested_short (texts r.call) f.5) refl
+means_itself (Connect c u) f = refl
+means_itself _ f = refl
+
+-- the word of a call tells whether it is built
+call_word : (who serial : List ℕ) (c : Call) → is_unbuilt_call (who ∷ serial ∷ call_words c) ≡ not (is_built_call c)
+unfolding call_words
+call_word who serial (call.Create x) = refl
+call_word who serial _ = refl
+
+request_words : (quiet : Bool) (who serial : List ℕ) (c : Call) → has_unbuilt_word (request_word quiet ∷ who ∷ serial ∷ call_words c) ≡ not (is_built_call c)
+unfolding has_unbuilt_word
+request_words true who serial c = call_word who serial c
+request_words false who serial c = call_word who serial c
+
+hardware_word : (x : Hardware) → has_unbuilt_word (hardware_words x) ≡ not (is_built_hardware x)
+unfolding has_unbuilt_word hardware_words
+hardware_word (Add d kind seat) = refl
+hardware_word _ = refl
+
+event_word : (e : Event) → has_unbuilt_word (event_words e) ≡ not (is_built e)
+unfolding has_unbuilt_word event_words
+event_word (Calls r) = request_words r.quiet (decimal r.who.0) (decimal r.serial) r.call
+event_word (Happens x) = hardware_word x
+event_word _ = refl
+
+-- the words of a line tell whether it is built
+pub line_word : (line : Line) → has_unbuilt_word (fields line) ≡ not (is_built_line line)
+unfolding has_unbuilt_word
+line_word (EventLine e) = event_word e
+line_word (Conf []) = refl
+line_word (Conf (b ∷ bs)) = refl
+line_word _ = refl

@@ -1,17 +1,15 @@
 -- The words of a call say the call, and nothing else.
-use Rattle.std.proofs.Common.{◌≡◌, ℕ, ℤ, ◌<◌, ◌^◌, List, [], ◌∷◌, refl, ap, subst, sym, ◌∙◌, codes, Bool, cond, Option, Some, None}
+use Rattle.std.proofs.Common.{◌≡◌, ℕ, List, [], ◌∷◌, refl, ap, subst, sym, ◌∙◌, codes, Bool, cond, Option, Some}
 use Rattle.std.specs.List.{AllByRecursion}
 use Rattle.std.specs.Option.{option_map}
 use Rattle.std.specs.Str.{bytes_eq}
-use Rattle.login_base.specs.declared.ids.Uid.{Uid}
-use Rattle.login_base.specs.declared.ids.HandleNo.{HandleNo}
 use Rattle.login_base.specs.declared.ids.DevNo.{DevNo}
 use Rattle.login_model.specs.declared.call.Call.{Call}
 use Rattle.login_model.specs.declared.call.Call.TheVariants as call
 use Rattle.login_model.specs.Texts.{IsText, texts}
 use Rattle.recording.specs.CallSpelling.{call_words, FitsCall}
 use Rattle.recording.specs.Words.{text_of, signed_of}
-use Rattle.recording.specs.CallReadings.{alone, one_text_of, two_texts_of, text_flag_of, text_number_of, text_device_of, one_number_of, two_numbers_of, number_flag_of, number_signed_of, one_operation_of, inhibition_of, property_of, creation_of, kill_of, set_linger, kill_user, set_mode, other_call_of, seat_call_of, session_call_of, manager_call_of, call_of}
+use Rattle.recording.specs.CallReadings.{one_text_of, two_texts_of, text_flag_of, text_number_of, text_device_of, one_number_of, two_numbers_of, number_flag_of, number_signed_of, one_operation_of, inhibition_of, property_of, creation_of, kill_of, set_linger, kill_user, set_mode, other_call_of, seat_call_of, session_call_of, manager_call_of, call_of}
 use Rattle.recording.proofs.Texts.{text_of-spell_text, text_of_is}
 use Rattle.recording.proofs.Singles.{signed_of-decimal, signed_of_is}
 use Rattle.recording.proofs.Chains.{all3, by_word, by_made, by_alone, with_rest}
@@ -30,6 +28,7 @@ by_said make o word text words b c e said spelled others =
     by_made CallIs make o word text words b c e (λ x f. let s = said x f in record { words_are = with_rest refl s.words_are ∙ sym (spelled x); fits = s.fits; are_texts = s.are_texts }) others
 
 kill_of_is : (words : List (List ℕ)) (c : Call) → kill_of words ≡ Some c → CallIs c (codes "kill" ∷ words)
+unfolding call_words
 kill_of_is (id ∷ who ∷ signal ∷ []) c e =
     let t = all3 call.Kill (text_of 16384 id) (text_of 16384 who) (signed_of signal) c e in
     let i = text_of_is 16384 id t.0 t.3 in
@@ -43,7 +42,7 @@ kill_of_is (id ∷ who ∷ signal ∷ []) c e =
 kill_of_is _ c e = cc
 
 other_call_of_is : (word : List ℕ) (words : List (List ℕ)) (c : Call) → other_call_of word words ≡ Some c → CallIs c (word ∷ words)
-unfolding other_call_of
+unfolding other_call_of call_words
 other_call_of_is word words c e =
     by_said call.GetProperty (property_of words) word (codes "get") words _ c e (property_of_is words) (λ x. refl) (λ e.
     by_said (λ (x : List ℕ × List ℕ). call.GetAllProperties x.0 x.1) (two_texts_of words) word (codes "get-all") words _ c e (two_texts_of_is words) (λ x. refl) (λ e.
@@ -61,7 +60,7 @@ other_call_of_is word words c e =
     cc)))))))))))))
 
 seat_call_of_is : (word : List ℕ) (words : List (List ℕ)) (c : Call) → seat_call_of word words ≡ Some c → CallIs c (word ∷ words)
-unfolding seat_call_of
+unfolding seat_call_of call_words
 seat_call_of_is word words c e =
     by_said (λ (x : List ℕ × ℕ). call.SwitchTo x.0 x.1) (text_number_of words) word (codes "switch") words _ c e (text_number_of_is words) (λ x. refl) (λ e.
     by_said call.SwitchToNext (one_text_of words) word (codes "next") words _ c e (one_text_of_is words) (λ x. refl) (λ e.
@@ -76,7 +75,7 @@ seat_call_of_is word words c e =
     other_call_of_is word words c e))))))))))
 
 session_call_of_is : (word : List ℕ) (words : List (List ℕ)) (c : Call) → session_call_of word words ≡ Some c → CallIs c (word ∷ words)
-unfolding session_call_of
+unfolding session_call_of call_words
 session_call_of_is word words c e =
     by_said call.Activate (one_text_of words) word (codes "activate") words _ c e (one_text_of_is words) (λ x. refl) (λ e.
     by_said (λ (x : List ℕ × List ℕ). call.ActivateOnSeat x.0 x.1) (two_texts_of words) word (codes "activate-on") words _ c e (two_texts_of_is words) (λ x. refl) (λ e.
@@ -94,7 +93,7 @@ session_call_of_is word words c e =
     seat_call_of_is word words c e)))))))))))))
 
 manager_call_of_is : (word : List ℕ) (words : List (List ℕ)) (c : Call) → manager_call_of word words ≡ Some c → CallIs c (word ∷ words)
-unfolding manager_call_of
+unfolding manager_call_of call_words
 manager_call_of_is word words c e =
     by_said call.Create (creation_of words) word (codes "create") words _ c e (creation_of_is words) (λ x. refl) (λ e.
     by_said call.GetSession (one_text_of words) word (codes "get-session") words _ c e (one_text_of_is words) (λ x. refl) (λ e.
@@ -119,7 +118,7 @@ call_of_is (word ∷ words) c e = manager_call_of_is word words c e
 
 -- the words of a call are read as it
 pub call_of-words : (c : Call) → FitsCall c → AllByRecursion (IsText 16384) (texts c) → call_of (call_words c) ≡ Some c
-unfolding call_of manager_call_of session_call_of seat_call_of other_call_of
+unfolding call_of manager_call_of session_call_of seat_call_of other_call_of call_words
 call_of-words (call.Create x) fits t = ap (option_map call.Create) (creation_of-words x fits t)
 call_of-words (call.GetSession id) fits t = ap (option_map call.GetSession) (one_text_of-words id t.0)
 call_of-words (call.GetUser u) fits t = ap (option_map (λ (x : ℕ). call.GetUser (record { 0 = x }))) (one_number_of-words u.0 fits)

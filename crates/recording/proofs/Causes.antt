@@ -1,8 +1,8 @@
 -- Words say nothing exactly where they have a fault.
-use Rattle.std.proofs.Common.{◌≡◌, ◌≢◌, ℕ, ◌≤◌, ◌<◌, ◌-◌, List, [], ◌∷◌, ◌++◌, refl, sym, ◌∙◌, ap, subst, codes, Bool, true, false, not, ◌&&◌, ◌==◌, cond, leb, arith, Option, Some, None, Result, Err, length, length-append, take}
+use Rattle.std.proofs.Common.{◌≡◌, ◌≢◌, ℕ, ◌≤◌, ◌<◌, ◌-◌, List, [], ◌∷◌, ◌++◌, refl, sym, ◌∙◌, ap, subst, codes, Bool, true, false, not, ◌&&◌, ◌==◌, cond, leb, arith, Option, Some, None, Result, Err, length, length-append}
 use Rattle.std.specs.Option.{option_and_then, option_map, option_or}
 use Rattle.std.specs.Str.{bytes_eq, is_utf8}
-use Rattle.std.specs.List.{list_all, last_or, slice_split}
+use Rattle.std.specs.List.{list_all, list_any, last_or, slice_split}
 use Rattle.std.proofs.lemmas.List.{take-append-le, take_all}
 use Rattle.std.proofs.lemmas.Bool.Decides.{nat_tests}
 use Rattle.std.proofs.lemmas.Slice.Eq.{bytes_eq-Decides}
@@ -560,10 +560,15 @@ unfolding line_fault
 nothing_ended [] e = refl
 nothing_ended (b ∷ bytes) e = let wrong : ⊥ = omega (arith, e) in absurd wrong
 
--- a line with its line feed that is not too long has the fault of its words
-pub fault_of_words : (bytes text : List ℕ) (b : ℕ) → bytes ≡ text ++ b ∷ [] → b ≡ 10 → length text ≤ 16384 → line_fault bytes ≡ words_fault (slice_split (λ b. b == 32) text)
+-- more than a line has an extra word
+pub more_than_line : (bytes text : List ℕ) (b : ℕ) → bytes ≡ text ++ b ∷ [] → b ≡ 10 → length text ≤ 16384 → list_any (λ b. b == 10) text ≡ true → line_fault bytes ≡ Some ExtraWord
 unfolding line_fault
-fault_of_words bytes text b e f short = rw (e, f) (rw (last_is None text 10, before_is text 10, within_most (length text) short) refl)
+more_than_line bytes text b e f short more = rw (e, f) (rw (last_is None text 10, before_is text 10, within_most (length text) short, more) refl)
+
+-- a line with its line feed that is not too long has the fault of its words
+pub fault_of_words : (bytes text : List ℕ) (b : ℕ) → bytes ≡ text ++ b ∷ [] → b ≡ 10 → length text ≤ 16384 → list_any (λ b. b == 10) text ≡ false → line_fault bytes ≡ words_fault (slice_split (λ b. b == 32) text)
+unfolding line_fault
+fault_of_words bytes text b e f short one = rw (e, f) (rw (last_is None text 10, before_is text 10, within_most (length text) short, one) refl)
 
 abbrev refused : LineFault → Result Line LineFault
 refused fault = Err fault
@@ -582,9 +587,9 @@ found_is o Ended fault f e h = cc
 found_is o NotBuilt fault f e h = cc
 
 -- the fault that was found of the words of a line is the line's
-pub cause_of_words : (bytes text : List ℕ) (b : ℕ) (words : List (List ℕ)) (found fault : LineFault) → bytes ≡ text ++ b ∷ [] → b ≡ 10 → length text ≤ 16384 → words ≡ slice_split (λ b. b == 32) text
+pub cause_of_words : (bytes text : List ℕ) (b : ℕ) (words : List (List ℕ)) (found fault : LineFault) → bytes ≡ text ++ b ∷ [] → b ≡ 10 → length text ≤ 16384 → list_any (λ b. b == 10) text ≡ false → words ≡ slice_split (λ b. b == 32) text
     → Finds (words_fault words) (Some found) → refused found ≡ refused fault → fault ≢ NoMemory → line_fault bytes ≡ Some fault
-cause_of_words bytes text b words found fault e f short w g r h = fault_of_words bytes text b e f short ∙ (ap words_fault (sym w) ∙ found_is (words_fault words) found fault g r h)
+cause_of_words bytes text b words found fault e f short one w g r h = fault_of_words bytes text b e f short one ∙ (ap words_fault (sym w) ∙ found_is (words_fault words) found fault g r h)
 
 -- and it is none of a line that is not built
 pub found_unbuilt : (words : List (List ℕ)) (found : LineFault) → Finds (words_fault words) (Some found) → refused found ≡ refused NotBuilt → ⊥

@@ -1,11 +1,9 @@
 -- The words of an event say the event, and nothing else.
-use Rattle.std.proofs.Common.{◌≡◌, ℕ, ◌<◌, ◌^◌, List, [], ◌∷◌, refl, ap, subst, codes, Bool, true, false, Option, Some, None}
+use Rattle.std.proofs.Common.{◌≡◌, ℕ, ◌<◌, ◌^◌, List, [], ◌∷◌, refl, subst, codes, Bool, true, false, Some}
 use Rattle.std.specs.Prelude.{FitsSigned}
 use Rattle.std.specs.Int.{w32}
 use Rattle.std.specs.Fmt.{decimal, signed_decimal}
 use Rattle.std.specs.List.{AllByRecursion}
-use Rattle.std.specs.Option.{option_and_then, option_map}
-use Rattle.std.specs.Str.{bytes_eq}
 use Rattle.login_base.specs.Number.{number_of}
 use Rattle.login_base.specs.Seat.{is_seat_name}
 use Rattle.login_base.specs.declared.ids.DevNo.{DevNo}
@@ -20,10 +18,10 @@ use Rattle.login_model.specs.declared.event.Event.TheVariants.{Connect, Disconne
 use Rattle.login_model.specs.Texts.{IsText, texts}
 use Rattle.recording.specs.declared.event.Sample.{Sample}
 use Rattle.recording.specs.declared.event.Site.{Site}
-use Rattle.recording.specs.CallSpelling.{call_words, device_words, FitsCall, FitsDevice}
+use Rattle.recording.specs.CallSpelling.{call_words, FitsCall, FitsDevice}
 use Rattle.recording.specs.EventSpelling.{device_kind_word, request_word, hardware_words, event_words, FitsHardware, IsWrittenEvent}
 use Rattle.recording.specs.Words.{positive_of, small_of, signed_of, moment_of, flag_of, text_of, seat_of, device_kind_of, key_of}
-use Rattle.recording.specs.CallReadings.{call_of, alone, one_number_of}
+use Rattle.recording.specs.CallReadings.{call_of, one_number_of}
 use Rattle.recording.specs.EventReadings.{device_of, site_of, add_of, remove_of, sample_of, input_of, key_line_of, dock_of, exit_of, hardware_of, connect_of, connection_of, tick_of, request_of, event_of}
 use Rattle.recording.proofs.Texts.{text_of-spell_text, text_of_is}
 use Rattle.recording.proofs.Moments.{moment_of-decimal, moment_of_is}
@@ -68,6 +66,7 @@ record HardwareIs (x : Hardware) (words : List (List ℕ)) : Type 0 where
   fits : FitsHardware x
 
 add_of_is : (words : List (List ℕ)) (x : Hardware) → add_of words ≡ Some x → HardwareIs x (codes "add" ∷ words)
+unfolding hardware_words
 add_of_is (major ∷ minor ∷ words) x e =
     let made : DevNo → Site → Hardware = λ d s. Add d s.kind s.seat in
     let t = all2 made (device_of major minor) (site_of words) x e in
@@ -77,6 +76,7 @@ add_of_is (major ∷ minor ∷ words) x e =
 add_of_is _ x e = cc
 
 remove_of_is : (words : List (List ℕ)) (x : Hardware) → remove_of words ≡ Some x → HardwareIs x (codes "remove" ∷ words)
+unfolding hardware_words
 remove_of_is (major ∷ minor ∷ []) x e =
     let t = mapped Remove (device_of major minor) x e in
     let d = device_of_is major minor t.0 t.1 in
@@ -84,6 +84,7 @@ remove_of_is (major ∷ minor ∷ []) x e =
 remove_of_is _ x e = cc
 
 input_of_is : (words : List (List ℕ)) (x : Hardware) → input_of words ≡ Some x → HardwareIs x (codes "input" ∷ words)
+unfolding hardware_words
 input_of_is (major ∷ minor ∷ words) x e =
     let made : DevNo → Sample → Hardware = λ d s. Input d s.input_type s.code s.value in
     let t = all2 made (device_of major minor) (sample_of words) x e in
@@ -93,18 +94,21 @@ input_of_is (major ∷ minor ∷ words) x e =
 input_of_is _ x e = cc
 
 key_line_of_is : (words : List (List ℕ)) (x : Hardware) → key_line_of words ≡ Some x → HardwareIs x (codes "key" ∷ words)
+unfolding hardware_words
 key_line_of_is (word ∷ []) x e =
     let t = mapped Key (key_of word) x e in
     subst (λ (y : Hardware). HardwareIs y (codes "key" ∷ word ∷ [])) t.2 (record { words_are = with_rest refl (with_rest (key_of_is word t.0 t.1) refl); fits = tt })
 key_line_of_is _ x e = cc
 
 dock_of_is : (words : List (List ℕ)) (x : Hardware) → dock_of words ≡ Some x → HardwareIs x (codes "dock" ∷ words)
+unfolding hardware_words
 dock_of_is (word ∷ []) x e =
     let t = mapped Dock (flag_of word) x e in
     subst (λ (y : Hardware). HardwareIs y (codes "dock" ∷ word ∷ [])) t.2 (record { words_are = with_rest refl (with_rest (flag_of_is word t.0 t.1) refl); fits = tt })
 dock_of_is _ x e = cc
 
 exit_of_is : (words : List (List ℕ)) (x : Hardware) → exit_of words ≡ Some x → HardwareIs x (codes "exit" ∷ words)
+unfolding hardware_words
 exit_of_is (word ∷ []) x e =
     let t = mapped Exit (text_of 512 word) x e in
     let i = text_of_is 512 word t.0 t.1 in
@@ -112,7 +116,7 @@ exit_of_is (word ∷ []) x e =
 exit_of_is _ x e = cc
 
 hardware_of_is : (word : List ℕ) (words : List (List ℕ)) (x : Hardware) → hardware_of word words ≡ Some x → HardwareIs x (word ∷ words)
-unfolding hardware_of
+unfolding hardware_of hardware_words
 hardware_of_is word words x e =
     by_word HardwareIs word (codes "add") words (add_of words) _ x e (add_of_is words x) (λ e.
     by_word HardwareIs word (codes "remove") words (remove_of words) _ x e (remove_of_is words x) (λ e.
@@ -130,6 +134,7 @@ pub record EventIs (e : Event) (words : List (List ℕ)) : Type 0 where
   pub written : IsWrittenEvent e
 
 connect_of_is : (words : List (List ℕ)) (event : Event) → connect_of words ≡ Some event → EventIs event (codes "connect" ∷ words)
+unfolding event_words
 connect_of_is (who ∷ uid ∷ []) event e =
     let made : ℕ → ℕ → Event = λ c u. Connect (record { 0 = c }) (record { 0 = u }) in
     let t = all2 made (positive_of who) (number_of uid) event e in
@@ -151,6 +156,7 @@ pub connection_of-words : (c : ConnId) → 0 < c.0 → c.0 < 2 ^ 32 → connecti
 connection_of-words c some small = rw (positive_of-decimal c.0 some small) refl
 
 request_of_is : (quiet : Bool) (words : List (List ℕ)) (event : Event) → request_of quiet words ≡ Some event → EventIs event (request_word quiet ∷ words)
+unfolding event_words
 request_of_is quiet (who ∷ serial ∷ words) event e =
     let made : ℕ → ℕ → Call → Event = λ c n x. Calls (record { who = record { 0 = c }; serial = n; quiet = quiet; call = x }) in
     let t = all3 made (positive_of who) (positive_of serial) (call_of words) event e in
@@ -164,6 +170,7 @@ request_of_is quiet (who ∷ serial ∷ words) event e =
 request_of_is quiet _ event e = cc
 
 tick_of_is : (words : List (List ℕ)) (event : Event) → tick_of words ≡ Some event → EventIs event (codes "tick" ∷ words)
+unfolding event_words
 tick_of_is (moment ∷ []) event e =
     let made : ℕ → Event = λ m. Tick (record { 0 = m }) in
     let t = mapped made (moment_of moment) event e in
@@ -173,6 +180,7 @@ tick_of_is _ event e = cc
 
 -- what is read as an event has its words
 pub event_of_is : (words : List (List ℕ)) (event : Event) → event_of words ≡ Some event → EventIs event words
+unfolding event_words
 event_of_is [] event e = cc
 event_of_is (word ∷ words) event e =
     by_word EventIs word (codes "connect") words (connect_of words) _ event e (connect_of_is words event) (λ e.
@@ -191,7 +199,7 @@ request_of-words true who serial call a b c d f t = rw (positive_of-decimal who 
 request_of-words false who serial call a b c d f t = rw (positive_of-decimal who a b, positive_of-decimal serial c d, call_of-words call f t) refl
 
 hardware-words : (x : Hardware) → FitsHardware x → event_of (hardware_words x) ≡ Some (Happens x)
-unfolding hardware_of
+unfolding hardware_of hardware_words
 hardware-words (Add d kind seat) fits = rw (device_of-words d fits.0, device_kind_of-word kind, seat_of-name seat fits.1) refl
 hardware-words (Remove d) fits = rw (device_of-words d fits) refl
 hardware-words (Input d type code value) fits = rw (device_of-words d fits.0, small_of-decimal type fits.1, small_of-decimal code fits.2, signed_of-decimal value fits.3) refl
@@ -203,6 +211,7 @@ hardware-words JobDone fits = refl
 
 -- the words of an event are read as it
 pub event_of-words : (event : Event) → IsWrittenEvent event → event_of (event_words event) ≡ Some event
+unfolding event_words
 event_of-words (Connect c u) fits = rw (positive_of-decimal c.0 fits.0 fits.1, number_of-decimal u.0 fits.2) refl
 event_of-words (Disconnect c) fits = rw (positive_of-decimal c.0 fits.0 fits.1) refl
 event_of-words (Calls r) fits = request_of-words r.quiet r.who.0 r.serial r.call fits.0 fits.1 fits.2 fits.3 fits.4 fits.5

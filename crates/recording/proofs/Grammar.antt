@@ -1,28 +1,29 @@
 -- The lines of the grammar are the lines without a fault.
-use Rattle.std.proofs.Common.{◌≡◌, ◌≢◌, ℕ, ◌<◌, ◌≤◌, ◌⊎◌, inl, inr, List, [], ◌∷◌, ◌++◌, length, length-append, codes, refl, arith, ap, sym, ◌∙◌, subst, Bool, true, false, eqb, leb, Option, Some, None, Result, Ok, Err}
-use Rattle.std.specs.List.{slice_split, join_with_byte}
+use Rattle.std.proofs.Common.{◌≡◌, ℕ, ◌<◌, ◌≤◌, ◌⊎◌, inl, List, [], ◌∷◌, ◌++◌, length, length-append, codes, refl, arith, ap, sym, ◌∙◌, subst, Bool, true, false, eqb, leb, Option, Some, None, Result, Ok, Err}
+use Rattle.std.specs.List.{slice_split, join_with_byte, list_any}
 use Rattle.std.proofs.lemmas.Bool.Decides.{nat_tests}
 use Rattle.std.proofs.lemmas.List.{append_cancel_right}
 use Rattle.recording.specs.declared.line.Line.{Line}
-use Rattle.recording.specs.declared.line.Line.TheVariants.{Conf}
 use Rattle.recording.specs.declared.line.LineFault.{LineFault}
-use Rattle.recording.specs.declared.line.LineFault.TheVariants.{TooLong, Ended, NotBuilt, NoMemory}
+use Rattle.recording.specs.declared.line.LineFault.TheVariants.{TooLong, Ended, ExtraWord, NotBuilt, NoMemory}
 use Rattle.recording.specs.Bytes.{AreBytes}
-use Rattle.recording.specs.Lines.{fields, spell, IsLine, IsWritten, Spells}
-use Rattle.recording.specs.Unbuilt.{IsUnbuilt}
-use Rattle.recording.specs.Causes.{line_fault, words_fault}
+use Rattle.recording.specs.Cut.{NoLineFeed}
+use Rattle.recording.specs.Lines.{fields, IsWritten, Spells}
+use Rattle.recording.specs.Unbuilt.{has_unbuilt_word, IsUnbuilt}
+use Rattle.recording.specs.Causes.{line_fault}
 use Rattle.recording.specs.Grammar.{InGrammar, OneGrammar}
-use Rattle.recording.specs.Meaning.{is_built_line, built}
+use Rattle.recording.specs.Meaning.{meant, built, IsReadAs}
 use Rattle.recording.specs.Readings.{line_of}
-use Rattle.recording.proofs.Causes.{fault_of, faultless, fault_of_words, too_long_before, too_long_whole, has_ended, nothing_ended}
-use Rattle.recording.proofs.ReadBytes.{text_bytes}
-use Rattle.recording.proofs.Spellings.{line_of-text, line_written, text_spells, text_written, line_built, spell_short}
+use Rattle.recording.proofs.Causes.{fault_of, faultless, more_than_line, fault_of_words, too_long_before, too_long_whole, has_ended, nothing_ended}
+use Rattle.recording.proofs.ReadBytes.{text_bytes, no_feed, no_feed_test}
+use Rattle.recording.proofs.Spellings.{line_of-text, text_spells, text_written, written_no_feed, built_by_words, unbuilt_by_words}
 
 -- a text that is a line of the grammar, with its line feed
 pub record IsText (bytes : List ℕ) (line : Line) : Type 0 where
   pub text : List ℕ
   pub whole : bytes ≡ text ++ 10 ∷ []
   pub short : length text ≤ 16384
+  pub one : list_any (λ b. eqb b 10) text ≡ false
   pub read : line_of (slice_split (λ b. eqb b 32) text) ≡ Some line
 
 -- what spells a line is read as it
@@ -31,9 +32,10 @@ spells_text line bytes (Spells.plain l short) h = record {
   text = join_with_byte 32 (fields l);
   whole = refl;
   short = omega (arith, short, length-append (join_with_byte 32 (fields l)) (10 ∷ []));
+  one = no_feed_test (join_with_byte 32 (fields l)) (written_no_feed l h);
   read = line_of-text (join_with_byte 32 (fields l)) l h refl;
 }
-spells_text line bytes Spells.empty h = record { text = codes "conf "; whole = refl; short = omega arith; read = refl }
+spells_text line bytes Spells.empty h = record { text = codes "conf "; whole = refl; short = omega arith; one = refl; read = refl }
 
 -- a text is read in one way, however it is cut
 text_is_one : (text other : List ℕ) → text ++ 10 ∷ [] ≡ other ++ 10 ∷ [] → text ≡ other
@@ -48,7 +50,7 @@ read_as bytes text line whole s h =
 faultless_line : (bytes : List ℕ) → InGrammar bytes → line_fault bytes ≡ None
 faultless_line bytes g =
     let t = spells_text g.line bytes g.spells g.written in
-    fault_of_words bytes t.text 10 t.whole refl t.short ∙ faultless (slice_split (λ b. eqb b 32) t.text) g.line t.read
+    fault_of_words bytes t.text 10 t.whole refl t.short t.one ∙ faultless (slice_split (λ b. eqb b 32) t.text) g.line t.read
 
 -- bytes are none, or some and a last one
 record EndsIn (bytes : List ℕ) : Type 0 where
@@ -88,18 +90,22 @@ in_grammar (a ∷ rest) are e = by (eqb x.last 10) refl (leb (length x.text) 163
     without : (fault : LineFault) → line_fault bytes ≡ Some fault → InGrammar bytes
     without fault h = let wrong : None ≡ Some fault = sym e ∙ h in cc
 
-    spelled : x.last ≡ 10 → length x.text ≤ 16384 → (o : Option Line) → line_of words ≡ o → InGrammar bytes
-    spelled feed short None read = absurd (fault_of words read (sym (fault_of_words bytes x.text x.last x.whole feed short) ∙ e))
-    spelled feed short (Some line) read =
+    spelled : x.last ≡ 10 → length x.text ≤ 16384 → list_any (λ b. eqb b 10) x.text ≡ false → (o : Option Line) → line_of words ≡ o → InGrammar bytes
+    spelled feed short one None read = absurd (fault_of words read (sym (fault_of_words bytes x.text x.last x.whole feed short one) ∙ e))
+    spelled feed short one (Some line) read =
         let whole : bytes ≡ x.text ++ 10 ∷ [] = x.whole ∙ ap (λ (b : ℕ). x.text ++ b ∷ []) feed in
         record {
           line = line;
           spells = subst (Spells line) (sym whole) (text_spells x.text line read short);
-          written = text_written x.text line read (text_bytes bytes x.text whole are);
+          written = text_written x.text line read (text_bytes bytes x.text whole one are);
         }
 
+    lined : x.last ≡ 10 → length x.text ≤ 16384 → (b : Bool) → list_any (λ b. eqb b 10) x.text ≡ b → InGrammar bytes
+    lined feed short true more = without ExtraWord (more_than_line bytes x.text x.last x.whole feed short more)
+    lined feed short false one = spelled feed short one (line_of words) refl
+
     by : (p : Bool) → eqb x.last 10 ≡ p → (q : Bool) → leb (length x.text) 16384 ≡ q → (r : Bool) → leb (length bytes) 16384 ≡ r → InGrammar bytes
-    by true f true g r h = spelled (is_feed x.last f) (within (length x.text) g) (line_of words) refl
+    by true f true g r h = lined (is_feed x.last f) (within (length x.text) g) (list_any (λ b. eqb b 10) x.text) refl
     by true f false g r h = without TooLong (too_long_before bytes x.text x.last x.whole (above (length x.text) g))
     by false f q g true h = without Ended (has_ended bytes x.text x.last x.whole (no_feed x.last f) (within (length bytes) h))
     by false f q g false h = without TooLong (too_long_whole bytes x.text x.last x.whole (no_feed x.last f) (above (length bytes) h))
@@ -107,13 +113,40 @@ in_grammar (a ∷ rest) are e = by (eqb x.last 10) refl (leb (length x.text) 163
 pub one_grammar : OneGrammar
 one_grammar bytes are = (faultless_line bytes, in_grammar bytes are)
 
--- what a reader answers to the spelling of a line
+-- a line of the grammar has no fault, so it is refused for none
+pub spelled_faultless : (bytes : List ℕ) (fault : LineFault) → line_fault bytes ≡ Some fault → (line : Line) → Spells line bytes → IsWritten line → ⊥
+spelled_faultless bytes fault e line s w =
+    let none = faultless_line bytes (record { line = line; spells = s; written = w }) in
+    let wrong : None ≡ Some fault = sym none ∙ e in
+    cc
+
+-- nor is one that is read, and one that is not built
+pub built_faultless : (bytes : List ℕ) (fault : LineFault) → line_fault bytes ≡ Some fault → (line : Line) → IsReadAs bytes line → ⊥
+built_faultless bytes fault e line r = spelled_faultless bytes fault e r.written r.spells r.fits
+
+pub unbuilt_faultless : (bytes : List ℕ) (fault : LineFault) → line_fault bytes ≡ Some fault → IsUnbuilt bytes → ⊥
+unbuilt_faultless bytes fault e u = spelled_faultless bytes fault e u.line u.spells u.written
+
+-- a line whose words say nothing is neither
+misfit : (bytes text : List ℕ) → bytes ≡ text ++ 10 ∷ [] → line_of (slice_split (λ b. eqb b 32) text) ≡ None → (line : Line) → Spells line bytes → IsWritten line → ⊥
+misfit bytes text whole none line s w =
+    let both : None ≡ Some line = sym none ∙ read_as bytes text line whole s w in
+    cc
+
+pub misfit_unread : (bytes text : List ℕ) → bytes ≡ text ++ 10 ∷ [] → line_of (slice_split (λ b. eqb b 32) text) ≡ None → (line : Line) → IsReadAs bytes line → ⊥
+misfit_unread bytes text whole none line r = misfit bytes text whole none r.written r.spells r.fits
+
+pub misfit_unbuilt : (bytes text : List ℕ) → bytes ≡ text ++ 10 ∷ [] → line_of (slice_split (λ b. eqb b 32) text) ≡ None → IsUnbuilt bytes → ⊥
+misfit_unbuilt bytes text whole none u = misfit bytes text whole none u.line u.spells u.written
+
+-- what a reader answers to a line that is built
 pub read_again : (bytes text : List ℕ) (read : Line) (r : Result Line LineFault) → bytes ≡ text ++ 10 ∷ [] → line_of (slice_split (λ b. eqb b 32) text) ≡ Some read → r ≡ built read
-    → (line : Line) → IsLine line → bytes ≡ spell line → (r ≡ Ok line) ⊎ (r ≡ Err NoMemory)
-read_again bytes text read r whole found e line h s =
-    let both : Some read ≡ Some line = sym found ∙ line_of-text text line (line_written line h) (sym whole ∙ s) in
-    let same : read ≡ line = cc in
-    inl (e ∙ (ap built same ∙ line_built line h))
+    → (line : Line) → IsReadAs bytes line → (r ≡ Ok line) ⊎ (r ≡ Err NoMemory)
+read_again bytes text read r whole found e line h =
+    let both : Some read ≡ Some h.written = sym found ∙ read_as bytes text h.written whole h.spells h.fits in
+    let same : read ≡ h.written = cc in
+    let ok : built h.written ≡ Ok (meant h.written) = rw (built_by_words h.written h.built) refl in
+    inl (e ∙ (ap built same ∙ (ok ∙ ap Ok (sym h.means))))
 
 -- and to a line of the grammar that is not built
 pub unbuilt_again : (bytes text : List ℕ) (read : Line) (r : Result Line LineFault) → bytes ≡ text ++ 10 ∷ [] → line_of (slice_split (λ b. eqb b 32) text) ≡ Some read → r ≡ built read
@@ -121,37 +154,33 @@ pub unbuilt_again : (bytes text : List ℕ) (read : Line) (r : Result Line LineF
 unbuilt_again bytes text read r whole found e u =
     let both : Some read ≡ Some u.line = sym found ∙ read_as bytes text u.line whole u.spells u.written in
     let same : read ≡ u.line = cc in
-    let none : built u.line ≡ Err NotBuilt = rw u.unbuilt refl in
+    let none : built u.line ≡ Err NotBuilt = rw (unbuilt_by_words u.line u.unbuilt) refl in
     inl (e ∙ (ap built same ∙ none))
 
--- a line of the grammar that is not built has no fault, so it is refused for nothing else
-pub unbuilt_faultless : (bytes : List ℕ) (fault : LineFault) → line_fault bytes ≡ Some fault → IsUnbuilt bytes → ⊥
-unbuilt_faultless bytes fault e u =
-    let none = faultless_line bytes (record { line = u.line; spells = u.spells; written = u.written }) in
-    let wrong : None ≡ Some fault = sym none ∙ e in
+-- bytes spell one line
+pub spells_one : (bytes : List ℕ) (l m : Line) → Spells l bytes → IsWritten l → Spells m bytes → IsWritten m → l ≡ m
+spells_one bytes l m s w t v =
+    let a = spells_text l bytes s w in
+    let both : Some l ≡ Some m = sym a.read ∙ read_as bytes a.text m a.whole t v in
     cc
 
--- nor is one that is built
-pub built_faultless : (bytes : List ℕ) (fault : LineFault) → line_fault bytes ≡ Some fault → (line : Line) → IsLine line → bytes ≡ spell line → ⊥
-built_faultless bytes fault e line h s =
-    let none = faultless_line bytes (record { line = line; spells = subst (Spells line) (sym s) (Spells.plain line (spell_short line h)); written = line_written line h }) in
-    let wrong : None ≡ Some fault = sym none ∙ e in
-    cc
-
--- a line whose words say nothing is none that is not built
-pub misfit_unbuilt : (bytes text : List ℕ) → bytes ≡ text ++ 10 ∷ [] → line_of (slice_split (λ b. eqb b 32) text) ≡ None → IsUnbuilt bytes → ⊥
-misfit_unbuilt bytes text whole none u =
-    let both : None ≡ Some u.line = sym none ∙ read_as bytes text u.line whole u.spells u.written in
-    cc
+-- and they are read as one
+pub reads_one : (bytes : List ℕ) (l m : Line) → IsReadAs bytes l → IsReadAs bytes m → l ≡ m
+reads_one bytes l m a b = a.means ∙ (ap meant (spells_one bytes a.written b.written a.spells a.fits b.spells b.fits) ∙ sym b.means)
 
 -- a line that is built is none that is not
-pub built_or_not : (bytes : List ℕ) (line : Line) → IsLine line → bytes ≡ spell line → IsUnbuilt bytes → ⊥
-built_or_not bytes line h s u =
-    let text : List ℕ = join_with_byte 32 (fields line) in
-    let here = line_of-text text line (line_written line h) refl in
-    let there = read_as bytes text u.line s u.spells u.written in
-    let both : Some line ≡ Some u.line = sym here ∙ there in
-    let same : line ≡ u.line = cc in
-    let none : built u.line ≡ Err NotBuilt = rw u.unbuilt refl in
-    let wrong : Ok line ≡ Err NotBuilt = sym (line_built line h) ∙ (ap built same ∙ none) in
+pub built_or_not : (bytes : List ℕ) (line : Line) → IsReadAs bytes line → IsUnbuilt bytes → ⊥
+built_or_not bytes line r u =
+    let same = spells_one bytes r.written u.line r.spells r.fits u.spells u.written in
+    let wrong : false ≡ true = sym r.built ∙ (ap (λ (l : Line). has_unbuilt_word (fields l)) same ∙ u.unbuilt) in
     cc
+
+-- the bytes are a text without a line feed, and a line feed
+pub record IsWhole (bytes : List ℕ) : Type 0 where
+  pub text : List ℕ
+  pub whole : bytes ≡ text ++ 10 ∷ []
+  pub feedless : NoLineFeed text
+
+-- what spells a line is whole
+pub spelled_whole : (bytes : List ℕ) (line : Line) → Spells line bytes → IsWritten line → IsWhole bytes
+spelled_whole bytes line s w = let t = spells_text line bytes s w in record { text = t.text; whole = t.whole; feedless = no_feed t.text t.one }

@@ -17,3 +17,4 @@ pub mod Singles
 pub mod Spellings
 pub mod Texts
 pub mod MarkParts
+pub mod Paths

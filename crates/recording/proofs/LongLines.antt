@@ -1,5 +1,5 @@
 -- A line that is too long is known by its first 16385 bytes.
-use Rattle.std.proofs.Common.{◌≡◌, ℕ, ◌<◌, ◌≤◌, List, [], ◌∷◌, ◌++◌, length, length-append, take, drop, refl, sym, ◌∙◌, ap, subst, arith, Bool, true, false, leb, Some, codes, ◌⊎◌, inl, inr}
+use Rattle.std.proofs.Common.{◌≡◌, ℕ, ◌<◌, List, [], ◌∷◌, ◌++◌, length, length-append, take, drop, refl, sym, ◌∙◌, ap, subst, arith, Bool, true, false, leb, Some, codes, ◌⊎◌, inl, inr}
 use Rattle.std.proofs.lemmas.Bool.Decides.{nat_tests}
 use Rattle.std.proofs.lemmas.List.{take-append-drop, take-append-le, take_all, length-take-le}
 use Rattle.std.specs.List.{join_with_byte}
@@ -11,6 +11,7 @@ use Rattle.recording.specs.Lines.{fields, Spells}
 use Rattle.recording.specs.Lines.Spells.{plain, empty}
 use Rattle.recording.specs.Causes.{line_fault}
 use Rattle.recording.specs.Unbuilt.{IsUnbuilt}
+use Rattle.recording.specs.Meaning.{IsReadAs}
 use Rattle.recording.proofs.Causes.{too_long_before, too_long_whole}
 
 abbrev front : List ℕ → List ℕ
@@ -86,3 +87,11 @@ unbuilt_by text (inr same) h = subst IsUnbuilt same h
 -- a line whose front is not built is not built
 pub unbuilt_of_front : (text : List ℕ) → IsUnbuilt (take 16385 (first_line text)) → IsUnbuilt (first_line text)
 unbuilt_of_front text = unbuilt_by text (within_by text (leb (length (first_line text)) 16385) refl)
+
+read_by : (text : List ℕ) (line : Line) → (Long text) ⊎ (front text ≡ first_line text) → IsReadAs (front text) line → IsReadAs (first_line text) line
+read_by text line (inl long) h = absurd (spelled_feed h.written (front text) h.spells long.feedless)
+read_by text line (inr same) h = subst (λ (t : List ℕ). IsReadAs t line) same h
+
+-- a line is read as its front is
+pub read_of_front : (text : List ℕ) (line : Line) → IsReadAs (take 16385 (first_line text)) line → IsReadAs (first_line text) line
+read_of_front text line = read_by text line (within_by text (leb (length (first_line text)) 16385) refl)

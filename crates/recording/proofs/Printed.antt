@@ -1,5 +1,5 @@
 -- Laws of texts that are printed part by part.
-use Rattle.std.proofs.Common.{◌≡◌, ℕ, List, [], ◌∷◌, ◌++◌, Result, Ok, Err, OnOk, codes, refl, ap, sym, ◌∙◌, append_assoc, append-nil}
+use Rattle.std.proofs.Common.{◌≡◌, ℕ, List, [], ◌∷◌, ◌++◌, Result, Ok, Err, OnOk, codes, map, refl, ap, sym, ◌∙◌, append_assoc, append-nil}
 use Rattle.std.specs.List.{join_with_byte, flat_map}
 use Rattle.std.specs.Fmt.{decimal}
 use Rattle.login_model.specs.declared.rule.Verdict.{Verdict}
@@ -10,7 +10,10 @@ use Rattle.login_model.specs.declared.mark.Mark.{Mark}
 use Rattle.login_model.specs.declared.mark.Mark.TheVariants.{Set, Say}
 use Rattle.login_model.specs.declared.mark.Entry.{Entry}
 use Rattle.recording.specs.Lines.{event_words}
-use Rattle.recording.specs.Print.{key_words, fact_words, notice_words, mark_words, rule_words, answer_words, verdict_words, indented, block}
+use Rattle.recording.specs.MarkWords.{key_words, fact_words, notice_words, mark_words}
+use Rattle.recording.specs.RuleWords.{rule_words}
+use Rattle.recording.specs.AnswerWords.{answer_words}
+use Rattle.recording.specs.Print.{verdict_words, indented, block}
 use Rattle.recording.specs.Spaced.{spaced}
 
 -- two parts, the second by a call whose answer is handed on
@@ -27,7 +30,13 @@ pub join_with_byte-spaced : (word : List ℕ) (words : List (List ℕ)) → join
 join_with_byte-spaced word [] = sym (append-nil word)
 join_with_byte-spaced word (v ∷ vs) = ap (λ (t : List ℕ). word ++ (32 ∷ t)) (join_with_byte-spaced v vs)
 
+-- values with a space between any two are the first and then each after a space
+pub joined_map : {A : Type 0} (f : A → List ℕ) (x : A) (xs : List A) → join_with_byte 32 (f x ∷ map f xs) ≡ f x ++ flat_map (λ y. 32 ∷ f y) xs
+joined_map f x [] = sym (append-nil (f x))
+joined_map f x (y ∷ ys) = ap (λ (t : List ℕ). f x ++ (32 ∷ t)) (joined_map f y ys)
+
 mark_words-indented : (m : Mark) → indented (mark_words m) ≡ spaced (mark_words m) ++ 10 ∷ []
+unfolding mark_words
 mark_words-indented (Set k x) = ap (λ (t : List ℕ). 32 ∷ (t ++ 10 ∷ [])) (join_with_byte-spaced (codes "set") (key_words k ++ fact_words k x))
 mark_words-indented (Say (One c) n) = ap (λ (t : List ℕ). 32 ∷ (t ++ 10 ∷ [])) (join_with_byte-spaced (codes "say") (decimal c.0 ∷ notice_words n))
 mark_words-indented (Say All n) = ap (λ (t : List ℕ). 32 ∷ (t ++ 10 ∷ [])) (join_with_byte-spaced (codes "all") (notice_words n))

@@ -1,75 +1,104 @@
 -- What the bytes of a line, with its line feed, are read as.
-use Rattle.std.proofs.Common.{◌≡◌, ◌≢◌, ℕ, suc, ◌<◌, ◌≤◌, ◌+◌, List, [], ◌∷◌, ◌++◌, length, length-append, get_or, refl, arith, ap, sym, ◌∙◌, subst, Bool, true, false, eqb, cond, Option, Some, None, Result, Ok, Err, IfOk, Fits, w8}
-use Rattle.std.specs.List.{slice_split, last_or, join_with_byte}
-use Rattle.std.specs.Option.{option_or}
+use Rattle.std.proofs.Common.{◌≡◌, ◌≢◌, ℕ, suc, ◌≤◌, List, [], ◌∷◌, ◌++◌, length, get_or, refl, arith, ap, sym, ◌∙◌, subst, Bool, true, false, not, eqb, Some, Result, Ok, Err, IfOk, Fits, w8}
+use Rattle.std.specs.List.{slice_split, list_any}
+use Rattle.std.proofs.lemmas.Bool.Decides.{nat_tests}
 use Rattle.recording.specs.declared.line.Line.{Line}
 use Rattle.recording.specs.declared.line.LineFault.{LineFault}
-use Rattle.recording.specs.declared.line.LineFault.TheVariants.{UnknownWord, BadNumber, BadHex, MissingWord, ExtraWord, TooLong, BadName, Ended, NotBuilt, NoMemory}
-use Rattle.recording.specs.Bytes.{AreBytes}
-use Rattle.recording.specs.Lines.{fields, spell, IsLine, IsWritten, Spells}
-use Rattle.recording.specs.Unbuilt.{IsUnbuilt}
-use Rattle.recording.specs.Meaning.{meant, is_built_line, built}
+use Rattle.recording.specs.declared.line.LineFault.TheVariants.{NotBuilt}
+use Rattle.recording.specs.Bytes.{AreBytes, AreRaw}
+use Rattle.recording.specs.Cut.{NoLineFeed}
+use Rattle.recording.specs.Lines.{fields, IsLine, IsWritten, Spells}
+use Rattle.recording.specs.Unbuilt.{has_unbuilt_word, IsUnbuilt}
+use Rattle.recording.specs.Meaning.{meant, is_built_line, built, IsReadAs}
 use Rattle.recording.specs.Readings.{line_of}
-use Rattle.recording.proofs.Causes.{last_is}
-use Rattle.recording.proofs.Spellings.{line_of-text, line_written, text_spells, text_written, built_line, line_built, spelled_so, spell_short}
+use Rattle.recording.proofs.Built.{line_word}
+use Rattle.recording.proofs.Spellings.{text_spells, text_written, line_meant}
 
 -- elements that are each a byte
 pub each_byte : (bs : List ℕ) → ((i : ℕ) → Fits w8 (get_or bs i 0)) → AreBytes bs
 each_byte [] h = tt
 each_byte (b ∷ bs) h = (omega (arith, h 0), each_byte bs (λ i. h (suc i)))
 
+-- no byte is a line feed, as the test says
+pub no_feed : (text : List ℕ) → list_any (λ b. eqb b 10) text ≡ false → NoLineFeed text
+no_feed [] e = tt
+no_feed (b ∷ bs) e = by (eqb b 10) refl (λ h. no_feed bs (rw h at e))
+  where
+    other : (n : ℕ) → eqb n 10 ≡ false → n ≢ 10
+    other n h k = grind (arith, nat_tests)
+
+    by : (x : Bool) → eqb b 10 ≡ x → (eqb b 10 ≡ false → NoLineFeed bs) → NoLineFeed (b ∷ bs)
+    by true h rest = let wrong : true ≡ false = rw h at e in cc
+    by false h rest = (other b h, rest h)
+
+pub no_feed_test : (text : List ℕ) → NoLineFeed text → list_any (λ b. eqb b 10) text ≡ false
+no_feed_test [] h = refl
+no_feed_test (b ∷ bs) h = rw (other b h.0, no_feed_test bs h.1) refl
+  where
+    other : (n : ℕ) → n ≢ 10 → eqb n 10 ≡ false
+    other n k = grind (arith, nat_tests)
+
 front_bytes : (xs ys : List ℕ) → AreBytes (xs ++ ys) → AreBytes xs
 front_bytes [] ys h = tt
 front_bytes (x ∷ xs) ys h = (h.0, front_bytes xs ys h.1)
 
-pub text_bytes : (bytes text : List ℕ) → bytes ≡ text ++ 10 ∷ [] → AreBytes bytes → AreBytes text
-text_bytes bytes text e h = front_bytes text (10 ∷ []) (subst AreBytes e h)
+raw : (text : List ℕ) → AreBytes text → NoLineFeed text → AreRaw text
+raw [] h k = tt
+raw (b ∷ bs) h k = ((h.0, k.0), raw bs h.1 k.1)
 
--- what is read and built is the line that is spelled so
-pub read_found : (bytes text : List ℕ) (line : Line) (r : Result Line LineFault) → bytes ≡ text ++ 10 ∷ [] → length text ≤ 16384 → AreBytes bytes
-    → line_of (slice_split (λ b. eqb b 32) text) ≡ Some line → r ≡ built line → IfOk r (λ l. (bytes ≡ spell l) × IsLine l)
-read_found bytes text line r whole short are read e = by (is_built_line line) refl
+-- the bytes of a line before its line feed
+pub text_bytes : (bytes text : List ℕ) → bytes ≡ text ++ 10 ∷ [] → list_any (λ b. eqb b 10) text ≡ false → AreBytes bytes → AreRaw text
+text_bytes bytes text e one h = raw text (front_bytes text (10 ∷ []) (subst AreBytes e h)) (no_feed text one)
+
+-- a text that was read as a line, with its line feed
+pub record IsRead (bytes : List ℕ) (line : Line) : Type 0 where
+  pub spells : Spells line bytes
+  pub written : IsWritten line
+
+pub read_so : (bytes text : List ℕ) (line : Line) → bytes ≡ text ++ 10 ∷ [] → length text ≤ 16384 → list_any (λ b. eqb b 10) text ≡ false → AreBytes bytes
+    → line_of (slice_split (λ b. eqb b 32) text) ≡ Some line → IsRead bytes line
+read_so bytes text line whole short one are read = record {
+  spells = subst (Spells line) (sym whole) (text_spells text line read short);
+  written = text_written text line read (text_bytes bytes text whole one are);
+}
+
+-- what is read and built is what the written line means
+pub read_found : (bytes : List ℕ) (line : Line) (r : Result Line LineFault) → IsRead bytes line → r ≡ built line → IfOk r (λ l. IsReadAs bytes l)
+read_found bytes line r is e = by (is_built_line line) refl
   where
-    written : IsWritten line
-    written = text_written text line read (text_bytes bytes text whole are)
-
-    spells : Spells line bytes
-    spells = subst (Spells line) (sym whole) (text_spells text line read short)
-
     Good : Result Line LineFault → Type 0
-    Good x = IfOk x (λ l. (bytes ≡ spell l) × IsLine l)
+    Good x = IfOk x (λ l. IsReadAs bytes l)
 
-    by : (b : Bool) → is_built_line line ≡ b → IfOk r (λ l. (bytes ≡ spell l) × IsLine l)
+    by : (b : Bool) → is_built_line line ≡ b → IfOk r (λ l. IsReadAs bytes l)
     by true b =
-        let t = built_line line written b in
-        let is : built line ≡ Ok line = rw b (ap Ok t.0) in
-        subst Good (sym (e ∙ is)) (spelled_so line bytes spells t.1, t.1)
+        let ok : built line ≡ Ok (meant line) = rw b refl in
+        let words : has_unbuilt_word (fields line) ≡ false = line_word line ∙ ap not b in
+        subst Good (sym (e ∙ ok)) (record { written = line; spells = is.spells; fits = is.written; built = words; means = refl })
     by false b =
-        let is : built line ≡ Err NotBuilt = rw b refl in
-        subst Good (sym (e ∙ is)) tt
+        let none : built line ≡ Err NotBuilt = rw b refl in
+        subst Good (sym (e ∙ none)) tt
 
--- what is read and not built is a line of the grammar that is not of this stage
-pub read_unbuilt : (bytes text : List ℕ) (line : Line) (r : Result Line LineFault) → bytes ≡ text ++ 10 ∷ [] → length text ≤ 16384 → AreBytes bytes
-    → line_of (slice_split (λ b. eqb b 32) text) ≡ Some line → r ≡ built line → r ≡ Err NotBuilt → IsUnbuilt bytes
-read_unbuilt bytes text line r whole short are read e refused = by (is_built_line line) refl
+pub read_fits : (bytes : List ℕ) (line : Line) (r : Result Line LineFault) → IsRead bytes line → r ≡ built line → IfOk r (λ l. IsLine l)
+read_fits bytes line r is e = by (is_built_line line) refl
+  where
+    Good : Result Line LineFault → Type 0
+    Good x = IfOk x (λ l. IsLine l)
+
+    by : (b : Bool) → is_built_line line ≡ b → IfOk r (λ l. IsLine l)
+    by true b =
+        let ok : built line ≡ Ok (meant line) = rw b refl in
+        subst Good (sym (e ∙ ok)) (line_meant line is.written b)
+    by false b =
+        let none : built line ≡ Err NotBuilt = rw b refl in
+        subst Good (sym (e ∙ none)) tt
+
+-- what is read and not built is a line of the grammar whose word is not built
+pub read_unbuilt : (bytes : List ℕ) (line : Line) (r : Result Line LineFault) → IsRead bytes line → r ≡ built line → r ≡ Err NotBuilt → IsUnbuilt bytes
+read_unbuilt bytes line r is e refused = by (is_built_line line) refl
   where
     by : (b : Bool) → is_built_line line ≡ b → IsUnbuilt bytes
     by true b =
-        let is : built line ≡ Ok (meant line) = rw b refl in
-        let same : Ok (meant line) ≡ Err NotBuilt = sym is ∙ (sym e ∙ refused) in
+        let ok : built line ≡ Ok (meant line) = rw b refl in
+        let same : Ok (meant line) ≡ Err NotBuilt = sym ok ∙ (sym e ∙ refused) in
         cc
-    by false b = record {
-      line = line;
-      spells = subst (Spells line) (sym whole) (text_spells text line read short);
-      written = text_written text line read (text_bytes bytes text whole are);
-      unbuilt = b;
-    }
-
--- a line of a recording is read
-spelled_read : (bytes text : List ℕ) (line : Line) → bytes ≡ text ++ 10 ∷ [] → IsLine line → bytes ≡ spell line → line_of (slice_split (λ b. eqb b 32) text) ≡ Some line
-spelled_read bytes text line whole h e = line_of-text text line (line_written line h) (sym whole ∙ e)
-
-pub misfit_refused : (bytes text : List ℕ) → bytes ≡ text ++ 10 ∷ [] → line_of (slice_split (λ b. eqb b 32) text) ≡ None → (line : Line) → IsLine line → bytes ≡ spell line → ⊥
-misfit_refused bytes text whole none line h s =
-    let both : None ≡ Some line = sym none ∙ spelled_read bytes text line whole h s in
-    cc
+    by false b = record { line = line; spells = is.spells; written = is.written; unbuilt = line_word line ∙ ap not b }

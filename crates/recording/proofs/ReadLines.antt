@@ -1,5 +1,5 @@
 -- The words of a line say the line, and nothing else.
-use Rattle.std.proofs.Common.{◌≡◌, ℕ, ◌≤◌, ◌<◌, ◌^◌, List, [], ◌∷◌, ◌++◌, length, length-append, refl, ap, sym, ◌∙◌, subst, codes, Bool, true, false, eqb, cond, Option, Some, None, arith}
+use Rattle.std.proofs.Common.{◌≡◌, ℕ, ◌≤◌, List, [], ◌∷◌, ◌++◌, length, length-append, refl, ap, sym, ◌∙◌, subst, codes, Bool, true, false, eqb, cond, Some, None, arith}
 use Rattle.std.specs.Fmt.{decimal}
 use Rattle.std.specs.List.{slice_split, join_with_byte, AllByRecursion}
 use Rattle.std.specs.Option.{option_map}
@@ -11,16 +11,15 @@ use Rattle.std.proofs.lemmas.List.Splits.{slice_split_at, join_with_byte-slice_s
 use Rattle.std.proofs.lemmas.Slice.Eq.{bytes_eq-Decides}
 use Rattle.login_base.specs.Number.{number_of}
 use Rattle.login_base.proofs.Numbers.{number_of-decimal, number_of_is}
-use Rattle.login_model.specs.declared.hardware.Hardware.{Hardware}
 use Rattle.login_model.specs.declared.hardware.Hardware.TheVariants.{Add, Remove, Input, VtKey, Key, Dock, Exit, JobDone}
 use Rattle.login_model.specs.declared.event.Event.{Event}
 use Rattle.login_model.specs.declared.event.Event.TheVariants.{Connect, Disconnect, Call as Calls, Hardware as Happens, Tick, Stop}
 use Rattle.recording.specs.declared.line.Line.{Line}
 use Rattle.recording.specs.declared.line.Line.TheVariants.{Header, Guid, User, Conf, Action, Go, Event as EventLine, Link, In, Hangup, End}
-use Rattle.recording.specs.Bytes.{AreBytes}
-use Rattle.recording.specs.Lines.{fields, spell, event_words, request_word, IsWritten, IsWrittenEvent, Spells, plain, empty}
+use Rattle.recording.specs.Bytes.{AreRaw}
+use Rattle.recording.specs.EventSpelling.{hardware_words, event_words}
+use Rattle.recording.specs.Lines.{fields, IsWritten, Spells, plain, empty}
 use Rattle.recording.specs.Words.{positive_of, text_of, guid_of, hex_of}
-use Rattle.recording.specs.CallReadings.{alone}
 use Rattle.recording.specs.EventReadings.{event_of, connection_of}
 use Rattle.recording.specs.Readings.{header_of, guid_line_of, user_of, conf_of, action_of, link_of, in_of, line_of}
 use Rattle.recording.proofs.Singles.{positive_of-decimal, positive_of_is, guid_of-guid, guid_of_is}
@@ -30,10 +29,10 @@ use Rattle.recording.proofs.Chains.{mapped, all2, all3, by_word, by_made, by_alo
 use Rattle.recording.proofs.Events.{event_of_is, event_of-words, connection_of_is, connection_of-words}
 
 -- a line and the words of its text: the text is the line's, if it is not too long, and the line's values
--- are in their bounds, if the text is one of bytes that these words are cut from
+-- are in their bounds, if the text is one of a line's bytes that these words are cut from
 pub record LineIs (line : Line) (words : List (List ℕ)) : Type 0 where
   pub spells : length (join_with_byte 32 words) ≤ 16384 → Spells line (join_with_byte 32 words ++ 10 ∷ [])
-  pub written : AreBytes (join_with_byte 32 words) → slice_split (λ b. eqb b 32) (join_with_byte 32 words) ≡ words → IsWritten line
+  pub written : AreRaw (join_with_byte 32 words) → slice_split (λ b. eqb b 32) (join_with_byte 32 words) ≡ words → IsWritten line
 
 -- a text is that of the line whose fields it joins
 plainly : (line : Line) (text : List ℕ) → text ≡ join_with_byte 32 (fields line) → length text ≤ 16384 → Spells line (text ++ 10 ∷ [])
@@ -101,7 +100,7 @@ conf_is : (words : List (List ℕ)) (text : List ℕ) → join_with_byte 32 word
 conf_is [] text e =
     let none : [] ≡ text = e in
     subst (λ (t : List ℕ). LineIs (Conf t) (codes "conf" ∷ [])) none (fielded (Conf []) (codes "conf" ∷ []) refl tt)
-conf_is (w ∷ ws) text e = record { spells = by text e; written = λ bytes cut. subst AreBytes e bytes.1.1.1.1.1 }
+conf_is (w ∷ ws) text e = record { spells = by text e; written = λ bytes cut. subst AreRaw e bytes.1.1.1.1.1 }
   where
     by : (t : List ℕ) → join_with_byte 32 (w ∷ ws) ≡ t → length (join_with_byte 32 (codes "conf" ∷ w ∷ ws)) ≤ 16384 → Spells (Conf t) (join_with_byte 32 (codes "conf" ∷ w ∷ ws) ++ 10 ∷ [])
     by [] f short = subst (λ (t : List ℕ). Spells (Conf []) ((codes "conf " ++ t) ++ 10 ∷ [])) (sym f) empty
@@ -169,6 +168,7 @@ line_of_is (word ∷ words) line e =
     subst (λ (l : Line). LineIs l (word ∷ words)) t.2 (fielded (EventLine t.0) (word ∷ words) s.words_are s.written)))))))))))
 
 other_word : (event : Event) → line_of (event_words event) ≡ option_map EventLine (event_of (event_words event))
+unfolding event_words hardware_words
 other_word (Connect c u) = refl
 other_word (Disconnect c) = refl
 other_word (Calls r) = by r.quiet

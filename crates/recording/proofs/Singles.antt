@@ -1,5 +1,5 @@
 -- Laws of single words: numbers, a flag, the words of fixed sets, a seat, a server's identity.
-use Rattle.std.proofs.Common.{◌≡◌, ℕ, ℤ, pos, negsuc, ◌+◌, ◌-◌, ◌<◌, ◌≤◌, ◌^◌, suc, List, [], ◌∷◌, refl, arith, ap, sym, ◌∙◌, codes, Bool, true, false, cond, eqb, leb, subst, ltb, ◌&&◌, Option, Some, None}
+use Rattle.std.proofs.Common.{◌≡◌, ℕ, ℤ, pos, negsuc, ◌-◌, ◌<◌, ◌≤◌, ◌^◌, suc, List, [], ◌∷◌, refl, arith, ap, sym, ◌∙◌, codes, Bool, true, false, cond, eqb, leb, subst, ltb, ◌&&◌, Option, Some, None}
 use Rattle.std.specs.Prelude.{FitsSigned}
 use Rattle.std.specs.Int.{w32, IsInRange}
 use Rattle.std.specs.Str.Parse.{IsNumeral}

@@ -1,5 +1,5 @@
 -- The spellings of lines: where their words part, that no line feed stands in them, and how long they are.
-use Rattle.std.proofs.Common.{◌≡◌, ℕ, ℤ, pos, negsuc, suc, subst, ◌+◌, ◌*◌, ◌/◌, ◌%◌, ◌<◌, ◌≤◌, ◌^◌, List, [], ◌∷◌, ◌++◌, length, refl, arith, rules, ap, sym, ◌∙◌, Bool, true, false, eqb, Some, None, Result, Ok, Err, IfOk, length-append}
+use Rattle.std.proofs.Common.{◌≡◌, ℕ, ℤ, pos, negsuc, suc, subst, ◌+◌, ◌*◌, ◌/◌, ◌%◌, ◌<◌, ◌≤◌, ◌^◌, List, [], ◌∷◌, ◌++◌, length, refl, arith, rules, codes, ap, sym, ◌∙◌, Bool, true, false, not, eqb, Some, length-append}
 use Rattle.std.specs.Prelude.{FitsSigned}
 use Rattle.std.specs.Fmt.{decimal, signed_decimal}
 use Rattle.std.specs.Int.{w32, IsInRange}
@@ -26,24 +26,22 @@ use Rattle.login_model.specs.declared.call.Call.{Call}
 use Rattle.login_model.specs.declared.call.Call.TheVariants as call
 use Rattle.login_model.specs.declared.event.Event.{Event}
 use Rattle.login_model.specs.declared.event.Event.TheVariants.{Connect, Disconnect, Call as Calls, Hardware as Happens, Tick, Stop}
-use Rattle.login_model.specs.Legal.{IsBuilt, IsBuiltCall}
+use Rattle.login_model.specs.Built.{is_built_call, is_built_hardware, is_built}
 use Rattle.login_model.specs.Texts.{IsText, texts}
-use Rattle.recording.specs.declared.line.LineFault.{LineFault}
-use Rattle.recording.specs.declared.line.LineFault.TheVariants.{NotBuilt}
 use Rattle.recording.specs.declared.line.Line.{Line}
 use Rattle.recording.specs.declared.line.Line.TheVariants.{Header, Guid, User, Conf, Action, Go, Event as EventLine, Link, In, Hangup, End}
 use Rattle.recording.specs.Text.{stands, hex_digit, spell_byte, spell_text, spell_flag}
-use Rattle.recording.specs.Hex.{spell_pair, spell_hex, is_hex_digit, is_guid}
+use Rattle.recording.specs.Hex.{spell_hex, is_hex_digit, is_guid}
 use Rattle.recording.specs.CallSpelling.{operation_word, device_words, property_words, call_words, FitsCall, FitsDevice}
 use Rattle.recording.specs.EventSpelling.{device_kind_word, key_word, request_word, hardware_words, event_words, FitsHardware, Fits, IsWrittenEvent}
-use Rattle.recording.specs.Bytes.{AreBytes}
+use Rattle.recording.specs.Bytes.{AreRaw}
 use Rattle.recording.specs.Lines.{fields, spell, IsLine, IsWritten, Spells}
-use Rattle.recording.specs.Unbuilt.{IsUnbuilt}
-use Rattle.recording.specs.Meaning.{meant, meant_event, is_built_line, is_built, built}
+use Rattle.recording.specs.Unbuilt.{has_unbuilt_word}
+use Rattle.recording.specs.Meaning.{meant, is_built_line, IsReadAs}
 use Rattle.recording.specs.Cut.{NoLineFeed}
 use Rattle.recording.specs.Readings.{line_of}
 use Rattle.recording.proofs.Texts.{both}
-use Rattle.recording.proofs.Built.{built_event, event_written, event_built}
+use Rattle.recording.proofs.Built.{meant_line, event_written, means_itself, line_word}
 use Rattle.recording.proofs.ReadLines.{LineIs, line_of_is, parts, line_of-parts, behind_conf, behind_action}
 
 -- no byte of a word is a space or below
@@ -148,6 +146,7 @@ property_AreWords : (x : PropertyName) → AreWords (property_words x)
 property_AreWords x = (spell_text_IsWord x.path, (spell_text_IsWord x.interface, (spell_text_IsWord x.name, tt)))
 
 call_AreWords : (c : Call) → FitsCall c → AreWords (call_words c)
+unfolding call_words
 call_AreWords (call.Create x) fits = (search rules, (number_IsWord x.uid.0 fits.0, (number_IsWord x.process fits.1, (spell_text_IsWord x.service, (spell_text_IsWord x.session_type, (spell_text_IsWord x.class, (spell_text_IsWord x.desktop, (spell_text_IsWord x.seat, (number_IsWord x.vt fits.2, (spell_text_IsWord x.tty, (spell_text_IsWord x.display, (spell_flag_IsWord x.remote, (spell_text_IsWord x.remote_user, (spell_text_IsWord x.remote_host, tt))))))))))))))
 call_AreWords (call.GetSession id) fits = (search rules, (spell_text_IsWord id, tt))
 call_AreWords (call.GetUser u) fits = (search rules, (number_IsWord u.0 fits, tt))
@@ -199,6 +198,7 @@ call_AreWords call.NoMethod fits = (search rules, tt)
 call_AreWords call.BadArguments fits = (search rules, tt)
 
 hardware_AreWords : (x : Hardware) → FitsHardware x → AreWords (hardware_words x)
+unfolding hardware_words
 hardware_AreWords (Add d kind seat) f = (search rules, (number_IsWord d.major f.0.0, (number_IsWord d.minor f.0.1, (device_kind_IsWord kind, (seat_IsWord seat f.1, tt)))))
 hardware_AreWords (Remove d) f = (search rules, device_AreWords d f)
 hardware_AreWords (Input d type code value) f =
@@ -210,6 +210,7 @@ hardware_AreWords (Exit id) f = (search rules, (spell_text_IsWord id, tt))
 hardware_AreWords JobDone f = search rules
 
 event_AreWords : (event : Event) → IsWrittenEvent event → AreWords (event_words event)
+unfolding event_words
 event_AreWords (Connect c u) f = (search rules, (number_IsWord c.0 f.1, (number_IsWord u.0 f.2, tt)))
 event_AreWords (Disconnect c) f = (search rules, (number_IsWord c.0 f.1, tt))
 event_AreWords (Calls r) f = (request_word_IsWord r.quiet, (number_IsWord r.who.0 f.1, (number_IsWord r.serial f.3, call_AreWords r.call f.4)))
@@ -235,6 +236,7 @@ split_words [] some h = absurd (omega (arith, some))
 split_words (w ∷ ws) some h = split_join w ws h.0 h.1
 
 hardware_some : (x : Hardware) → 0 < length (hardware_words x)
+unfolding hardware_words
 hardware_some (Add d kind seat) = omega arith
 hardware_some (Remove d) = omega arith
 hardware_some (Input d type code value) = omega arith
@@ -245,6 +247,7 @@ hardware_some (Exit id) = omega arith
 hardware_some JobDone = omega arith
 
 event_some : (e : Event) → 0 < length (event_words e)
+unfolding event_words
 event_some (Connect c u) = omega arith
 event_some (Disconnect c) = omega arith
 event_some (Calls r) = omega arith
@@ -254,6 +257,7 @@ event_some Stop = omega arith
 
 line_AreWords : (line : Line) → IsLine line → AreWords (fields line)
 line_AreWords (Header version) h = (search rules, (number_IsWord version (omega (arith, h)), tt))
+line_AreWords (Guid guid) h = (search rules, (guid_IsWord guid h, tt))
 line_AreWords (User u) h = (search rules, (number_IsWord u.uid.0 h.1, (number_IsWord u.gid h.2, (spell_text_IsWord u.name, tt))))
 line_AreWords Go h = search rules
 line_AreWords (EventLine e) h = event_AreWords e (event_written e h.fits)
@@ -284,6 +288,7 @@ line_of-text text line h e =
 -- a line that is built is written
 pub line_written : (line : Line) → IsLine line → IsWritten line
 line_written (Header version) h = h
+line_written (Guid guid) h = h
 line_written (User u) h = h
 line_written Go h = tt
 line_written (EventLine e) h = event_written e h.fits
@@ -317,6 +322,25 @@ no_feed_join (w ∷ v ∷ vs) h = no_feed_in w (32 ∷ join_with_byte 32 (v ∷ 
 -- a line's words have no line feed
 pub fields_no_feed : (line : Line) → IsLine line → NoLineFeed (join_with_byte 32 (fields line))
 fields_no_feed line h = no_feed_join (fields line) (line_AreWords line h)
+
+raw_no_feed : (text : List ℕ) → AreRaw text → NoLineFeed text
+raw_no_feed [] h = tt
+raw_no_feed (b ∷ bs) h = (h.0.1, raw_no_feed bs h.1)
+
+-- nor has the text of any line of the grammar
+pub written_no_feed : (line : Line) → IsWritten line → NoLineFeed (join_with_byte 32 (fields line))
+written_no_feed (Header version) h = no_feed_join (fields (Header version)) (line_AreWords (Header version) h)
+written_no_feed (Guid guid) h = no_feed_join (fields (Guid guid)) (line_AreWords (Guid guid) h)
+written_no_feed (User u) h = no_feed_join (fields (User u)) (line_AreWords (User u) h)
+written_no_feed (Conf []) h = no_feed_join (fields (Conf [])) (search rules)
+written_no_feed (Conf (b ∷ bs)) h = no_feed_in (codes "conf") (32 ∷ b ∷ bs) (search rules) (λ e. omega (arith, e), raw_no_feed (b ∷ bs) h)
+written_no_feed (Action text) h = no_feed_in (codes "action") (32 ∷ text) (search rules) (λ e. omega (arith, e), raw_no_feed text h.0)
+written_no_feed Go h = no_feed_join (fields Go) (line_AreWords Go h)
+written_no_feed (EventLine e) h = no_feed_join (event_words e) (event_AreWords e h)
+written_no_feed (Link c u) h = no_feed_join (fields (Link c u)) (search rules, (number_IsWord c.0 h.1, (number_IsWord u.0 h.2, tt)))
+written_no_feed (In c bytes) h = no_feed_join (fields (In c bytes)) (search rules, (number_IsWord c.0 h.1, (hex_IsWord bytes, tt)))
+written_no_feed (Hangup c) h = no_feed_join (fields (Hangup c)) (search rules, (number_IsWord c.0 h.1, tt))
+written_no_feed End h = no_feed_join (fields End) (line_AreWords End h)
 
 -- the bytes of words, with one byte after each
 abbrev size : List (List ℕ) → ℕ
@@ -355,38 +379,74 @@ request_word_short : (quiet : Bool) → length (request_word quiet) ≤ 4
 request_word_short true = omega arith
 request_word_short false = omega arith
 
-call_short : (c : Call) → IsBuiltCall c → FitsCall c → AllByRecursion (IsText 512) (texts c) → size (call_words c) ≤ 16000
-call_short (call.Create x) b f t =
-    let a = decimal_short x.uid.0 f.0 in
-    let o = decimal_short x.process f.1 in
-    let c = spell_text_short 512 x.service t.0 in
-    let d = spell_text_short 512 x.session_type t.1.0 in
-    let e = spell_text_short 512 x.class t.1.1.0 in
-    let g = spell_text_short 512 x.desktop t.1.1.1.0 in
-    let h = spell_text_short 512 x.seat t.1.1.1.1.0 in
-    let i = decimal_short x.vt f.2 in
-    let j = spell_text_short 512 x.tty t.1.1.1.1.1.0 in
-    let k = spell_text_short 512 x.display t.1.1.1.1.1.1.0 in
-    let l = spell_flag_short x.remote in
-    let m = spell_text_short 512 x.remote_user t.1.1.1.1.1.1.1.0 in
-    let n = spell_text_short 512 x.remote_host t.1.1.1.1.1.1.1.1.0 in
-    omega arith
-call_short (call.Control id force) b f t = let a = spell_text_short 512 id t.0 in let o = spell_flag_short force in omega arith
-call_short (call.Uncontrol id) b f t = let a = spell_text_short 512 id t.0 in omega arith
-call_short _ b f t = absurd b
+signed_short : (z : ℤ) → FitsSigned w32 z → length (signed_decimal z) ≤ 11
+signed_short (pos n) h = let a = decimal_short n (omega (arith, h.sfits)) in omega arith
+signed_short (negsuc n) h = let a = decimal_short (suc n) (omega (arith, h.sfits)) in omega arith
 
-event_short : (event : Event) → IsBuilt event → Fits event → size (event_words event) ≤ 16100
+moment_short : (n : ℕ) → n < 2 ^ 64 → length (decimal n) ≤ 20
+moment_short n small = length-decimal-le 20 n (omega arith) (omega arith) (omega (arith, small))
+
+call_short : (c : Call) → is_built_call c ≡ true → FitsCall c → AllByRecursion (IsText 512) (texts c) → size (call_words c) ≤ 16000
+unfolding call_words
+call_short (call.Create x) b f t = let a = decimal_short x.uid.0 f.0 in let d = decimal_short x.process f.1 in let e = spell_text_short 512 x.service t.0 in let g = spell_text_short 512 x.session_type t.1.0 in let h = spell_text_short 512 x.class t.1.1.0 in let i = spell_text_short 512 x.desktop t.1.1.1.0 in let j = spell_text_short 512 x.seat t.1.1.1.1.0 in let k = decimal_short x.vt f.2 in let l = spell_text_short 512 x.tty t.1.1.1.1.1.0 in let m = spell_text_short 512 x.display t.1.1.1.1.1.1.0 in let n = spell_flag_short x.remote in let o = spell_text_short 512 x.remote_user t.1.1.1.1.1.1.1.0 in let p = spell_text_short 512 x.remote_host t.1.1.1.1.1.1.1.1.0 in omega arith
+call_short (call.GetSession id) b f t = let a = spell_text_short 512 id t.0 in omega arith
+call_short (call.GetSeat id) b f t = let a = spell_text_short 512 id t.0 in omega arith
+call_short (call.Activate id) b f t = let a = spell_text_short 512 id t.0 in omega arith
+call_short (call.Lock id) b f t = let a = spell_text_short 512 id t.0 in omega arith
+call_short (call.Unlock id) b f t = let a = spell_text_short 512 id t.0 in omega arith
+call_short (call.Terminate id) b f t = let a = spell_text_short 512 id t.0 in omega arith
+call_short (call.TerminateSeat id) b f t = let a = spell_text_short 512 id t.0 in omega arith
+call_short (call.Uncontrol id) b f t = let a = spell_text_short 512 id t.0 in omega arith
+call_short (call.SwitchToNext id) b f t = let a = spell_text_short 512 id t.0 in omega arith
+call_short (call.SwitchToPrevious id) b f t = let a = spell_text_short 512 id t.0 in omega arith
+call_short (call.ActivateOnSeat id seat) b f t = let a = spell_text_short 512 id t.0 in let d = spell_text_short 512 seat t.1.0 in omega arith
+call_short (call.GetUser u) b f t = let a = decimal_short u.0 f in omega arith
+call_short (call.TerminateUser u) b f t = let a = decimal_short u.0 f in omega arith
+call_short (call.Close h) b f t = let a = decimal_short h.0 f in omega arith
+call_short (call.Kill id who signal) b f t = let a = spell_text_short 512 id t.0 in let d = spell_text_short 512 who t.1.0 in let e = signed_short signal f in omega arith
+call_short (call.SetLinger u on) b f t = let a = decimal_short u.0 f in let d = spell_flag_short on in omega arith
+call_short (call.SetIdle id on) b f t = let a = spell_text_short 512 id t.0 in let d = spell_flag_short on in omega arith
+call_short (call.SetLocked id on) b f t = let a = spell_text_short 512 id t.0 in let d = spell_flag_short on in omega arith
+call_short (call.Control id on) b f t = let a = spell_text_short 512 id t.0 in let d = spell_flag_short on in omega arith
+call_short (call.SwitchTo seat vt) b f t = let a = spell_text_short 512 seat t.0 in let d = decimal_short vt f in omega arith
+call_short (call.KillUser u signal) b f t = let a = decimal_short u.0 f.0 in let d = signed_short signal f.1 in omega arith
+call_short call.ListSessions b f t = omega arith
+call_short call.ListUsers b f t = omega arith
+call_short call.ListSeats b f t = omega arith
+call_short call.LockAll b f t = omega arith
+call_short call.UnlockAll b f t = omega arith
+call_short call.NoCall b f t = omega arith
+call_short call.NoObject b f t = omega arith
+call_short call.NoMethod b f t = omega arith
+call_short call.BadArguments b f t = omega arith
+call_short _ b f t = cc
+
+hardware_short : (x : Hardware) → is_built_hardware x ≡ true → FitsHardware x → size (hardware_words x) ≤ 16000
+unfolding hardware_words
+hardware_short (VtKey vt) b f = let a = decimal_short vt f in omega arith
+hardware_short (Exit id) b f = let a = spell_text_short 512 id f in omega arith
+hardware_short _ b f = cc
+
+event_short : (event : Event) → is_built event ≡ true → Fits event → size (event_words event) ≤ 16100
+unfolding event_words
 event_short (Connect c u) b f = let x = decimal_short c.0 f.1 in let y = decimal_short u.0 f.2 in omega arith
+event_short (Disconnect c) b f = let x = decimal_short c.0 f.1 in omega arith
 event_short (Calls r) b f =
     let x = request_word_short r.quiet in
     let y = decimal_short r.who.0 f.1 in
     let z = decimal_short r.serial f.3 in
-    let d = call_short r.call b.1 f.4 f.5 in
+    let d = call_short r.call b f.4 f.5 in
     omega arith
-event_short _ b f = absurd b
+event_short (Happens x) b f = let d = hardware_short x b f in omega (arith, d)
+event_short (Tick m) b f = let x = moment_short m.0 f in omega arith
+event_short Stop b f = omega arith
+
+guid_long : (guid : List ℕ) → eqb (length guid) 32 ≡ true → length guid ≡ 32
+guid_long guid e = grind (arith, nat_tests)
 
 fields_short : (line : Line) → IsLine line → size (fields line) ≤ 16100
 fields_short (Header version) h = let a = decimal_short version (omega (arith, h)) in omega arith
+fields_short (Guid guid) h = let a = guid_long guid (both _ _ h).0 in omega arith
 fields_short (User u) h =
     let a = decimal_short u.uid.0 h.1 in
     let b = decimal_short u.gid h.2 in
@@ -413,32 +473,61 @@ text_spells text line e short =
     let back = join_with_byte-slice_split 32 text in
     subst (λ (t : List ℕ). Spells line (t ++ 10 ∷ [])) back ((text_is text line e).spells (omega (arith, short, ap length back)))
 
-pub text_written : (text : List ℕ) (line : Line) → line_of (slice_split (λ b. eqb b 32) text) ≡ Some line → AreBytes text → IsWritten line
+pub text_written : (text : List ℕ) (line : Line) → line_of (slice_split (λ b. eqb b 32) text) ≡ Some line → AreRaw text → IsWritten line
 text_written text line e bytes =
     let back = join_with_byte-slice_split 32 text in
-    (text_is text line e).written (subst AreBytes (sym back) bytes) (ap (slice_split (λ b. eqb b 32)) back)
+    (text_is text line e).written (subst AreRaw (sym back) bytes) (ap (slice_split (λ b. eqb b 32)) back)
 
--- a written line that is built means itself, and is one of a recording
-pub built_line : (line : Line) → IsWritten line → is_built_line line ≡ true → (meant line ≡ line) × IsLine line
-built_line (Header version) w b = (refl, w)
-built_line (User u) w b = (refl, w)
-built_line Go w b = (refl, tt)
-built_line (EventLine e) w b =
-    let p = both (is_built e) (is_built (meant_event e)) b in
-    let t = built_event e w p.0 p.1 in
-    (ap EventLine t.0, t.1)
-built_line End w b = (refl, tt)
-built_line _ w b = cc
+-- what a written line that is built means is one of a recording
+pub line_meant : (line : Line) → IsWritten line → is_built_line line ≡ true → IsLine (meant line)
+line_meant (Header version) w b = w
+line_meant (Guid guid) w b = w
+line_meant (User u) w b = w
+line_meant Go w b = tt
+line_meant (EventLine e) w b = meant_line e w b
+line_meant End w b = tt
+line_meant _ w b = cc
 
-pub line_built : (line : Line) → IsLine line → built line ≡ Ok line
+-- a line of a recording means itself, and it is built
+pub line_means : (line : Line) → IsLine line → meant line ≡ line
+line_means (EventLine e) h = ap EventLine (means_itself e h.fits)
+line_means (Header version) h = refl
+line_means _ h = refl
+
+pub line_built : (line : Line) → IsLine line → is_built_line line ≡ true
 line_built (Header version) h = refl
+line_built (Guid guid) h = refl
 line_built (User u) h = refl
 line_built Go h = refl
-line_built (EventLine e) h = let t = event_built e h in rw (t.1, t.0) refl
+line_built (EventLine e) h = h.built
 line_built End h = refl
 line_built _ h = absurd h
 
--- a line that is built stands as its spelling alone
-pub spelled_so : (line : Line) (bytes : List ℕ) → Spells line bytes → IsLine line → bytes ≡ spell line
-spelled_so line bytes (Spells.plain l short) h = refl
-spelled_so line bytes Spells.empty h = absurd h
+not_not : (b : Bool) → not b ≡ false → b ≡ true
+not_not true e = refl
+not_not false e = cc
+
+is_not : (b : Bool) → not b ≡ true → b ≡ false
+is_not false e = refl
+is_not true e = cc
+
+-- a line whose words are built is built, and one of whose words one is not is not
+pub built_by_words : (line : Line) → has_unbuilt_word (fields line) ≡ false → is_built_line line ≡ true
+built_by_words line e = not_not (is_built_line line) (sym (line_word line) ∙ e)
+
+pub unbuilt_by_words : (line : Line) → has_unbuilt_word (fields line) ≡ true → is_built_line line ≡ false
+unbuilt_by_words line e = is_not (is_built_line line) (sym (line_word line) ∙ e)
+
+-- the spelling of a line of a recording is read as it
+pub line_reads : (line : Line) → IsLine line → IsReadAs (spell line) line
+line_reads line h = record {
+  written = line;
+  spells = Spells.plain line (spell_short line h);
+  fits = line_written line h;
+  built = line_word line ∙ ap not (line_built line h);
+  means = sym (line_means line h);
+}
+
+-- what is read is a line of a recording
+pub read_IsLine : (bytes : List ℕ) (line : Line) → IsReadAs bytes line → IsLine line
+read_IsLine bytes line r = subst IsLine (sym r.means) (line_meant r.written r.fits (built_by_words r.written r.built))

@@ -1,9 +1,28 @@
--- The words of an answer, in parts.
-use Rattle.std.specs.Prelude.{ℕ, List, [], ◌∷◌, codes}
+-- How an answer prints: its values in order.
+use Rattle.std.specs.Prelude.{ℕ, Option, Some, None, List, [], ◌∷◌, ◌++◌, map, codes}
+use Rattle.std.specs.List.{join_with_byte}
 use Rattle.std.specs.Fmt.{decimal}
 use Rattle.login_base.specs.SessionId.{session_text}
+use Rattle.login_model.specs.Paths.{session_path, seat_path, user_path, runtime_path}
 use Rattle.login_model.specs.declared.answer.Created.{Created}
-use Rattle.recording.specs.Print.{session_path, runtime_path, seat_text}
+use Rattle.login_model.specs.declared.answer.SessionRow.{SessionRow}
+use Rattle.login_model.specs.declared.answer.KnownUser.{KnownUser}
+use Rattle.login_model.specs.declared.answer.Answer.{Answer}
+use Rattle.login_model.specs.declared.answer.Answer.TheVariants as answer
+use Rattle.recording.specs.Text.{spell_text}
+
+-- an array of values
+unfoldable pub array : List (List ℕ) → List ℕ
+array values = 91 ∷ (join_with_byte 32 values ++ 93 ∷ [])
+
+-- a struct of values
+abbrev pub structure : List (List ℕ) → List ℕ
+structure values = 40 ∷ (join_with_byte 32 values ++ 41 ∷ [])
+
+-- a seat's name, or the empty text for none
+abbrev pub seat_text : Option (List ℕ) → List ℕ
+seat_text (Some name) = spell_text name
+seat_text None = spell_text []
 
 -- a session that was created, and where it is found
 abbrev pub found_words : Created → List (List ℕ)
@@ -12,3 +31,30 @@ found_words x = session_text x.session ∷ session_path x.session ∷ runtime_pa
 -- its handle, its user, its seat, its terminal, and that it is new
 abbrev pub value_words : Created → List (List ℕ)
 value_words x = decimal x.fifo.0 ∷ decimal x.uid.0 ∷ seat_text x.seat ∷ decimal x.vt ∷ codes "false" ∷ []
+
+-- whose a session of a list is, its seat, and where it is found
+abbrev pub row_words : SessionRow → List (List ℕ)
+row_words x = decimal x.uid.0 ∷ spell_text x.name ∷ seat_text x.seat ∷ session_path x.session ∷ []
+
+-- a session of a list
+abbrev pub session_value : SessionRow → List ℕ
+session_value x = structure (session_text x.session ∷ row_words x)
+
+-- a user of a list
+abbrev pub user_value : KnownUser → List ℕ
+user_value x = structure (decimal x.uid.0 ∷ spell_text x.name ∷ user_path x.uid ∷ [])
+
+-- a seat of a list
+abbrev pub seat_value : List ℕ → List ℕ
+seat_value seat = structure (spell_text seat ∷ seat_path seat ∷ [])
+
+-- the values of an answer
+unfoldable pub answer_words : Answer → List (List ℕ)
+answer_words answer.Nothing = []
+answer_words (answer.Created x) = found_words x ++ value_words x
+answer_words (answer.Session s) = session_path s ∷ []
+answer_words (answer.User u) = user_path u ∷ []
+answer_words (answer.Seat seat) = seat_path seat ∷ []
+answer_words (answer.Sessions rows) = array (map session_value rows) ∷ []
+answer_words (answer.Users rows) = array (map user_value rows) ∷ []
+answer_words (answer.Seats names) = array (map seat_value names) ∷ []

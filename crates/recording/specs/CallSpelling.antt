@@ -1,5 +1,5 @@
 -- How calls are spelled.
-use Rattle.std.specs.Prelude.{ℕ, ◌<◌, ◌^◌, FitsSigned, List, [], ◌∷◌, ◌++◌, codes}
+use Rattle.std.specs.Prelude.{ℕ, ◌<◌, ◌^◌, FitsSigned, List, [], ◌∷◌, codes}
 use Rattle.std.specs.Fmt.{decimal, signed_decimal}
 use Rattle.std.specs.Int.{w32}
 use Rattle.login_base.specs.declared.ids.DevNo.{DevNo}
@@ -28,7 +28,7 @@ abbrev pub property_words : PropertyName → List (List ℕ)
 property_words x = spell_text x.path ∷ spell_text x.interface ∷ spell_text x.name ∷ []
 
 -- the words of a call
-abbrev pub call_words : Call → List (List ℕ)
+unfoldable pub call_words : Call → List (List ℕ)
 call_words (call.Create x) =
     codes "create" ∷ decimal x.uid.0 ∷ decimal x.process ∷ spell_text x.service ∷ spell_text x.session_type ∷ spell_text x.class
     ∷ spell_text x.desktop ∷ spell_text x.seat ∷ decimal x.vt ∷ spell_text x.tty ∷ spell_text x.display ∷ spell_flag x.remote

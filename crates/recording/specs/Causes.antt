@@ -1,7 +1,8 @@
--- Why a line is refused: it is too long; else it has no line feed; else its words are looked at from
--- left to right, and the first that does not fit gives its cause.
+-- Why a line is refused: it is too long; else it has no line feed at its end; else more stands behind its
+-- first line feed; else its words are looked at from left to right, and the first that does not fit gives
+-- its cause.
 use Rattle.std.specs.Prelude.{ℕ, ◌==◌, ◌-◌, not, nat_le, Bool, true, false, if◌then◌else◌, Option, Some, None, List, [], ◌∷◌, length, take, codes}
-use Rattle.std.specs.List.{slice_split, last_or}
+use Rattle.std.specs.List.{slice_split, last_or, list_any}
 use Rattle.std.specs.Option.{option_or}
 use Rattle.std.specs.Str.{bytes_eq}
 use Rattle.login_base.specs.Number.{number_of}
@@ -12,7 +13,7 @@ use Rattle.recording.specs.declared.shape.WordKind.{WordKind}
 use Rattle.recording.specs.declared.shape.WordKind.TheVariants.{Number, Positive, Small, Signed, Moment, Flag, Text, UserName, SessionId, SeatName, Hex, Guid, Version, DeviceKind, Key, Operation, Anything}
 use Rattle.recording.specs.Words.{positive_of, small_of, signed_of, moment_of, flag_of, text_of, hex_of, device_kind_of, key_of, operation_of}
 use Rattle.recording.specs.Hex.{is_guid}
-use Rattle.recording.specs.Shapes.{Shape, behind_in, call_shapes, line_shapes}
+use Rattle.recording.specs.Shapes.{behind_in, call_shapes, line_shapes}
 
 -- this cause, where the word says nothing
 abbrev pub unless : {T : Type 0} → Option T → LineFault → Option LineFault
@@ -95,4 +96,5 @@ unfoldable pub line_fault : List ℕ → Option LineFault
 line_fault bytes =
     if not (nat_le (length (text_of_line bytes)) 16384) then Some TooLong
     else if not (is_line_feed (last_or None bytes)) then Some Ended
+    else if list_any (λ b. b == 10) (text_of_line bytes) then Some ExtraWord
     else words_fault (slice_split (λ b. b == 32) (text_of_line bytes))

@@ -1,5 +1,5 @@
 -- How events are spelled.
-use Rattle.std.specs.Prelude.{ℕ, ◌≡◌, ◌<◌, ◌^◌, FitsSigned, Bool, true, false, if◌then◌else◌, List, [], ◌∷◌, ◌++◌, codes}
+use Rattle.std.specs.Prelude.{ℕ, ◌≡◌, ◌<◌, ◌^◌, FitsSigned, Bool, true, if◌then◌else◌, List, [], ◌∷◌, ◌++◌, codes}
 use Rattle.std.specs.Fmt.{decimal, signed_decimal}
 use Rattle.std.specs.Int.{w32}
 use Rattle.std.specs.List.{AllByRecursion}
@@ -31,7 +31,7 @@ abbrev pub request_word : Bool → List ℕ
 request_word quiet = if quiet then codes "send" else codes "call"
 
 -- the words of a hardware event; a seat stands as it is
-abbrev pub hardware_words : Hardware → List (List ℕ)
+unfoldable pub hardware_words : Hardware → List (List ℕ)
 hardware_words (Add d kind seat) = codes "add" ∷ (device_words d ++ device_kind_word kind ∷ seat ∷ [])
 hardware_words (Remove d) = codes "remove" ∷ device_words d
 hardware_words (Input d type code value) = codes "input" ∷ (device_words d ++ decimal type ∷ decimal code ∷ signed_decimal value ∷ [])
@@ -42,7 +42,7 @@ hardware_words (Exit id) = codes "exit" ∷ spell_text id ∷ []
 hardware_words JobDone = codes "jobdone" ∷ []
 
 -- the words of an event
-abbrev pub event_words : Event → List (List ℕ)
+unfoldable pub event_words : Event → List (List ℕ)
 event_words (event.Connect c u) = codes "connect" ∷ decimal c.0 ∷ decimal u.0 ∷ []
 event_words (event.Disconnect c) = codes "disconnect" ∷ decimal c.0 ∷ []
 event_words (event.Call r) = request_word r.quiet ∷ decimal r.who.0 ∷ decimal r.serial ∷ call_words r.call

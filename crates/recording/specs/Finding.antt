@@ -1,7 +1,7 @@
 -- What the finder of a line's fault answers.
-use Rattle.std.specs.Prelude.{ℕ, ◌≡◌, Option, Some, None, Result, Ok, Err}
+use Rattle.std.specs.Prelude.{◌≡◌, Option, Some, Result}
 use Rattle.recording.specs.declared.line.LineFault.{LineFault}
-use Rattle.recording.specs.declared.line.LineFault.TheVariants.{UnknownWord, BadNumber, BadHex, MissingWord, ExtraWord, TooLong, BadName, Ended, NotBuilt, NoMemory}
+use Rattle.recording.specs.declared.line.LineFault.TheVariants.{NoMemory}
 use Rattle.recording.specs.declared.word.Misread.{Misread}
 use Rattle.recording.specs.Words.{Gives}
 

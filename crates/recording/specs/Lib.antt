@@ -10,6 +10,7 @@ pub mod Words
 pub mod CallSpelling
 pub mod EventSpelling
 pub mod Lines
+pub mod Unbuilt
 pub mod CallWords
 pub mod Meaning
 pub mod CallReadings
@@ -19,8 +20,8 @@ pub mod Shapes
 pub mod Causes
 pub mod Finding
 pub mod Grammar
-pub mod Unbuilt
 pub mod MarkWords
-pub mod Print
+pub mod RuleWords
 pub mod AnswerWords
+pub mod Print
 pub mod Spaced

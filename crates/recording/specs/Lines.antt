@@ -1,15 +1,15 @@
 -- The lines of a recording, and how they are spelled.
-use Rattle.std.specs.Prelude.{ℕ, ◌≡◌, ◌≢◌, ◌<◌, ◌≤◌, ◌^◌, ◌==◌, true, List, [], ◌∷◌, ◌++◌, length, codes}
-use Rattle.std.specs.List.{join_with_byte, slice_split, AllByRecursion}
+use Rattle.std.specs.Prelude.{ℕ, ◌≡◌, ◌<◌, ◌≤◌, ◌^◌, ◌==◌, true, List, [], ◌∷◌, ◌++◌, length, codes}
+use Rattle.std.specs.List.{join_with_byte, slice_split}
 use Rattle.std.specs.Fmt.{decimal}
 use Rattle.login_model.specs.declared.event.Event.{Event}
-use Rattle.login_model.specs.Legal.{IsBuilt}
+use Rattle.login_model.specs.Built.{is_built}
 use Rattle.login_model.specs.Texts.{IsText}
 use Rattle.recording.specs.declared.line.Line.{Line}
 use Rattle.recording.specs.declared.line.Line.TheVariants.{Header, Guid, User, Conf, Action, Go, Event as EventLine, Link, In, Hangup, End}
 use Rattle.recording.specs.Text.{spell_text}
 use Rattle.recording.specs.Hex.{spell_hex, is_guid}
-use Rattle.recording.specs.Bytes.{AreBytes}
+use Rattle.recording.specs.Bytes.{AreBytes, AreRaw}
 pub use Rattle.recording.specs.CallSpelling.{call_words, FitsCall}
 pub use Rattle.recording.specs.EventSpelling.{request_word, event_words, Fits, IsWrittenEvent}
 
@@ -40,25 +40,26 @@ spell line = join_with_byte 32 (fields line) ++ 10 ∷ []
 -- an event that a line of a recording can have
 pub record IsEventLine (e : Event) : Type 0 where
   pub fits : Fits e
-  pub built : IsBuilt e
+  pub built : is_built e ≡ true
 
 -- the values of a line that is built are within their types and bounds
 abbrev pub IsLine : Line → Type 0
 IsLine (Header version) = version ≡ 1
+IsLine (Guid guid) = is_guid guid ≡ true
 IsLine (User u) = (0 < u.uid.0) × (u.uid.0 < 2 ^ 32) × (u.gid < 2 ^ 32) × IsText 255 u.name
 IsLine Go = Unit {0}
 IsLine (EventLine e) = IsEventLine e
 IsLine End = Unit {0}
 IsLine _ = ⊥
 
--- the values of a line as it is written are within their types and bounds, whether it is built or not;
--- the words of an action are four, whatever they are
+-- the values of a line as it is written are within their types and bounds, whether it is built or not; a raw
+-- line has no line feed, and the words of an action are four, whatever they are
 abbrev pub IsWritten : Line → Type 0
 IsWritten (Header version) = version ≡ 1
 IsWritten (Guid guid) = is_guid guid ≡ true
 IsWritten (User u) = (0 < u.uid.0) × (u.uid.0 < 2 ^ 32) × (u.gid < 2 ^ 32) × IsText 255 u.name
-IsWritten (Conf text) = AreBytes text
-IsWritten (Action text) = AreBytes text × (length (slice_split (λ b. b == 32) text) ≡ 4)
+IsWritten (Conf text) = AreRaw text
+IsWritten (Action text) = AreRaw text × (length (slice_split (λ b. b == 32) text) ≡ 4)
 IsWritten Go = Unit {0}
 IsWritten (EventLine e) = IsWrittenEvent e
 IsWritten (Link c u) = (0 < c.0) × (c.0 < 2 ^ 32) × (u.0 < 2 ^ 32)

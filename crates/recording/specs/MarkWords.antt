@@ -41,7 +41,7 @@ use Rattle.recording.specs.EventSpelling.{device_kind_word}
 abbrev pub device_word : DevNo → List ℕ
 device_word d = decimal d.major ++ 58 ∷ decimal d.minor
 
-abbrev pub key_words : Key → List (List ℕ)
+unfoldable pub key_words : Key → List (List ℕ)
 key_words (key.Conn c) = codes "conn" ∷ decimal c.0 ∷ []
 key_words (key.Sess s) = codes "sess" ∷ session_text s ∷ []
 key_words (key.Idle s) = codes "idle" ∷ session_text s ∷ []
@@ -97,7 +97,7 @@ class_word class.Greeter = codes "greeter"
 class_word class.LockScreen = codes "lock-screen"
 class_word class.Background = codes "background"
 
-abbrev pub session_words_at : Phase → Session → List (List ℕ)
+unfoldable pub session_words_at : Phase → Session → List (List ℕ)
 session_words_at Open x = codes "open" ∷ decimal x.uid.0 ∷ or_dash x.seat ∷ decimal x.vt ∷ type_word x.session_type ∷ class_word x.class ∷ []
 session_words_at Closing x = codes "closing" ∷ []
 session_words_at Gone x = codes "gone" ∷ []
@@ -106,7 +106,7 @@ abbrev pub whom_word : KillWhom → List ℕ
 whom_word kill.Leader = codes "leader"
 whom_word kill.All = codes "all"
 
-abbrev pub owner_words : Owner → List (List ℕ)
+unfoldable pub owner_words : Owner → List (List ℕ)
 owner_words (owner.Device c s d) = codes "device" ∷ decimal c.0 ∷ session_text s ∷ device_word d ∷ []
 owner_words (owner.Fifo c s) = codes "fifo" ∷ decimal c.0 ∷ session_text s ∷ []
 owner_words (owner.Lock c l) = codes "lock" ∷ decimal c.0 ∷ decimal l.0 ∷ []
@@ -147,7 +147,7 @@ progress_words Idle = codes "idle" ∷ []
 progress_words (Waiting kind since skip) = codes "waiting" ∷ operation_word kind ∷ decimal since.0 ∷ skip_word skip ∷ []
 progress_words (Running kind) = codes "running" ∷ operation_word kind ∷ []
 
-abbrev pub fact_words : Key → Fact → List (List ℕ)
+unfoldable pub fact_words : Key → Fact → List (List ℕ)
 fact_words k fact.Absent = absent_word k ∷ []
 fact_words k (fact.Connected u) = decimal u.0 ∷ []
 fact_words k (fact.Session x) = session_words_at x.phase x
@@ -171,7 +171,7 @@ pause_word pause.Pause = codes "pause"
 pause_word pause.Force = codes "force"
 pause_word pause.Gone = codes "gone"
 
-abbrev pub notice_words : Notice → List (List ℕ)
+unfoldable pub notice_words : Notice → List (List ℕ)
 notice_words (notice.Pause s d kind) = codes "pause" ∷ session_text s ∷ device_word d ∷ pause_word kind ∷ []
 notice_words (notice.Resume s d h) = codes "resume" ∷ session_text s ∷ device_word d ∷ decimal h.0 ∷ []
 notice_words (notice.Lock s) = codes "lock" ∷ session_text s ∷ []
@@ -190,6 +190,6 @@ abbrev pub whom_words : Whom → List (List ℕ)
 whom_words (One c) = codes "say" ∷ decimal c.0 ∷ []
 whom_words All = codes "all" ∷ []
 
-abbrev pub mark_words : Mark → List (List ℕ)
+unfoldable pub mark_words : Mark → List (List ℕ)
 mark_words (Set k x) = codes "set" ∷ (key_words k ++ fact_words k x)
 mark_words (Say w n) = whom_words w ++ notice_words n

@@ -1,16 +1,18 @@
--- What a written line means, and which lines are built.
-use Rattle.std.specs.Prelude.{ℕ, ◌&&◌, not, nat_lt, nat_le, Bool, true, false, if◌then◌else◌, Result, Ok, Err, length, codes}
+-- What a written line means.
+use Rattle.std.specs.Prelude.{ℕ, ◌≡◌, not, nat_le, Bool, true, false, if◌then◌else◌, Result, Ok, Err, List, length}
 use Rattle.std.specs.List.{list_all}
-use Rattle.std.specs.Str.{bytes_eq}
 use Rattle.login_model.specs.declared.call.Call.{Call}
-use Rattle.login_model.specs.declared.call.Call.TheVariants.{Create, Control, Uncontrol, NoObject, BadArguments}
+use Rattle.login_model.specs.declared.call.Call.TheVariants.{NoObject, BadArguments}
 use Rattle.login_model.specs.declared.event.Event.{Event}
 use Rattle.login_model.specs.declared.event.Event.TheVariants as event
+use Rattle.login_model.specs.Built.{is_built}
 use Rattle.login_model.specs.Texts.{texts, has_object}
 use Rattle.recording.specs.declared.line.Line.{Line}
 use Rattle.recording.specs.declared.line.LineFault.{LineFault}
 use Rattle.recording.specs.declared.line.LineFault.TheVariants.{NotBuilt}
 use Rattle.recording.specs.declared.line.Line.TheVariants as line
+use Rattle.recording.specs.Lines.{fields, Spells, IsWritten}
+use Rattle.recording.specs.Unbuilt.{has_unbuilt_word}
 
 -- whether each text of a call has at most 512 bytes
 abbrev pub are_short : Call → Bool
@@ -37,29 +39,24 @@ abbrev pub meant : Line → Line
 meant (line.Event e) = line.Event (meant_event e)
 meant l = l
 
-abbrev pub is_built_call : Call → Bool
-is_built_call (Create x) =
-    bytes_eq x.session_type (codes "tty") && bytes_eq x.class (codes "user") && bytes_eq x.seat (codes "seat0")
-    && nat_lt 0 x.vt && nat_lt x.vt 64 && not x.remote
-is_built_call (Control id force) = not force
-is_built_call (Uncontrol id) = true
-is_built_call _ = false
-
--- whether an event is one of this stage
-abbrev pub is_built : Event → Bool
-is_built (event.Connect c u) = true
-is_built (event.Call r) = not r.quiet && is_built_call r.call
-is_built _ = false
-
--- whether a line is one of this stage: its own event or word is built, and what it means
+-- whether a line is built, by its kind; that this goes by its words is proved
 abbrev pub is_built_line : Line → Bool
-is_built_line (line.Header version) = true
-is_built_line (line.User u) = true
-is_built_line line.Go = true
-is_built_line (line.Event e) = is_built e && is_built (meant_event e)
-is_built_line line.End = true
-is_built_line _ = false
+is_built_line (line.Conf text) = false
+is_built_line (line.Action text) = false
+is_built_line (line.Event e) = is_built e
+is_built_line (line.Link c u) = false
+is_built_line (line.In c bytes) = false
+is_built_line (line.Hangup c) = false
+is_built_line _ = true
 
 -- what a written line means, if it is built
 abbrev pub built : Line → Result Line LineFault
 built l = if is_built_line l then Ok (meant l) else Err NotBuilt
+
+-- the bytes are a line of the grammar whose words are built, and this is what it means
+pub record IsReadAs (bytes : List ℕ) (line : Line) : Type 0 where
+  pub written : Line
+  pub spells : Spells written bytes
+  pub fits : IsWritten written
+  pub built : has_unbuilt_word (fields written) ≡ false
+  pub means : line ≡ meant written

@@ -37,6 +37,7 @@ fn push_place(text: &mut LineText, x: &Creation) -> Result<(), NoMemory>
 }
 
 /// Adds the words of a creation.
+#[tactic(auto, unfolding(crate::specs::CallSpelling::call_words))]
 fn push_creation(text: &mut LineText, x: &Creation) -> Result<(), NoMemory>
     ensures { OnOk result (text.new ≡ text.old ++ spaced (call_words (Call.Create x.now))) }
 {
@@ -85,6 +86,7 @@ fn push_property(text: &mut LineText, word: &[u8], x: &PropertyName) -> Result<(
 }
 
 /// Adds the words of an inhibitor lock.
+#[tactic(auto, unfolding(crate::specs::CallSpelling::call_words))]
 fn push_inhibition(text: &mut LineText, x: &Inhibition) -> Result<(), NoMemory>
     ensures { OnOk result (text.new ≡ text.old ++ spaced (call_words (Call.Inhibit x.now))) }
 {
@@ -163,6 +165,7 @@ fn push_signal(text: &mut LineText, word: &[u8], n: u32, signal: i32) -> Result<
     text.signed(signal)
 }
 
+#[tactic(auto, unfolding(crate::specs::CallSpelling::call_words))]
 fn push_linger(text: &mut LineText, uid: Uid, on: bool) -> Result<(), NoMemory>
     ensures { OnOk result (text.new ≡ text.old ++ spaced (call_words (Call.SetLinger uid on))) }
 {
@@ -171,6 +174,7 @@ fn push_linger(text: &mut LineText, uid: Uid, on: bool) -> Result<(), NoMemory>
     text.flag(on)
 }
 
+#[tactic(auto, unfolding(crate::specs::CallSpelling::call_words))]
 fn push_kill(text: &mut LineText, id: &Word, who: &Word, signal: i32) -> Result<(), NoMemory>
     ensures { OnOk result (text.new ≡ text.old ++ spaced (call_words (Call.Kill id.now who.now signal))) }
 {
@@ -179,6 +183,7 @@ fn push_kill(text: &mut LineText, id: &Word, who: &Word, signal: i32) -> Result<
 }
 
 /// Adds the words of a call.
+#[tactic(auto, unfolding(crate::specs::CallSpelling::call_words))]
 pub(crate) fn push_call(text: &mut LineText, call: &Call) -> Result<(), NoMemory>
     ensures { OnOk result (text.new ≡ text.old ++ spaced (call_words call.now)) }
 {

@@ -39,6 +39,7 @@ fn push_key(text: &mut LineText, key: HardKey) -> Result<(), NoMemory>
     }
 }
 
+#[tactic(auto, unfolding(crate::specs::EventSpelling::hardware_words))]
 fn push_hardware(text: &mut LineText, hardware: &Hardware) -> Result<(), NoMemory>
     ensures { OnOk result (text.new ≡ text.old ++ spaced (hardware_words hardware.now)) }
 {
@@ -81,6 +82,7 @@ fn push_hardware(text: &mut LineText, hardware: &Hardware) -> Result<(), NoMemor
 }
 
 /// Adds the words of an event.
+#[tactic(auto, unfolding(crate::specs::EventSpelling::event_words))]
 pub(crate) fn push_event(text: &mut LineText, event: &Event) -> Result<(), NoMemory>
     ensures { OnOk result (text.new ≡ text.old ++ spaced (event_words event.now)) }
 {

@@ -64,6 +64,7 @@ fn push_seat(text: &mut LineText, seat: Option<SeatName>) -> Result<(), NoMemory
     }
 }
 
+#[tactic(auto, unfolding(crate::specs::MarkWords::session_words_at))]
 fn push_session_fact(text: &mut LineText, x: &Session) -> Result<(), NoMemory>
     ensures { OnOk result (text.new ≡ text.old ++ spaced (session_words_at x.now.phase x.now)) }
 {
@@ -90,6 +91,7 @@ fn push_kill_whom(text: &mut LineText, whom: KillWhom) -> Result<(), NoMemory>
     }
 }
 
+#[tactic(auto, unfolding(crate::specs::MarkWords::owner_words))]
 fn push_owner(text: &mut LineText, owner: &Owner) -> Result<(), NoMemory>
     ensures { OnOk result (text.new ≡ text.old ++ spaced (owner_words owner.now)) }
 {
@@ -204,6 +206,7 @@ fn push_progress(text: &mut LineText, operation: &Operation) -> Result<(), NoMem
 }
 
 /// Adds the words of a key's fact.
+#[tactic(auto, unfolding(crate::specs::MarkWords::fact_words))]
 pub(crate) fn push_fact(text: &mut LineText, key: &Key, fact: &Fact) -> Result<(), NoMemory>
     ensures { OnOk result (text.new ≡ text.old ++ spaced (fact_words key.now fact.now)) }
 {

@@ -70,6 +70,7 @@ fn push_pair(
 }
 
 /// Adds the words of a key.
+#[tactic(auto, unfolding(crate::specs::MarkWords::key_words))]
 pub(crate) fn push_key(text: &mut LineText, key: &Key) -> Result<(), NoMemory>
     ensures { OnOk result (text.new ≡ text.old ++ spaced (key_words key.now)) }
 {

@@ -1,6 +1,7 @@
 //! Recordings and transcripts: how their lines are read from a source, spelled, read and printed.
 #![tactic(auto)]
 
+mod answer_text;
 mod arguments;
 mod call;
 mod call_text;
@@ -23,6 +24,6 @@ mod verdict_text;
 mod word;
 
 pub use entry::{WriteEnd, entry_text, write_entry};
-pub use law::one_grammar;
+pub use law::{one_grammar, spelled_again};
 pub use line::{Line, LineFault, read_line};
 pub use line_reader::{LineReader, Next};

@@ -1,22 +1,22 @@
 // The lines of a recording.
 
 ghost use Rattle.std.specs.Prelude.{◌≡◌, ◌≢◌, ◌⊎◌, Ok, Err, ◌++◌, ◌∷◌, [], map, IfOk, ◌==◌, Some, None};
-ghost use Rattle.std.specs.List.{slice_split, join_with_byte};
-ghost use Rattle.recording.specs.Lines.{spell, IsLine};
+ghost use Rattle.std.specs.List.{slice_split, join_with_byte, list_any};
+ghost use Rattle.recording.specs.Lines.{IsLine};
 ghost use Rattle.recording.specs.Unbuilt.{IsUnbuilt};
 ghost use Rattle.recording.specs.Causes.{line_fault, words_fault};
 ghost use Rattle.recording.specs.Finding.{Finds};
-ghost use Rattle.recording.specs.Meaning.{built};
+ghost use Rattle.recording.specs.Meaning.{is_built_line, built, IsReadAs};
 ghost use Rattle.recording.specs.Words.{Gives};
 ghost use Rattle.recording.specs.CallReadings.{alone};
 ghost use Rattle.recording.specs.Readings.{header_of, guid_line_of, user_of, conf_of, action_of, link_of, in_of, line_of};
 
 use crate::cause::words_fault;
 use crate::event::{read_connection, read_event};
-use crate::meaning::{is_built, meant};
+use crate::meaning::meant;
 use crate::word::{Misread, guid, hex, is_word, number, positive, text};
 use login_base::{Bytes, ConnId, Uid, Word};
-use login_model::{Event, UserRow};
+use login_model::{Event, UserRow, is_built};
 use std::alloc::{AllocError, Global};
 
 /// The most bytes of a user's name.
@@ -62,7 +62,7 @@ pub enum LineFault {
     BadHex,
     /// The line ends where a word must stand.
     MissingWord,
-    /// A word stands behind the last one.
+    /// A word stands behind the last one, or bytes behind the line feed.
     ExtraWord,
     /// There are more than 16384 bytes before the line feed.
     TooLong,
@@ -70,7 +70,7 @@ pub enum LineFault {
     BadName,
     /// There is no line feed.
     Ended,
-    /// The line is one of the grammar, but not of this stage.
+    /// The line is one of the grammar, but its word is not built: an event's, a preamble's or a call's.
     NotBuilt,
     NoMemory,
 }
@@ -209,27 +209,24 @@ fn read_words(alloc: Global, all: &[&[u8]]) -> Result<Line, Misread>
     }
 }
 
-/// The line of an event of this stage.
+/// What a written event means, if it is built.
 fn built_event(event: Event) -> Result<Line, LineFault>
     ensures { result ≡ built (Line.Event event) }
 {
-    if !is_built(&event) {
-        return Err(LineFault::NotBuilt);
-    }
-    let event = meant(event);
     if is_built(&event) {
-        Ok(Line::Event(event))
+        Ok(Line::Event(meant(event)))
     } else {
         Err(LineFault::NotBuilt)
     }
 }
 
-/// What a written line means, if it is of this stage.
+/// What a written line means, if it is built.
 fn built(line: Line) -> Result<Line, LineFault>
     ensures { result ≡ built line }
 {
     match line {
         Line::Header(version) => Ok(Line::Header(version)),
+        Line::Guid(guid) => Ok(Line::Guid(guid)),
         Line::User(user) => Ok(Line::User(user)),
         Line::Go => Ok(Line::Go),
         Line::End => Ok(Line::End),
@@ -256,11 +253,19 @@ fn refusal(alloc: Global, words: &[&[u8]]) -> LineFault
     }
 }
 
+/// Whether a text goes on behind a line feed.
+fn has_feed(text: &[u8]) -> bool
+    ensures { result ≡ list_any (λ b. b == 10) text.now }
+{
+    text.iter().any(|b| *b == b'\n')
+}
+
 /// Reads a line, with its line feed if it has one: the bytes through the first line feed, or all that
 /// there are, if there is none.
 pub fn read_line(alloc: Global, bytes: &[u8]) -> Result<Line, LineFault>
-    ensures found { IfOk result (λ line. (bytes.now ≡ spell line) × IsLine line) }
-    ensures read { (line : Line) → IsLine line → bytes.now ≡ spell line → (result ≡ Ok line) ⊎ (result ≡ Err LineFault.NoMemory) }
+    ensures found { IfOk result (λ line. IsReadAs bytes.now line) }
+    ensures fits { IfOk result (λ line. IsLine line) }
+    ensures read { (line : Line) → IsReadAs bytes.now line → (result ≡ Ok line) ⊎ (result ≡ Err LineFault.NoMemory) }
     ensures not_built { result ≡ Err LineFault.NotBuilt → IsUnbuilt bytes.now }
     ensures unbuilt { IsUnbuilt bytes.now → (result ≡ Err LineFault.NotBuilt) ⊎ (result ≡ Err LineFault.NoMemory) }
     ensures cause { (fault : LineFault) → result ≡ Err fault → fault ≢ LineFault.NoMemory → fault ≢ LineFault.NotBuilt → line_fault bytes.now ≡ Some fault }
@@ -274,6 +279,9 @@ pub fn read_line(alloc: Global, bytes: &[u8]) -> Result<Line, LineFault>
     }
     if !is_whole {
         return Err(LineFault::Ended);
+    }
+    if has_feed(text) {
+        return Err(LineFault::ExtraWord);
     }
     let Ok(words) = words(alloc, text) else {
         return Err(LineFault::NoMemory);

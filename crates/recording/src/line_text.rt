@@ -150,14 +150,22 @@ impl LineText {
         Ok(())
     }
 
+    /// Adds a text as one word.
+    pub(crate) fn value(&mut self, text: &[u8]) -> Result<(), NoMemory>
+        ensures { OnOk result (self.new ≡ self.old ++ spell_text text.now) }
+    {
+        if text.is_empty() {
+            self.push(b"%")
+        } else {
+            self.spelled(text)
+        }
+    }
+
     /// Adds a space and a text as one word.
     pub(crate) fn text(&mut self, text: &[u8]) -> Result<(), NoMemory>
         ensures { OnOk result (self.new ≡ self.old ++ 32 ∷ spell_text text.now) }
     {
         self.push(b" ")?;
-        if text.is_empty() {
-            return self.push(b"%");
-        }
-        self.spelled(text)
+        self.value(text)
     }
 }

@@ -24,6 +24,7 @@ fn push_whom(text: &mut LineText, whom: Whom) -> Result<(), NoMemory>
 }
 
 /// Adds the words of a mark.
+#[tactic(auto, unfolding(crate::specs::MarkWords::mark_words))]
 pub(crate) fn push_mark(text: &mut LineText, mark: &Mark) -> Result<(), NoMemory>
     ensures { OnOk result (text.new ≡ text.old ++ spaced (mark_words mark.now)) }
 {

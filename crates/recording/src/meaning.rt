@@ -1,10 +1,9 @@
-// What a written event means, and which events are built.
+// What a written event means.
 
 ghost use Rattle.std.specs.Prelude.{◌≡◌, true, nat_le, length};
 ghost use Rattle.login_model.specs.Texts.{has_object};
-ghost use Rattle.recording.specs.Meaning.{are_short, meant_call, meant_event, has_object_event, is_built_call, is_built};
+ghost use Rattle.recording.specs.Meaning.{are_short, meant_call, meant_event, has_object_event};
 
-use crate::word::is_word;
 use login_base::Word;
 use login_model::{Call, Event, Request};
 
@@ -102,34 +101,5 @@ pub(crate) fn meant(event: Event) -> Event
             })
         }
         other => other,
-    }
-}
-
-fn is_built_call(call: &Call) -> bool
-    ensures { result ≡ is_built_call call.now }
-{
-    match call {
-        Call::Create(x) => {
-            is_word(x.session_type.as_slice(), b"tty")
-                && is_word(x.class.as_slice(), b"user")
-                && is_word(x.seat.as_slice(), b"seat0")
-                && 0 < x.vt
-                && x.vt < 64
-                && !x.remote
-        }
-        Call::Control(_, force) => !*force,
-        Call::Uncontrol(_) => true,
-        _ => false,
-    }
-}
-
-/// Whether an event is one of this stage.
-pub(crate) fn is_built(event: &Event) -> bool
-    ensures { result ≡ is_built event.now }
-{
-    match event {
-        Event::Connect(..) => true,
-        Event::Call(request) => !request.quiet && is_built_call(&request.call),
-        _ => false,
     }
 }

@@ -30,6 +30,7 @@ fn push_pause_kind(text: &mut LineText, kind: PauseKind) -> Result<(), NoMemory>
 }
 
 /// Adds the words of a notice.
+#[tactic(auto, unfolding(crate::specs::MarkWords::notice_words))]
 pub(crate) fn push_notice(text: &mut LineText, notice: &Notice) -> Result<(), NoMemory>
     ensures { OnOk result (text.new ≡ text.old ++ spaced (notice_words notice.now)) }
 {

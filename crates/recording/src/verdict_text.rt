@@ -1,99 +1,79 @@
 // How verdicts are printed: the rule that was broken, or the answer.
 
-ghost use Rattle.std.specs.Prelude.{◌≡◌, ◌++◌, ◌∷◌, OnOk};
-ghost use Rattle.recording.specs.Print.{rule_words, session_path, runtime_path, seat_text, answer_words, verdict_words};
-ghost use Rattle.recording.specs.AnswerWords.{found_words, value_words};
+ghost use Rattle.std.specs.Prelude.{◌≡◌, ◌++◌, OnOk};
+ghost use Rattle.recording.specs.Print.{verdict_words};
+ghost use Rattle.recording.specs.RuleWords.{rule_label, limit_words, detail_words, rule_words};
 ghost use Rattle.recording.specs.Spaced.{spaced};
 
+use crate::answer_text::push_answer;
 use crate::line_text::LineText;
-use login_base::{NoMemory, SeatName, SessId, Uid};
-use login_model::{Answer, Created, Limit, Rule, Verdict};
+use login_base::NoMemory;
+use login_model::{Answer, Limit, Rule, Verdict};
+
+/// The number and the name of a rule.
+#[tactic(auto, unfolding(crate::specs::RuleWords::rule_label))]
+fn rule_label(rule: Rule) -> &'static [u8]
+    ensures { result.now ≡ rule_label rule }
+{
+    match rule {
+        Rule::UnknownObject => b"P01 unknown-object",
+        Rule::UnknownMethod => b"P02 unknown-method",
+        Rule::BadArguments => b"P03 bad-arguments",
+        Rule::NoSuchSession => b"P04 no-such-session",
+        Rule::NoSuchUser => b"P05 no-such-user",
+        Rule::NoSuchSeat => b"P06 no-such-seat",
+        Rule::NoSuchHandle => b"P07 no-such-handle",
+        Rule::NotRoot => b"P09 not-root",
+        Rule::NotOwner => b"P10 not-owner",
+        Rule::ActionRefused(_) => b"P11 action-refused",
+        Rule::ActionChallenge(_) => b"P12 action-challenge",
+        Rule::SessionClosing => b"P13 session-closing",
+        Rule::NoSeat => b"P14 no-seat",
+        Rule::SessionNotOnSeat => b"P15 session-not-on-seat",
+        Rule::Controlled(_) => b"P17 controlled",
+        Rule::NotInControl => b"P18 not-in-control",
+        Rule::VtBusy(_) => b"P21 vt-busy",
+        Rule::Limit(_) => b"P26 limit",
+        Rule::NotYours => b"P28 not-yours",
+        Rule::ClockBackwards(_) => b"P33 clock-backwards",
+        Rule::Nobody => b"P35 nobody",
+    }
+}
+
+/// Adds the name and the number of a limit.
+fn push_limit(text: &mut LineText, limit: Limit) -> Result<(), NoMemory>
+    ensures { OnOk result (text.new ≡ text.old ++ spaced (limit_words limit)) }
+{
+    match limit {
+        Limit::Links => text.push(b" links 64"),
+        Limit::Sessions(most) => {
+            text.word(b"SessionsMax")?;
+            text.number(most)
+        }
+    }
+}
+
+/// Adds what a rule names.
+fn push_detail(text: &mut LineText, rule: Rule) -> Result<(), NoMemory>
+    ensures { OnOk result (text.new ≡ text.old ++ spaced (detail_words rule)) }
+{
+    match rule {
+        Rule::ActionRefused(action) => text.word(action.name()),
+        Rule::ActionChallenge(action) => text.word(action.name()),
+        Rule::Controlled(who) => text.number(who.0),
+        Rule::VtBusy(session) => text.session(session),
+        Rule::Limit(limit) => push_limit(text, limit),
+        Rule::ClockBackwards(moment) => text.moment(moment.0),
+        _ => Ok(()),
+    }
+}
 
 /// Adds the number and the name of a rule, and what it names.
 fn push_rule(text: &mut LineText, rule: Rule) -> Result<(), NoMemory>
     ensures { OnOk result (text.new ≡ text.old ++ spaced (rule_words rule)) }
 {
-    match rule {
-        Rule::NoSuchSession => text.push(b" P04 no-such-session"),
-        Rule::NoSuchUser => text.push(b" P05 no-such-user"),
-        Rule::NotRoot => text.push(b" P09 not-root"),
-        Rule::NotOwner => text.push(b" P10 not-owner"),
-        Rule::Controlled(who) => {
-            text.push(b" P17 controlled")?;
-            text.number(who.0)
-        }
-        Rule::NotInControl => text.push(b" P18 not-in-control"),
-        Rule::VtBusy(session) => {
-            text.push(b" P21 vt-busy")?;
-            text.session(session)
-        }
-        Rule::Limit(Limit::Links) => text.push(b" P26 limit links 64"),
-        Rule::Nobody => text.push(b" P35 nobody"),
-    }
-}
-
-/// Adds a seat's name as a text, empty for none.
-fn push_seat_text(text: &mut LineText, seat: Option<SeatName>) -> Result<(), NoMemory>
-    ensures { OnOk result (text.new ≡ text.old ++ 32 ∷ seat_text seat) }
-{
-    match seat {
-        Some(name) => text.text(name.as_slice()),
-        None => text.text(b""),
-    }
-}
-
-/// Adds the path of a session's object.
-fn push_path(text: &mut LineText, session: SessId) -> Result<(), NoMemory>
-    ensures { OnOk result (text.new ≡ text.old ++ 32 ∷ session_path session) }
-{
-    text.push(b" /org/freedesktop/login1/session/c")?;
-    text.digits(session.0)
-}
-
-/// Adds the path of a user's runtime directory.
-fn push_directory(text: &mut LineText, uid: Uid) -> Result<(), NoMemory>
-    ensures { OnOk result (text.new ≡ text.old ++ 32 ∷ runtime_path uid) }
-{
-    text.push(b" /run/user/")?;
-    text.digits(uid.0)
-}
-
-/// Adds the session that was created, and where it is found.
-fn push_paths(text: &mut LineText, x: &Created) -> Result<(), NoMemory>
-    ensures { OnOk result (text.new ≡ text.old ++ spaced (found_words x.now)) }
-{
-    text.session(x.session)?;
-    push_path(text, x.session)?;
-    push_directory(text, x.uid)
-}
-
-/// Adds the handle, the user, the seat, its terminal, and that the session is new.
-fn push_values(text: &mut LineText, x: &Created) -> Result<(), NoMemory>
-    ensures { OnOk result (text.new ≡ text.old ++ spaced (value_words x.now)) }
-{
-    text.number(x.fifo.0)?;
-    text.number(x.uid.0)?;
-    push_seat_text(text, x.seat)?;
-    text.number(x.vt)?;
-    text.flag(false)
-}
-
-/// Adds what CreateSession answers.
-fn push_created(text: &mut LineText, x: &Created) -> Result<(), NoMemory>
-    ensures { OnOk result (text.new ≡ text.old ++ spaced (answer_words (Answer.Created x.now))) }
-{
-    push_paths(text, x)?;
-    push_values(text, x)
-}
-
-/// Adds the values of an answer.
-fn push_answer(text: &mut LineText, answer: &Answer) -> Result<(), NoMemory>
-    ensures { OnOk result (text.new ≡ text.old ++ spaced (answer_words answer.now)) }
-{
-    match answer {
-        Answer::Nothing => Ok(()),
-        Answer::Created(x) => push_created(text, x),
-    }
+    text.word(rule_label(rule))?;
+    push_detail(text, rule)
 }
 
 /// Adds the words of a verdict with its answer.
@@ -115,3 +95,6 @@ pub(crate) fn push_verdict(
         }
     }
 }
+
+#[cfg(test)]
+mod tests;

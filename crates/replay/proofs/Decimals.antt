@@ -14,3 +14,6 @@ pub ruleset of_digits = (length_long, length_one, decimal_step, decimal_digit)
 
 pub short_decimal : (n : ℕ) → n < 2 ^ 32 → length (decimal n) ≤ 10
 short_decimal n h = length-decimal-le 10 n (omega arith) (omega arith) (omega arith)
+
+pub long_decimal : (n : ℕ) → n < 2 ^ 64 → length (decimal n) ≤ 20
+long_decimal n h = length-decimal-le 20 n (omega arith) (omega arith) (omega arith)

@@ -1,40 +1,22 @@
--- A list of events has at most one legal journal.
-use Rattle.std.proofs.Common.{◌≡◌, ◌+◌, List, [], ◌∷◌, ◌++◌, length, map, refl, arith, ap, sym, ◌∙◌, subst, append_assoc, append-nil}
+-- How legal journals go on.
+use Rattle.std.proofs.Common.{◌≡◌, List, [], ◌∷◌, ◌++◌, map, refl, ap, sym, subst, ◌∙◌, append_assoc, append-nil, None}
 use Rattle.login_model.specs.declared.setup.Setup.{Setup}
 use Rattle.login_model.specs.declared.event.Event.{Event}
-use Rattle.login_model.specs.declared.mark.Mark.{Mark}
 use Rattle.login_model.specs.declared.mark.Entry.{Entry}
-use Rattle.login_model.specs.Trail.{Trail, after}
+use Rattle.login_model.specs.Full.{full}
+use Rattle.login_model.specs.Legal.{IsLegalEntry, IsLegalAfter, answered, stepped, trail_of}
 use Rattle.login_model.specs.Policy.{verdict}
-use Rattle.login_model.specs.Legal.{IsLegalEntry, IsLegalAfter, trail_of}
-
-length-after : (t : Trail) (ms : List Mark) → length (after t ms) ≡ length t + length ms
-length-after t [] = omega arith
-length-after t (m ∷ ms) = omega (arith, length-after (m ∷ t) ms)
-
-after_same : (t u : Trail) (ms ns : List Mark) → length ms ≡ length ns → after t ms ≡ after u ns → (t ≡ u) × (ms ≡ ns)
-after_same t u [] [] l e = (e, refl)
-after_same t u [] (n ∷ ns) l e = absurd (omega (arith, l))
-after_same t u (m ∷ ms) [] l e = absurd (omega (arith, l))
-after_same t u (m ∷ ms) (n ∷ ns) l e =
-    let h = after_same (m ∷ t) (n ∷ u) ms ns (omega (arith, l)) e in
-    let tops : m ∷ t ≡ n ∷ u = h.0 in
-    let rests : ms ≡ ns = h.1 in
-    (cc, cc)
-
--- marks are known by what they leave
-pub after_injective : (t : Trail) (ms ns : List Mark) → after t ms ≡ after t ns → ms ≡ ns
-after_injective t ms ns e =
-    let lengths : length ms ≡ length ns = omega (arith, length-after t ms, length-after t ns, ap length e) in
-    (after_same t t ms ns lengths e).1
+use Rattle.login_model.proofs.JournalLaws.{one-marks}
+use Rattle.replay.specs.Recording.{HasRoomAfter, HasRoom}
 
 -- an event makes one entry
-pub one_entry : (U : Setup) (before : List Entry) (e f : Entry) → IsLegalEntry U before e → IsLegalEntry U before f → e.event ≡ f.event → e ≡ f
+one_entry : (U : Setup) (before : List Entry) (e f : Entry) → IsLegalEntry U before e → IsLegalEntry U before f → e.event ≡ f.event → e ≡ f
 one_entry U before e f h k same =
-    let verdicts : e.verdict ≡ f.verdict = h.verdict_is ∙ (ap (λ (x : Event). verdict U (trail_of before) x) same ∙ sym k.verdict_is) in
-    let answers : e.answer ≡ f.answer = h.answer_is ∙ (rw (verdicts, same) (sym k.answer_is)) in
-    let trails : after (trail_of before) e.marks ≡ after (trail_of before) f.marks = h.marks_are ∙ (rw (verdicts, same) (sym k.marks_are)) in
-    let marks : e.marks ≡ f.marks = after_injective (trail_of before) e.marks f.marks trails in
+    let t = trail_of before in
+    let verdicts : e.verdict ≡ f.verdict = h.verdict_is ∙ (ap (verdict U t) same ∙ sym k.verdict_is) in
+    let answers : e.answer ≡ f.answer = h.answer_is ∙ ((λ i. answered U (verdicts i) (same i) t) ∙ sym k.answer_is) in
+    let trails : stepped U e.verdict e.event t ≡ stepped U f.verdict f.event t = λ i. stepped U (verdicts i) (same i) t in
+    let marks : e.marks ≡ f.marks = one-marks t e.marks f.marks (h.marks_are ∙ (trails ∙ sym k.marks_are)) in
     λ i. record { event = same i; verdict = verdicts i; answer = answers i; marks = marks i }
 
 -- what goes on behind the same entries
@@ -61,3 +43,18 @@ journal_goes_on U before (a ∷ all) (e ∷ es) more h k same =
 pub legal_at : (U : Setup) (before es : List Entry) (e : Entry) (rest : List Entry) → IsLegalAfter U before (es ++ (e ∷ rest)) → IsLegalEntry U (before ++ es) e
 legal_at U before [] e rest h = rw append-nil h.0
 legal_at U before (x ∷ es) e rest h = subst (λ (b : List Entry). IsLegalEntry U b e) (append_assoc before (x ∷ []) es) (legal_at U (before ++ x ∷ []) es e rest h.1)
+
+-- and its event found room
+pub room_at : (U : Setup) (before es : List Entry) (e : Entry) (rest : List Entry) → HasRoomAfter U before (es ++ (e ∷ rest)) → full U (before ++ es) e.event ≡ None
+room_at U before [] e rest h = rw append-nil h.0
+room_at U before (x ∷ es) e rest h = subst (λ (b : List Entry). full U b e.event ≡ None) (append_assoc before (x ∷ []) es) (room_at U (before ++ x ∷ []) es e rest h.1)
+
+room_more_after : (U : Setup) (before es : List Entry) (e : Entry) → HasRoomAfter U before es → full U (before ++ es) e.event ≡ None → HasRoomAfter U before (es ++ e ∷ [])
+room_more_after U before [] e h r = (subst (λ (b : List Entry). full U b e.event ≡ None) (append-nil before) r, tt)
+room_more_after U before (x ∷ es) e h r =
+    let there : full U ((before ++ x ∷ []) ++ es) e.event ≡ None = rw append_assoc r in
+    (h.0, room_more_after U (before ++ x ∷ []) es e h.1 there)
+
+-- one more entry, whose event found room
+pub room_more : (U : Setup) (es : List Entry) (e : Entry) (event : Event) → HasRoom U es → e.event ≡ event → full U es event ≡ None → HasRoom U (es ++ e ∷ [])
+room_more U es e event h same r = room_more_after U [] es e h (rw same r)

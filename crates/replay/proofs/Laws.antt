@@ -1,24 +1,27 @@
 -- Laws of refusals.
-use Rattle.std.proofs.Common.{◌≡◌, ℕ, ◌+◌, ◌<◌, ◌≤◌, List, [], length, take, map, refl, arith, ap, sym, ◌∙◌, append-nil, length-take, Option, Some, None}
+use Rattle.std.proofs.Common.{◌≡◌, ℕ, ◌+◌, ◌<◌, ◌≤◌, List, length, take, refl, arith, subst, length-take, Option, Some, None}
 use Rattle.std.specs.Option.{IfSome}
-use Rattle.std.proofs.lemmas.List.{take-take, length-map}
-use Rattle.recording.specs.Lines.{spell}
+use Rattle.std.proofs.lemmas.List.{take-take}
 use Rattle.recording.specs.Cut.{cut}
-use Rattle.replay.specs.Recording.{spelling, recording}
+use Rattle.replay.specs.Written.{AreReadAs}
+use Rattle.replay.specs.Recording.{recording}
 use Rattle.replay.specs.Front.{lines_of}
 use Rattle.replay.specs.Refused.{Begins, OneRefusal}
 use Rattle.replay.specs.Outcome.{RefusedAt, IsRecordingText}
 use Rattle.replay.specs.declared.cause.Cause.{Cause}
-use Rattle.replay.proofs.Recordings.{AreLines, recording_lines}
-use Rattle.replay.proofs.Refusals.{cut_spelling}
+use Rattle.replay.proofs.Written.{read_take, read_length}
 
 begins_less : (text : List ℕ) (m n : ℕ) → m ≤ n → Begins text n → Begins text m
-begins_less text m n le b = record {
-  lines = b.lines;
-  recorded = b.recorded;
-  same = sym (take-take m n (cut text) le) ∙ (ap (take m) b.same ∙ take-take m n (map spell b.lines) le);
-  within = omega (arith, b.within, length-take m (cut text), length-take n (cut text));
-}
+begins_less text m n le b =
+    let a : take m (take n (cut text)) ≡ take m (cut text) = take-take m n (cut text) le in
+    let c : take m (take n b.lines) ≡ take m b.lines = take-take m n b.lines le in
+    let both : AreReadAs (take m (take n (cut text))) (take m (take n b.lines)) = read_take m (take n (cut text)) (take n b.lines) b.read in
+    record {
+      lines = b.lines;
+      recorded = b.recorded;
+      read = subst (λ (x : List (List ℕ)). AreReadAs x (take m b.lines)) a (subst (AreReadAs (take m (take n (cut text)))) c both);
+      within = omega (arith, b.within, length-take m (cut text), length-take n (cut text));
+    }
 
 pub one_refusal : OneRefusal
 one_refusal text m n a b =
@@ -29,14 +32,12 @@ one_refusal text m n a b =
 -- a recording is refused nowhere
 pub recording_begins : (text : List ℕ) (n : ℕ) → IsRecordingText text → Begins text n
 recording_begins text n r =
-    let lines = recording r.users r.journal in
-    let valid : AreLines lines = recording_lines r.users r.journal r.play in
-    let whole : cut text ≡ map spell lines = ap cut (r.spelled ∙ sym (append-nil (spelling lines))) ∙ (cut_spelling lines [] valid ∙ append-nil (map spell lines)) in
+    let lines = recording r.preamble r.journal in
     record {
       lines = lines;
-      recorded = record { users = r.users; journal = r.journal; play = r.play; is = refl };
-      same = ap (take n) whole;
-      within = omega (arith, length-take n (cut text), ap length whole, length-map lines spell, r.within);
+      recorded = record { preamble = r.preamble; journal = r.journal; play = r.play; is = refl };
+      read = read_take n (cut text) lines r.read;
+      within = omega (arith, length-take n (cut text), read_length (cut text) lines r.read, r.within);
     }
 
 -- so a text with a refused line is none

@@ -1,5 +1,6 @@
+pub mod Written
 pub mod Journals
-pub mod UserRows
+pub mod Preambles
 pub mod Recordings
 pub mod Refusals
 pub mod Reading
@@ -7,6 +8,8 @@ pub mod Reasons
 pub mod Ends
 pub mod Setups
 pub mod Finishes
+pub mod Placed
 pub mod Events
 pub mod Decimals
+pub mod SpelledLines
 pub mod Laws

@@ -1,11 +1,11 @@
 -- What the reader of lines answers, as what comes next of a recording.
-use Rattle.std.proofs.Common.{append_assoc, sym, subst, ◌≡◌, ℕ, List, [], ◌++◌, length, take, refl, arith, ap, ◌∙◌, Option, Some, None, Result, Ok, Err, ◌⊎◌, inl, inr}
+use Rattle.std.proofs.Common.{append_assoc, append-nil, sym, subst, ◌≡◌, ℕ, List, [], ◌∷◌, ◌++◌, length, take, refl, arith, ap, ◌∙◌, Option, Some, None, Result, Ok, Err, ◌⊎◌, inl, inr}
 use Rattle.std.specs.Option.{option_map, IfSome}
 use Rattle.std.proofs.lemmas.List.{take_all}
 use Rattle.recording.specs.declared.line.Line.{Line}
 use Rattle.recording.specs.declared.line_reader.Next.TheVariants as next
 use Rattle.recording.specs.Cut.{first_line}
-use Rattle.recording.specs.Lines.{spell, IsLine}
+use Rattle.recording.specs.Meaning.{IsReadAs}
 use Rattle.recording.specs.Reading.{Reading, left_to}
 use Rattle.recording.specs.Next.{NextIs}
 use Rattle.replay.specs.Ahead.{IsNoLine, Torn, Partly}
@@ -17,7 +17,8 @@ use Rattle.recording.specs.declared.line.LineFault.TheVariants as fault
 use Rattle.recording.specs.Causes.{line_fault}
 use Rattle.recording.specs.Unbuilt.{IsUnbuilt}
 use Rattle.recording.proofs.LongLines.{fault_of_front, unbuilt_of_front}
-use Rattle.recording.proofs.Spellings.{spell_short}
+use Rattle.replay.specs.Written.{WereRead}
+use Rattle.replay.proofs.Written.{read_feed}
 
 -- what the reader answers is what was left to it
 abbrev pub Came : Option (List ℕ) → Reading → Option (List ℕ) → Type 0
@@ -40,11 +41,25 @@ pub line_came : (before left : Option (List ℕ)) (new : Reading) → Came befor
 line_came before None new came = rw came tt
 line_came before (Some r) new came = rw came (record { part = new.line ++ new.held; rest = r; split = sym (append_assoc new.line new.held r); left_is = refl })
 
-pub no_line_came : (before : Option (List ℕ)) (new : Reading) (cause : Cause) → NextIs before new next.Line → ((l : Line) → IsLine l → new.line ≡ spell l → ⊥) → IfSome before (IsOwnCause cause) → IfSome before (λ text. IsNoLine cause text)
+-- a line that was read is one that was left
+pub read_came : (before left : Option (List ℕ)) (new : Reading) (l : Line) → Came before new left → IsReadAs new.line l → WereRead before (l ∷ []) (left_to new left)
+read_came before left new l came is = record {
+  written = new.line ∷ [];
+  are = (is, tt);
+  split = subst (λ (t : List ℕ). before ≡ option_map (λ rest. t ++ rest) (left_to new left)) (sym (append-nil new.line)) came;
+}
+
+-- a first line that is read as something is read whole
+whole_read : (text line : List ℕ) (l : Line) → line ≡ take 16385 (first_line text) → IsReadAs (first_line text) l → IsReadAs line l
+whole_read text line l is r =
+    let short = (read_feed (first_line text) l r).short in
+    subst (λ (t : List ℕ). IsReadAs t l) (sym (is ∙ take_all 16385 (first_line text) short)) r
+
+pub no_line_came : (before : Option (List ℕ)) (new : Reading) (cause : Cause) → NextIs before new next.Line → ((l : Line) → IsReadAs new.line l → ⊥) → IfSome before (IsOwnCause cause) → IfSome before (λ text. IsNoLine cause text)
 no_line_came None new cause is none own = tt
 no_line_came (Some text) new cause is none own = record {
   some = λ e. let k : new.line ≡ [] = is.1 ∙ ap (λ (x : List ℕ). take 16385 (first_line x)) e in omega (arith, is.0, ap length k);
-  none = λ l f e. none l f (is.1 ∙ (ap (take 16385) e ∙ take_all 16385 (spell l) (spell_short l f)));
+  none = λ l r. none l (whole_read text new.line l is.1 r);
   own = own;
 }
 

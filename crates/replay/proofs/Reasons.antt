@@ -57,7 +57,7 @@ reason front rest NotBuilt h = Reason.unbuilt front rest h
 
 -- a line that is misplaced, or not built, has no fault of its own
 not_misplaced : (front : Front) (rest : List ℕ) (f : LineFault) → line_fault (first_line rest) ≡ Some f → IsMisplaced front rest → ⊥
-not_misplaced front rest f e m = built_faultless (first_line rest) f e m.line m.is_line m.spelled
+not_misplaced front rest f e m = built_faultless (first_line rest) f e m.line m.read
 
 not_unbuilt : (rest : List ℕ) (f : LineFault) → line_fault (first_line rest) ≡ Some f → IsUnbuilt (first_line rest) → ⊥
 not_unbuilt rest f e u = unbuilt_faultless (first_line rest) f e u
@@ -71,9 +71,9 @@ one_reason front rest c d (Reason.own _ _ _ f e a) (Reason.misplaced _ _ m) = ab
 one_reason front rest c d (Reason.own _ _ _ f e a) (Reason.unbuilt _ _ u) = absurd (not_unbuilt rest f e u)
 one_reason front rest c d (Reason.misplaced _ _ m) (Reason.own _ _ _ f e a) = absurd (not_misplaced front rest f e m)
 one_reason front rest c d (Reason.misplaced _ _ m) (Reason.misplaced _ _ n) = refl
-one_reason front rest c d (Reason.misplaced _ _ m) (Reason.unbuilt _ _ u) = absurd (built_or_not (first_line rest) m.line m.is_line m.spelled u)
+one_reason front rest c d (Reason.misplaced _ _ m) (Reason.unbuilt _ _ u) = absurd (built_or_not (first_line rest) m.line m.read u)
 one_reason front rest c d (Reason.unbuilt _ _ u) (Reason.own _ _ _ f e a) = absurd (not_unbuilt rest f e u)
-one_reason front rest c d (Reason.unbuilt _ _ u) (Reason.misplaced _ _ m) = absurd (built_or_not (first_line rest) m.line m.is_line m.spelled u)
+one_reason front rest c d (Reason.unbuilt _ _ u) (Reason.misplaced _ _ m) = absurd (built_or_not (first_line rest) m.line m.read u)
 one_reason front rest c d (Reason.unbuilt _ _ u) (Reason.unbuilt _ _ v) = refl
 
 pub one_cause : OneCause

@@ -1,24 +1,28 @@
 -- How the reading of a preamble goes on and ends.
-use Rattle.std.proofs.Common.{◌≡◌, ℕ, ◌+◌, ◌<◌, List, [], ◌∷◌, ◌++◌, length, map, refl, arith, ap, sym, ◌∙◌, subst, append-nil, Option, Some, None}
-use Rattle.std.specs.Option.{option_map, IfSome}
-use Rattle.std.proofs.lemmas.List.{map-append}
+use Rattle.std.proofs.Common.{◌≡◌, ◌≤◌, ℕ, ◌+◌, ◌<◌, List, [], ◌∷◌, ◌++◌, length, length-append, refl, arith, ap, sym, ◌∙◌, subst, Option, Some, None}
+use Rattle.std.specs.Option.{IfSome}
 use Rattle.login_edge.specs.Gained.{Gains-nothing, Gains-whole}
 use Rattle.login_model.specs.declared.setup.UserRow.{UserRow}
+use Rattle.login_model.specs.declared.setup.Setup.{Setup}
+use Rattle.login_model.specs.Conf.{default_conf}
+use Rattle.login_model.specs.Table.{default_table}
+use Rattle.login_model.specs.Setups.{IsNewUser}
 use Rattle.recording.specs.declared.line.Line.{Line}
 use Rattle.recording.specs.declared.line.Line.TheVariants.{Header, Guid, User, Conf, Action, Go, Event, Link, In, Hangup, End}
-use Rattle.recording.specs.Lines.{spell, IsLine}
-use Rattle.replay.specs.Users.{AreUsers, IsNewUser}
-use Rattle.replay.specs.Recording.{spelling, most_lines}
-use Rattle.replay.specs.Front.{fresh, takes_at, lines_of}
+use Rattle.recording.specs.Lines.{IsLine}
+use Rattle.replay.specs.Written.{WereRead}
+use Rattle.replay.specs.PreambleLines.{guid_in, users_in, guid_or_default, setup_of, MayFollow, IsPreamble}
+use Rattle.replay.specs.Recording.{most_lines}
+use Rattle.replay.specs.Front.{fresh, lines_of, takes_at}
 use Rattle.replay.specs.Ahead.{Torn, Partly}
 use Rattle.replay.specs.Outcome.{RefusedAt, Broken, Fronted, IsRefusal}
 use Rattle.replay.specs.declared.cause.Cause.{Cause}
-use Rattle.replay.specs.Preamble.{SetupGives}
-use Rattle.replay.specs.declared.preamble.SetupEnd.{SetupEnd}
-use Rattle.replay.specs.declared.preamble.SetupEnd.TheVariants as setup
-use Rattle.replay.proofs.UserRows.{users_push}
+use Rattle.replay.specs.declared.preamble.Preamble.{Preamble}
+use Rattle.replay.specs.Preamble.{SaySo, WasSetUp}
+use Rattle.replay.proofs.Written.{read_on, nothing_read}
+use Rattle.replay.proofs.Preambles.{preamble_more, guid_guid, users_guid, guid_user, users_user, few_lines}
 use Rattle.replay.proofs.Refusals.{Stops}
-use Rattle.replay.proofs.Ends.{Reached, in_front, under, ends_refused, ends_broken, ends_front, fresh_front, fresh_is_front, users_front, users_is_front, users_lines}
+use Rattle.replay.proofs.Ends.{Reached, ends_refused, ends_broken, ends_front, fresh_front, fresh_is_front, headed_front, headed_is_front}
 
 abbrev Out : Type 0
 Out = Option (List ℕ)
@@ -27,43 +31,94 @@ each_out : (o : Option (List ℕ)) (P : List ℕ → Out → Type 0) → ((out :
 each_out None P h = tt
 each_out (Some x) P h = λ out. h out
 
--- one more user
-pub user_taken : (us : List UserRow) (u : UserRow) (l : Line) (new : List UserRow) → AreUsers us → IsLine l → l ≡ User u → IsNewUser u.uid.0 us × (length us < 1024)
-    → new ≡ us ++ u ∷ [] → AreUsers new × (map User new ≡ map User us ++ l ∷ [])
-user_taken us u l new h line is next e =
-    rw (e, is) (users_push us u h (subst IsLine is line) next.0 next.1, simp map-append)
+-- what the lines of a preamble say so far, behind the header
+pub record Said (p : Preamble) (number : ℕ) (before left : Option (List ℕ)) : Type 0 where
+  pub lines : List Line
+  pub is_preamble : IsPreamble lines
+  pub say_so : SaySo lines p
+  pub count : number ≡ length lines + 1
+  pub read : WereRead before lines left
 
-abbrev header_then : List ℕ → List ℕ
-header_then text = spelling (Header 1 ∷ []) ++ text
+-- nothing was said yet
+pub said_nothing : (p : Preamble) (before : Option (List ℕ)) → p.guid ≡ None → p.users ≡ [] → Said p 1 before before
+said_nothing p before g u = record { lines = []; is_preamble = tt; say_so = record { guid = g; users = u }; count = refl; read = nothing_read before }
 
--- after the header and these users
-abbrev pub AfterUsers : List UserRow → Option (List ℕ) → Option (List ℕ) → Type 0
-AfterUsers us before left = before ≡ option_map (λ rest. spelling (map User us) ++ rest) left
+-- and one line more
+pub said_more : (p q : Preamble) (number : ℕ) (before left after : Option (List ℕ)) (l : Line) → (s : Said p number before left) → WereRead left (l ∷ []) after
+    → ((ls : List Line) → SaySo ls p → SaySo (ls ++ l ∷ []) q × MayFollow ls l) → IsLine l → Said q (number + 1) before after
+said_more p q number before left after l s r takes is =
+    let t = takes s.lines s.say_so in
+    record {
+      lines = s.lines ++ l ∷ [];
+      is_preamble = preamble_more s.lines l s.is_preamble is t.1;
+      say_so = t.0;
+      count = omega (arith, s.count, length-append s.lines (l ∷ []));
+      read = read_on before s.lines left (l ∷ []) after s.read r;
+    }
 
-pub users_refused : (us : List UserRow) (before left : Option (List ℕ)) (number : ℕ) (cause : Cause) → AreUsers us → AfterUsers us before left → number ≡ length us + 1
-    → IfSome left (Stops (users_front us)) → IfSome left (IsRefusal cause (users_front us)) → IfSome before (λ text. (out : Out) → RefusedAt (number + 1) cause (spelling (Header 1 ∷ []) ++ text) out out)
-users_refused us before left number cause h read c stop why = each_out before (λ text out. RefusedAt (number + 1) cause (header_then text) out out) (λ out.
-    under (λ text. RefusedAt (number + 1) cause text out out) header_then before
-    (ends_refused (users_front us) (option_map header_then before) left out out (number + 1) cause (users_is_front us h)
-    (in_front (Header 1 ∷ []) (map User us) before left read) (omega (arith, c, h.most)) stop why (omega (arith, c, users_lines us)) (Gains-nothing out)))
+few_said : (p : Preamble) (number : ℕ) (before left : Option (List ℕ)) → Said p number before left → number ≤ 1026
+few_said p number before left s = omega (arith, s.count, few_lines s.lines s.is_preamble)
 
-pub users_broken : (us : List UserRow) (before left now : Option (List ℕ)) → AreUsers us → AfterUsers us before left
-    → IfSome left (λ text. Torn text now) → IfSome before (λ text. (out : Out) → Broken (spelling (Header 1 ∷ []) ++ text) now out out)
-users_broken us before left now h read torn = each_out before (λ text out. Broken (header_then text) now out out) (λ out.
-    under (λ text. Broken text now out out) header_then before
-    (ends_broken (users_front us) (option_map header_then before) left now out out (users_is_front us h)
-    (in_front (Header 1 ∷ []) (map User us) before left read) torn (Gains-nothing out)))
+pub no_more_said : (p : Preamble) (number : ℕ) (before left : Option (List ℕ)) → Said p number before left → number ≡ 1027 → ⊥
+no_more_said p number before left s e = omega (arith, e, few_said p number before left s)
 
-pub users_fronted : (us : List UserRow) (before left now : Option (List ℕ)) → AreUsers us → AfterUsers us before left → IfSome left (λ text. Partly text now)
-    → IfSome before (λ text. (out : Out) → Fronted (spelling (Header 1 ∷ []) ++ text) now out out)
-users_fronted us before left now h read part = each_out before (λ text out. Fronted (header_then text) now out out) (λ out.
-    under (λ text. Fronted text now out out) header_then before
-    (ends_front (users_front us) (option_map header_then before) left now out out (users_is_front us h)
-    (in_front (Header 1 ∷ []) (map User us) before left read) part (Gains-whole out out [] (Gains-nothing out))))
+-- an identity is taken where none was given
+pub guid_said : (p : Preamble) (guid : List ℕ) → p.guid ≡ None → (lines : List Line) → SaySo lines p
+    → SaySo (lines ++ Guid guid ∷ []) (record { guid = Some guid; users = p.users }) × (guid_in lines ≡ None)
+guid_said p guid none lines h =
+    let first : guid_in lines ≡ None = sym h.guid ∙ none in
+    (record { guid = sym (guid_guid lines guid first); users = h.users ∙ sym (users_guid lines guid) }, first)
 
-nothing_read : (all : Option (List ℕ)) → Reached all fresh_front all
-nothing_read None = refl
-nothing_read (Some text) = refl
+-- a user is taken behind others
+pub user_said : (p : Preamble) (row : UserRow) (users : List UserRow) → users ≡ p.users ++ row ∷ [] → IsNewUser row.uid.0 p.users × (length p.users < 1024) → (lines : List Line) → SaySo lines p
+    → SaySo (lines ++ User row ∷ []) (record { guid = p.guid; users = users }) × (IsNewUser row.uid.0 (users_in lines) × (length (users_in lines) < 1024))
+user_said p row users e next lines h =
+    let more : users ≡ users_in (lines ++ User row ∷ []) = e ∙ (ap (λ (us : List UserRow). us ++ row ∷ []) h.users ∙ sym (users_user lines row)) in
+    (record { guid = h.guid ∙ sym (guid_user lines row); users = more }, subst (λ (us : List UserRow). IsNewUser row.uid.0 us × (length us < 1024)) h.users next)
+
+-- all that was read, behind the header
+pub said_after : (p : Preamble) (number : ℕ) (all before left : Option (List ℕ)) → WereRead all (Header 1 ∷ []) before → (s : Said p number before left) → Reached all (headed_front s.lines) left
+said_after p number all before left r s = read_on all (Header 1 ∷ []) before s.lines left r s.read
+
+pub few_headed : (p : Preamble) (number : ℕ) (before left : Option (List ℕ)) → (s : Said p number before left) → length (lines_of (headed_front s.lines)) < most_lines
+few_headed p number before left s = omega (arith, few_lines s.lines s.is_preamble)
+
+pub said_refused : (p : Preamble) (number : ℕ) (all before left : Option (List ℕ)) (cause : Cause) → WereRead all (Header 1 ∷ []) before → (s : Said p number before left)
+    → IfSome left (Stops (headed_front s.lines)) → IfSome left (IsRefusal cause (headed_front s.lines)) → IfSome all (λ text. (out : Out) → RefusedAt (number + 1) cause text out out)
+said_refused p number all before left cause r s stop why = each_out all (λ text out. RefusedAt (number + 1) cause text out out) (λ out.
+    ends_refused (headed_front s.lines) all left out out (number + 1) cause (headed_is_front s.lines s.is_preamble)
+    (said_after p number all before left r s) (omega (arith, few_said p number before left s)) stop why (omega (arith, s.count)) (Gains-nothing out))
+
+pub said_broken : (p : Preamble) (number : ℕ) (all before left now : Option (List ℕ)) → WereRead all (Header 1 ∷ []) before → Said p number before left
+    → IfSome left (λ text. Torn text now) → IfSome all (λ text. (out : Out) → Broken text now out out)
+said_broken p number all before left now r s torn = each_out all (λ text out. Broken text now out out) (λ out.
+    ends_broken (headed_front s.lines) all left now out out (headed_is_front s.lines s.is_preamble) (said_after p number all before left r s) torn (Gains-nothing out))
+
+pub said_fronted : (p : Preamble) (number : ℕ) (all before left now : Option (List ℕ)) → WereRead all (Header 1 ∷ []) before → Said p number before left
+    → IfSome left (λ text. Partly text now) → IfSome all (λ text. (out : Out) → Fronted text now out out)
+said_fronted p number all before left now r s part = each_out all (λ text out. Fronted text now out out) (λ out.
+    ends_front (headed_front s.lines) all left now out out (headed_is_front s.lines s.is_preamble) (said_after p number all before left r s) part (Gains-whole out out [] (Gains-nothing out)))
+
+setup_is : (s : Setup) (p : Preamble) (ls : List Line) → SaySo ls p → s.guid ≡ guid_or_default p.guid → s.users ≡ p.users → s.conf ≡ default_conf → s.table ≡ default_table → s ≡ setup_of ls
+unfolding setup_of
+setup_is s p ls h g u c t =
+    let guid : s.guid ≡ guid_or_default (guid_in ls) = g ∙ ap guid_or_default h.guid in
+    let users : s.users ≡ users_in ls = u ∙ h.users in
+    λ i. record { guid = guid i; users = users i; conf = c i; table = t i }
+
+-- the preamble ends
+pub said_whole : (p : Preamble) (s : Setup) (number : ℕ) (all before left after : Option (List ℕ)) (l : Line) → WereRead all (Header 1 ∷ []) before → Said p number before left
+    → (read : WereRead left (l ∷ []) after) → l ≡ Go → s.guid ≡ guid_or_default p.guid → s.users ≡ p.users → s.conf ≡ default_conf → s.table ≡ default_table → WasSetUp all s (number + 1) after
+said_whole p s number all before left after l r said read go g u c t = record {
+  preamble = said.lines;
+  is_preamble = said.is_preamble;
+  setup_is = setup_is s p said.lines said.say_so g u c t;
+  count_is = omega (arith, said.count, length-append said.lines (Go ∷ []));
+  read = read_on all (Header 1 ∷ said.lines) left (Go ∷ []) after (said_after p number all before left r said) (subst (λ (x : Line). WereRead left (x ∷ []) after) go read);
+}
+
+pub few_set_up : (all : Option (List ℕ)) (s : Setup) (count : ℕ) (left : Option (List ℕ)) → WasSetUp all s count left → count ≤ most_lines
+few_set_up all s count left h = omega (arith, h.count_is, few_lines h.preamble h.is_preamble, length-append h.preamble (Go ∷ []))
 
 pub fresh_refused : (before : Option (List ℕ)) (cause : Cause) → IfSome before (Stops fresh_front) → IfSome before (IsRefusal cause fresh_front) → IfSome before (λ text. (out : Out) → RefusedAt 1 cause text out out)
 fresh_refused before cause stop why = each_out before (λ text out. RefusedAt 1 cause text out out) (λ out.
@@ -77,49 +132,22 @@ pub fresh_fronted : (before now : Option (List ℕ)) → IfSome before (λ text.
 fresh_fronted before now part = each_out before (λ text out. Fronted text now out out) (λ out.
     ends_front fresh_front before before now out out fresh_is_front (nothing_read before) part (Gains-whole out out [] (Gains-nothing out)))
 
--- a preamble is far from the most lines
-pub users_few : (us : List UserRow) → AreUsers us → length (lines_of (users_front us)) < most_lines
-users_few us h = omega (arith, h.most, users_lines us)
-
--- the line is the header
+-- the header is the one there is
 pub is_the_header : (l : Line) → IsLine l → takes_at fresh [] [] l → l ≡ Header 1
-is_the_header (Header v) f t = ap Header f
-is_the_header (User u) f t = absurd t
+is_the_header (Header version) f t = ap Header f
+is_the_header (Guid guid) f t = absurd t
+is_the_header (User row) f t = absurd t
+is_the_header (Conf text) f t = absurd t
+is_the_header (Action text) f t = absurd t
 is_the_header Go f t = absurd t
 is_the_header (Event e) f t = absurd t
+is_the_header (Link c u) f t = absurd t
+is_the_header (In c bytes) f t = absurd t
+is_the_header (Hangup c) f t = absurd t
 is_the_header End f t = absurd t
-is_the_header (Guid g) f t = absurd f
-is_the_header (Conf b) f t = absurd f
-is_the_header (Action b) f t = absurd f
-is_the_header (Link c u) f t = absurd f
-is_the_header (In c b) f t = absurd f
-is_the_header (Hangup c) f t = absurd f
 
-behind : (P : List ℕ → Type 0) (before mid : Option (List ℕ)) → before ≡ option_map (λ rest. spell (Header 1) ++ rest) mid
-    → IfSome mid (λ text. P (spelling (Header 1 ∷ []) ++ text)) → IfSome before P
-behind P before None e h = rw e tt
-behind P before (Some t) e h = rw e (subst (λ (x : List ℕ). P (x ++ t)) (append-nil (spell (Header 1))) h)
-
-whole_before : (before mid : Option (List ℕ)) → before ≡ option_map (λ rest. spell (Header 1) ++ rest) mid
-    → option_map (λ text. spelling [] ++ text) before ≡ option_map (λ text. spelling (Header 1 ∷ []) ++ text) mid
-whole_before before None e = rw e refl
-whole_before before (Some t) e = rw e (ap Some (ap (λ (x : List ℕ). x ++ t) (sym (append-nil (spell (Header 1))))))
-
--- the header, and then the rest of the preamble
-pub after_header : (r : SetupEnd) (l : Line) (before mid after left : Option (List ℕ)) → IsLine l → takes_at fresh [] [] l → before ≡ option_map (λ rest. spell l ++ rest) mid
-    → SetupGives (Header 1 ∷ []) mid after left r → SetupGives [] before after left r
-after_header (setup.Ready s n) l before mid after left f t e h =
-    let e1 : before ≡ option_map (λ rest. spell (Header 1) ++ rest) mid = subst (λ (x : Line). before ≡ option_map (λ rest. spell x ++ rest) mid) (is_the_header l f t) e in
-    (h.0, h.1, whole_before before mid e1 ∙ h.2)
-after_header (setup.Script n cause) l before mid after left f t e h =
-    let e1 : before ≡ option_map (λ rest. spell (Header 1) ++ rest) mid = subst (λ (x : Line). before ≡ option_map (λ rest. spell x ++ rest) mid) (is_the_header l f t) e in
-    behind (λ text. (out : Out) → RefusedAt n cause text out out) before mid e1 h
-after_header setup.ReadFault l before mid after left f t e h =
-    let e1 : before ≡ option_map (λ rest. spell (Header 1) ++ rest) mid = subst (λ (x : Line). before ≡ option_map (λ rest. spell x ++ rest) mid) (is_the_header l f t) e in
-    behind (λ text. (out : Out) → Broken text left out out) before mid e1 h
-after_header setup.NoMemory l before mid after left f t e h =
-    let e1 : before ≡ option_map (λ rest. spell (Header 1) ++ rest) mid = subst (λ (x : Line). before ≡ option_map (λ rest. spell x ++ rest) mid) (is_the_header l f t) e in
-    behind (λ text. (out : Out) → Fronted text left out out) before mid e1 h
+pub header_read : (before mid : Option (List ℕ)) (l : Line) → WereRead before (l ∷ []) mid → IsLine l → takes_at fresh [] [] l → WereRead before (Header 1 ∷ []) mid
+header_read before mid l r f t = subst (λ (x : Line). WereRead before (x ∷ []) mid) (is_the_header l f t) r
 
 -- all is left
 pub all_left : (left : Option (List ℕ)) → IfSome left (λ text. Partly text left)

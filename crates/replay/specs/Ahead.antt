@@ -1,19 +1,19 @@
 -- What comes next of a recording.
-use Rattle.std.specs.Prelude.{ℕ, ◌≡◌, List, [], ◌++◌, Option, Some, IfSome}
-use Rattle.std.specs.Option.{option_map}
+use Rattle.std.specs.Prelude.{ℕ, ◌≡◌, List, [], ◌∷◌, ◌++◌, Option, Some, IfSome}
 use Rattle.login_edge.specs.Faults.{Rose}
 use Rattle.recording.specs.declared.line.Line.{Line}
 use Rattle.recording.specs.Cut.{NoLineFeed, first_line}
-use Rattle.recording.specs.Lines.{spell, IsLine}
+use Rattle.recording.specs.Meaning.{IsReadAs}
+use Rattle.replay.specs.Written.{WereRead}
 use Rattle.replay.specs.Causes.{IsOwnCause}
 use Rattle.replay.specs.declared.cause.Cause.{Cause}
 use Rattle.replay.specs.declared.ahead.Ahead.{Ahead}
 use Rattle.replay.specs.declared.ahead.Ahead.TheVariants as ahead
 
--- something is left, and its first line is none of the built forms, for this cause
+-- something is left, and its first line is read as no line, for this cause
 pub record IsNoLine (cause : Cause) (text : List ℕ) : Type 0 where
   pub some : text ≡ [] → ⊥
-  pub none : (l : Line) → IsLine l → first_line text ≡ spell l → ⊥
+  pub none : (l : Line) → IsReadAs (first_line text) l → ⊥
   pub own : IsOwnCause cause text
 
 -- a part of a line was read, and the rest is left
@@ -33,7 +33,7 @@ pub record Partly (text : List ℕ) (left : Option (List ℕ)) : Type 0 where
 
 -- what was left before, and what is left after, with what the source itself has left then
 abbrev pub Reads : Option (List ℕ) → Option (List ℕ) → Option (List ℕ) → Ahead → Type 0
-Reads before after left (ahead.Line l) = IsLine l × (before ≡ option_map (λ rest. spell l ++ rest) after)
+Reads before after left (ahead.Line l) = WereRead before (l ∷ []) after
 Reads before after left (ahead.Refused cause) = IfSome before (λ text. IsNoLine cause text)
 Reads before after left ahead.End = IfSome before (λ text. (text ≡ []) × (left ≡ Some []))
 Reads before after left ahead.ReadFault = IfSome before (λ text. Torn text left)

@@ -1,6 +1,5 @@
 -- What a line says that stands behind `go`.
 use Rattle.std.specs.Prelude.{◌≡◌, List}
-use Rattle.login_model.specs.declared.setup.UserRow.{UserRow}
 use Rattle.login_model.specs.declared.mark.Entry.{Entry}
 use Rattle.recording.specs.declared.line.Line.{Line}
 use Rattle.recording.specs.declared.line.Line.TheVariants as line
@@ -12,4 +11,4 @@ use Rattle.replay.specs.declared.replaying.Behind.TheVariants.{Event, End, Other
 abbrev pub SaysBehind : Line → Behind → Type 0
 SaysBehind l (Event e) = l ≡ line.Event e
 SaysBehind l End = l ≡ line.End
-SaysBehind l Other = (us : List UserRow) (es : List Entry) → takes_at going us es l → ⊥
+SaysBehind l Other = (preamble : List Line) (journal : List Entry) → takes_at going preamble journal l → ⊥

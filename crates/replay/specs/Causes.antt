@@ -5,7 +5,7 @@ use Rattle.recording.specs.declared.line.LineFault.{LineFault}
 use Rattle.recording.specs.declared.line.LineFault.TheVariants as fault
 use Rattle.recording.specs.Cut.{first_line}
 use Rattle.recording.specs.Causes.{line_fault}
-use Rattle.recording.specs.Lines.{spell, IsLine}
+use Rattle.recording.specs.Meaning.{IsReadAs}
 use Rattle.recording.specs.Unbuilt.{IsUnbuilt}
 use Rattle.replay.specs.Front.{Front, Takes}
 use Rattle.replay.specs.declared.cause.Cause.{Cause}
@@ -50,8 +50,7 @@ IsOwnCause cause rest = line_fault (first_line rest) ≡ own_fault cause
 -- a built line that may not come next
 pub record IsMisplaced (front : Front) (rest : List ℕ) : Type 0 where
   pub line : Line
-  pub is_line : IsLine line
-  pub spelled : first_line rest ≡ spell line
+  pub read : IsReadAs (first_line rest) line
   pub misplaced : Takes front line → ⊥
 
 -- the first line of what is left is refused for this cause, behind these lines: its own cause first,

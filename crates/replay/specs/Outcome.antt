@@ -1,26 +1,38 @@
 -- What was read of a text, and what was written, when a replay ends.
-use Rattle.std.specs.Prelude.{ℕ, ◌≡◌, ◌+◌, ◌<◌, ◌≤◌, List, [], ◌++◌, length, Option, Some}
+use Rattle.std.specs.Prelude.{ℕ, ◌≡◌, ◌+◌, ◌<◌, ◌≤◌, List, [], ◌∷◌, ◌++◌, length, Option, Some}
 use Rattle.login_edge.specs.Texts.{Gains, GainsFront}
-use Rattle.login_model.specs.declared.setup.UserRow.{UserRow}
+use Rattle.login_model.specs.declared.count.Count.{Count}
+use Rattle.login_model.specs.declared.event.Event.{Event as AnEvent}
 use Rattle.login_model.specs.declared.mark.Entry.{Entry}
-use Rattle.recording.specs.Cut.{NoLineFeed}
+use Rattle.login_model.specs.Full.{full}
+use Rattle.login_model.specs.Legal.{IsPlaced}
+use Rattle.recording.specs.declared.line.Line.{Line}
+use Rattle.recording.specs.declared.line.Line.TheVariants.{Event}
+use Rattle.recording.specs.Cut.{NoLineFeed, cut}
 use Rattle.recording.specs.Print.{transcript}
-use Rattle.replay.specs.Recording.{recording, IsPlay, spelling, most_lines}
-use Rattle.replay.specs.Front.{Front, lines_of, text_of, IsFront}
+use Rattle.replay.specs.Written.{AreReadAs, Splits}
+use Rattle.replay.specs.PreambleLines.{setup_of}
+use Rattle.replay.specs.Recording.{recording, IsPlay, HasRoom, most_lines}
+use Rattle.replay.specs.Front.{Front, going, lines_of, text_of, IsFront}
 use Rattle.replay.specs.Refused.{Refused}
 use Rattle.replay.specs.Causes.{IsCause}
 use Rattle.replay.specs.declared.cause.Cause.{Cause}
 use Rattle.replay.specs.declared.cause.Cause.TheVariants.{TooLong, Ended}
 
+-- the text is a recording of at most 4000000000 lines, and no event of it finds the journal full
+pub record IsRecordingText (text : List ℕ) : Type 0 where
+  pub preamble : List Line
+  pub journal : List Entry
+  pub play : IsPlay preamble journal
+  pub room : HasRoom (setup_of preamble) journal
+  pub read : AreReadAs (cut text) (recording preamble journal)
+  pub within : length (recording preamble journal) ≤ most_lines
+
 -- the text is a recording, its journal is legal, it was read to its end, and its transcript was written
 pub record Replayed (text : List ℕ) (left before after : Option (List ℕ)) : Type 0 where
-  pub users : List UserRow
-  pub journal : List Entry
-  pub play : IsPlay users journal
-  pub spelled : text ≡ spelling (recording users journal)
-  pub within : length (recording users journal) ≤ most_lines
+  pub recorded : IsRecordingText text
   pub read_to_end : left ≡ Some []
-  pub wrote : Gains before after (transcript journal)
+  pub wrote : Gains before after (transcript recorded.journal)
 
 -- behind 4000000000 lines each line is too long a recording, and `end` may be missing
 abbrev pub IsPast : Cause → List ℕ → Type 0
@@ -38,10 +50,29 @@ pub record RefusedAt (number : ℕ) (cause : Cause) (text : List ℕ) (before af
   pub front : Front
   pub rest : List ℕ
   pub is_front : IsFront front
-  pub read : text ≡ spelling (lines_of front) ++ rest
+  pub read : Splits text (lines_of front) rest
   pub count : number ≡ length (lines_of front) + 1
   pub refused : Refused text (length (lines_of front))
   pub caused : IsRefusal cause front rest
+  pub wrote : Gains before after (text_of front)
+
+-- behind these lines comes an event that may come next, and that finds the journal full by this count
+pub record IsFull (count : Count) (front : Front) (rest : List ℕ) : Type 0 where
+  pub event : AnEvent
+  pub behind : List ℕ
+  pub next : Splits rest (Event event ∷ []) behind
+  pub going_on : front.stage ≡ going
+  pub placed : IsPlaced front.journal event
+  pub full : full (setup_of front.preamble) front.journal event ≡ Some count
+
+-- an event finds the journal full by this count, and the transcript of the lines before it was written
+pub record FullAt (count : Count) (text : List ℕ) (before after : Option (List ℕ)) : Type 0 where
+  pub front : Front
+  pub rest : List ℕ
+  pub is_front : IsFront front
+  pub read : Splits text (lines_of front) rest
+  pub within : length (lines_of front) < most_lines
+  pub is_full : IsFull count front rest
   pub wrote : Gains before after (text_of front)
 
 -- these lines were read, and their transcript written; then a part of a line, and the rest is left
@@ -51,7 +82,7 @@ pub record Broken (text : List ℕ) (left before after : Option (List ℕ)) : Ty
   pub rest : List ℕ
   pub is_front : IsFront front
   pub feedless : NoLineFeed part
-  pub read : text ≡ spelling (lines_of front) ++ (part ++ rest)
+  pub read : Splits text (lines_of front) (part ++ rest)
   pub left_is : left ≡ Some rest
   pub wrote : Gains before after (text_of front)
 
@@ -62,14 +93,6 @@ pub record Fronted (text : List ℕ) (left before after : Option (List ℕ)) : T
   pub part : List ℕ
   pub rest : List ℕ
   pub is_front : IsFront front
-  pub read : text ≡ spelling (lines_of front) ++ (part ++ rest)
+  pub read : Splits text (lines_of front) (part ++ rest)
   pub left_is : left ≡ Some rest
   pub wrote : GainsFront before after (text_of front)
-
--- the text is a recording of at most 4000000000 lines
-pub record IsRecordingText (text : List ℕ) : Type 0 where
-  pub users : List UserRow
-  pub journal : List Entry
-  pub play : IsPlay users journal
-  pub spelled : text ≡ spelling (recording users journal)
-  pub within : length (recording users journal) ≤ most_lines

@@ -1,15 +1,15 @@
 -- Which line of a text is refused.
-use Rattle.std.specs.Prelude.{ℕ, ◌≡◌, ◌+◌, ◌≤◌, List, length, map, take}
+use Rattle.std.specs.Prelude.{ℕ, ◌≡◌, ◌+◌, ◌≤◌, List, length, take}
 use Rattle.recording.specs.declared.line.Line.{Line}
-use Rattle.recording.specs.Lines.{spell}
 use Rattle.recording.specs.Cut.{cut}
+use Rattle.replay.specs.Written.{AreReadAs}
 use Rattle.replay.specs.Recording.{IsRecording, most_lines}
 
--- the first so many lines of a text are those of some recording, and are at most 4000000000
+-- the first so many lines of a text are read as those of some recording, and are at most 4000000000
 pub record Begins (text : List ℕ) (count : ℕ) : Type 0 where
   pub lines : List Line
   pub recorded : IsRecording lines
-  pub same : take count (cut text) ≡ take count (map spell lines)
+  pub read : AreReadAs (take count (cut text)) (take count lines)
   pub within : length (take count (cut text)) ≤ most_lines
 
 -- so many lines begin a recording, and one more does not, or is missing

@@ -1,13 +1,13 @@
 -- How a replay ends.
-use Rattle.std.specs.Prelude.{ℕ, ◌≡◌, List, ◌++◌, Option, IfSome}
-use Rattle.std.specs.Option.{option_map}
+use Rattle.std.specs.Prelude.{ℕ, ◌≡◌, List, Option, IfSome, length}
 use Rattle.login_edge.specs.Faults.{Rose}
 use Rattle.login_edge.specs.Texts.{Gains}
-use Rattle.login_model.specs.declared.setup.UserRow.{UserRow}
-use Rattle.login_model.specs.declared.mark.Entry.{Entry}
-use Rattle.replay.specs.Recording.{spelling}
-use Rattle.replay.specs.Front.{Stage, going, lines_at, text_at}
-use Rattle.replay.specs.Outcome.{Replayed, RefusedAt, Broken, Fronted}
+use Rattle.login_core.specs.State.{CoreState}
+use Rattle.recording.specs.declared.line.Line.{Line}
+use Rattle.replay.specs.Written.{WereRead}
+use Rattle.replay.specs.PreambleLines.{setup_of}
+use Rattle.replay.specs.Front.{Stage, going, lines_at, text_at, IsFront}
+use Rattle.replay.specs.Outcome.{Replayed, RefusedAt, FullAt, Broken, Fronted}
 use Rattle.replay.specs.declared.replaying.ReplayEnd.{ReplayEnd}
 use Rattle.replay.specs.declared.replaying.ReplayEnd.TheVariants as replay
 
@@ -15,14 +15,24 @@ use Rattle.replay.specs.declared.replaying.ReplayEnd.TheVariants as replay
 abbrev pub ReplayGives : Option (List ℕ) → Option (List ℕ) → Option (List ℕ) → Option (List ℕ) → ReplayEnd → Type 0
 ReplayGives all left before after replay.Done = IfSome all (λ text. Replayed text left before after)
 ReplayGives all left before after (replay.Script number cause) = IfSome all (λ text. RefusedAt number cause text before after)
+ReplayGives all left before after (replay.Full count) = IfSome all (λ text. FullAt count text before after)
 ReplayGives all left before after replay.ReadFault = IfSome all (λ text. Broken text left before after)
 ReplayGives all left before after replay.WriteFault = IfSome all (λ text. Fronted text left before after)
 ReplayGives all left before after replay.NoMemory = IfSome all (λ text. Fronted text left before after)
 
--- the same from behind some lines on, where the transcript through the last entry was written
-abbrev pub GoesOn : Stage → List UserRow → List Entry → Option (List ℕ) → Option (List ℕ) → Option (List ℕ) → Option (List ℕ) → ReplayEnd → Type 0
-GoesOn stage users journal before left held after r = (start : Option (List ℕ)) → Gains start held (text_at going journal)
-    → ReplayGives (option_map (λ text. spelling (lines_at stage users journal) ++ text) before) left start after r
+-- So many lines of a text were read, and this is left; their setup and their journal are those of the core;
+-- and the transcript through the last entry was written
+pub record SoFar (stage : Stage) (core : CoreState) (number : ℕ) (all left start held : Option (List ℕ)) : Type 0 where
+  pub preamble : List Line
+  pub setup_is : core.setup ≡ setup_of preamble
+  pub is_front : IsFront (record { stage = stage; preamble = preamble; journal = core.journal })
+  pub count : number ≡ length (lines_at stage preamble core.journal)
+  pub read : WereRead all (lines_at stage preamble core.journal) left
+  pub wrote : Gains start held (text_at going core.journal)
+
+-- so a replay goes on, whatever was read and written before
+abbrev pub GoesOn : Stage → CoreState → ℕ → Option (List ℕ) → Option (List ℕ) → Option (List ℕ) → Option (List ℕ) → ReplayEnd → Type 0
+GoesOn stage core number before left held after r = (all start : Option (List ℕ)) → SoFar stage core number all before start held → ReplayGives all left start after r
 
 -- the source's count of faults rises with a fault of reading, and with nothing else
 abbrev pub ReadRises : ℕ → ℕ → ReplayEnd → Type 0

@@ -3,6 +3,8 @@ use Rattle.std.specs.Prelude.{ℕ, ◌≡◌, ◌⊎◌, List, [], ◌∷◌, �
 use Rattle.std.specs.Fmt.{decimal}
 use Rattle.login_edge.specs.Faults.{Rose}
 use Rattle.login_edge.specs.Texts.{Gains, GainsFront}
+use Rattle.login_model.specs.declared.count.Count.{Count}
+use Rattle.login_model.specs.declared.count.Count.TheVariants.{Entries, Marks}
 use Rattle.replay.specs.Causes.{cause_word}
 use Rattle.replay.specs.declared.cause.Cause.{Cause}
 use Rattle.replay.specs.declared.replaying.ReplayEnd.{ReplayEnd}
@@ -20,10 +22,16 @@ error_line text = text ++ 10 ∷ []
 abbrev pub refusal : ℕ → Cause → List ℕ
 refusal number cause = codes "line " ++ (decimal number ++ (codes ": " ++ error_line (cause_word cause)))
 
+-- the line of a full journal
+abbrev pub full_line : Count → List ℕ
+full_line (Entries n) = codes "full entries " ++ error_line (decimal n)
+full_line (Marks n) = codes "full marks " ++ error_line (decimal n)
+
 -- the line of an end was written, or a front of it; nothing where all was done
 abbrev pub ReportsEnd : Option (List ℕ) → Option (List ℕ) → ℕ → ℕ → ReplayEnd → Type 0
 ReportsEnd old new before now replay.Done = (new ≡ old) × (now ≡ before)
 ReportsEnd old new before now (replay.Script number cause) = Reported old new before now (refusal number cause)
+ReportsEnd old new before now (replay.Full count) = Reported old new before now (full_line count)
 ReportsEnd old new before now replay.ReadFault = Reported old new before now (error_line (codes "read fault"))
 ReportsEnd old new before now replay.WriteFault = Reported old new before now (error_line (codes "write fault"))
 ReportsEnd old new before now replay.NoMemory = Reported old new before now (error_line (codes "no memory"))

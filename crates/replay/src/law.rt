@@ -1,7 +1,8 @@
-// Laws of refusals.
+// Laws of recordings, and of refused lines.
 
 ghost use Rattle.replay.specs.Causes.{OneCause};
 ghost use Rattle.replay.specs.Refused.{OneRefusal};
+ghost use Rattle.replay.specs.Spelled.{SpelledIsRecording};
 
 /// At most one line of a text is refused.
 pub fn one_refusal()
@@ -11,4 +12,10 @@ pub fn one_refusal()
 /// Behind the same lines, a line is refused for one cause.
 pub fn one_cause()
     ensures { OneCause }
+{}
+
+/// A preamble and the events of a legal journal, spelled line by line, are a recording that plays this
+/// journal.
+pub fn spelled_recording()
+    ensures { SpelledIsRecording }
 {}

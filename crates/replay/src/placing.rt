@@ -1,12 +1,11 @@
 // Whether an event may come next.
 
-ghost use Rattle.std.specs.Prelude.{◌≡◌, ◌↔◌, IsTrue, List};
-ghost use Rattle.std.specs.List.{AllByRecursion};
-ghost use Rattle.login_model.specs.declared.mark.Entry.{Entry};
+ghost use Rattle.std.specs.Prelude.{◌≡◌, ◌↔◌, IsTrue};
 ghost use Rattle.login_model.specs.Legal.{IsPlaced, IsUnused, connects, trail_of};
+ghost use Rattle.login_model.specs.Stopping.{is_stop};
 ghost use Rattle.login_model.specs.Where.{is_connected};
-ghost use Rattle.login_core.specs.State.{CoreState};
 ghost use Rattle.recording.specs.Lines.{Fits};
+ghost use Rattle.replay.specs.Placing.{IsNamed, has_stop, is_past_stop};
 
 use login_base::ConnId;
 use login_core::Core;
@@ -41,10 +40,9 @@ fn is_connected(core: &Core, who: ConnId) -> bool
     }
 }
 
-/// Whether an event may come after the entries so far.
-pub fn is_placed(core: &Core, event: &Event) -> bool
-    requires { Fits event.now }
-    ensures { IsTrue result ↔ IsPlaced core.now.journal event.now }
+/// Whether whom an event names is as it must be after the entries so far.
+fn is_named(core: &Core, event: &Event) -> bool
+    ensures { IsTrue result ↔ IsNamed core.now.journal event.now }
 {
     match event {
         Event::Connect(who, _) => is_unused(core.journal().as_slice(), *who),
@@ -52,4 +50,39 @@ pub fn is_placed(core: &Core, event: &Event) -> bool
         Event::Call(request) => is_connected(core, request.who),
         Event::Hardware(_) | Event::Tick(_) | Event::Stop => true,
     }
+}
+
+/// Whether an event is the stop.
+fn is_stop(event: &Event) -> bool
+    ensures { result ≡ is_stop event.now }
+{
+    match event {
+        Event::Stop => true,
+        _ => false,
+    }
+}
+
+/// Whether the stop is among the entries.
+fn has_stop(entries: &[Entry]) -> bool
+    ensures { result ≡ has_stop entries.now }
+{
+    entries.iter().any(|entry| is_stop(&entry.event))
+}
+
+/// Whether the stop is among the entries, for an event that may not come after it.
+fn is_past_stop(entries: &[Entry], event: &Event) -> bool
+    ensures { result ≡ is_past_stop entries.now event.now }
+{
+    match event {
+        Event::Disconnect(_) => false,
+        _ => has_stop(entries),
+    }
+}
+
+/// Whether an event may come after the entries so far.
+pub fn is_placed(core: &Core, event: &Event) -> bool
+    requires { Fits event.now }
+    ensures { IsTrue result ↔ IsPlaced core.now.journal event.now }
+{
+    !is_past_stop(core.journal().as_slice(), event) && is_named(core, event)
 }

@@ -1,12 +1,17 @@
 // One event of a recording.
 
+ghost use Rattle.std.specs.Prelude.{◌≡◌, true, None};
+ghost use Rattle.login_model.specs.Built.{is_built};
+ghost use Rattle.login_model.specs.Full.{full};
+ghost use Rattle.login_model.specs.Legal.{IsPlaced};
+ghost use Rattle.login_core.specs.State.{IsReady, IsSame};
 ghost use Rattle.recording.specs.Lines.{IsEventLine};
-ghost use Rattle.replay.specs.Playing.{Plays, PlayCause};
+ghost use Rattle.replay.specs.Playing.{Plays, PlayCause, MakesRoom};
 
 use crate::placing::is_placed;
 use login_core::{Core, Refused};
 use login_edge::Sink;
-use login_model::Event;
+use login_model::{Count, Event};
 use recording::{WriteEnd, write_entry};
 use std::alloc::Global;
 
@@ -16,28 +21,83 @@ pub enum Played {
     Done,
     /// The event may not come next.
     Refused,
+    /// The journal is full for the event, by this count.
+    Full(Count),
     WriteFault,
     NoMemory,
 }
 
-/// Steps an event, where it may come next, and writes its entry.
-pub fn play_event<K: Sink>(alloc: Global, core: &mut Core, event: Event, sink: &mut K) -> Played
-    requires { IsEventLine event }
+/// Steps an event that room was made for, and writes its entry.
+fn step_event<K: Sink>(alloc: Global, core: &mut Core, event: Event, sink: &mut K) -> Played
+    requires placed { IsPlaced core.old.journal event }
+    requires built { is_built event ≡ true }
+    requires ready { IsReady core.old event }
+    requires room { full core.old.setup core.old.journal event ≡ None }
     ensures gives { Plays core.old event core.new (K.held sink.old) (K.held sink.new) result }
     ensures cause { PlayCause (K.faults sink.old) (K.faults sink.new) result }
 {
-    if !is_placed(core, &event) {
-        return Played::Refused;
-    }
-    match core.room(&event) {
-        Ok(()) => {}
-        Err(Refused::NoMemory) => return Played::NoMemory,
-    }
     let number = (core.journal().len() + 1) as u32;
     let entry = core.step(event);
     match write_entry(alloc, number, entry, sink) {
         Ok(()) => Played::Done,
         Err(WriteEnd::WriteFault) => Played::WriteFault,
         Err(WriteEnd::NoMemory) => Played::NoMemory,
+    }
+}
+
+/// What came of asking for room.
+#[derive(Clone, Copy, Debug)]
+enum Room {
+    Made,
+    Full(Count),
+    NoMemory,
+}
+
+/// Makes room for an event that may come next.
+fn make_room(core: &mut Core, event: &Event) -> Room
+    requires placed { IsPlaced core.old.journal event.now }
+    requires built { is_built event.now ≡ true }
+    ensures gives { MakesRoom core.old core.new event.now result }
+    ensures same { IsSame core.old core.new }
+{
+    match core.room(event) {
+        Ok(()) => Room::Made,
+        Err(Refused::NoMemory) => Room::NoMemory,
+        Err(Refused::Full(count)) => Room::Full(count),
+        Err(Refused::Stopped(_)) => unreachable!(),
+    }
+}
+
+/// Steps an event that may come next, where the journal has room, and writes its entry.
+fn play_placed<K: Sink>(alloc: Global, core: &mut Core, event: Event, sink: &mut K) -> Played
+    requires placed { IsPlaced core.old.journal event }
+    requires built { is_built event ≡ true }
+    ensures gives { Plays core.old event core.new (K.held sink.old) (K.held sink.new) result }
+    ensures cause { PlayCause (K.faults sink.old) (K.faults sink.new) result }
+{
+    match make_room(core, &event) {
+        Room::Made => step_event(alloc, core, event, sink),
+        Room::Full(count) => {
+            drop(event);
+            Played::Full(count)
+        }
+        Room::NoMemory => {
+            drop(event);
+            Played::NoMemory
+        }
+    }
+}
+
+/// Steps an event, where it may come next and the journal has room, and writes its entry.
+pub fn play_event<K: Sink>(alloc: Global, core: &mut Core, event: Event, sink: &mut K) -> Played
+    requires { IsEventLine event }
+    ensures gives { Plays core.old event core.new (K.held sink.old) (K.held sink.new) result }
+    ensures cause { PlayCause (K.faults sink.old) (K.faults sink.new) result }
+{
+    if is_placed(core, &event) {
+        play_placed(alloc, core, event, sink)
+    } else {
+        drop(event);
+        Played::Refused
     }
 }

@@ -1,21 +1,25 @@
-// The preamble of a recording: its header and its users.
+// The preamble of a recording: its header, and the lines that say the setup.
 
-ghost use Rattle.std.specs.Prelude.{[], ◌∷◌, ◌≡◌, ◌≢◌, ◌<◌, ◌↔◌, IsTrue, length};
+ghost use Rattle.std.specs.Prelude.{[], ◌≡◌, ◌<◌, ◌↔◌, IsTrue, IfOk, length, None};
+ghost use Rattle.login_model.specs.Setups.{IsNewUser};
+ghost use Rattle.login_model.specs.Conf.{default_conf};
+ghost use Rattle.login_model.specs.Table.{default_table};
 ghost use Rattle.recording.specs.Reading.{left_to};
-ghost use Rattle.recording.specs.declared.line.Line.TheVariants.{Header};
-ghost use Rattle.replay.specs.Users.{IsNewUser, AreUsers};
-ghost use Rattle.recording.specs.Lines.{IsLine};
+ghost use Rattle.recording.specs.declared.line.Line.TheVariants.{Guid, User};
+ghost use Rattle.replay.specs.PreambleLines.{guid_or_default};
 ghost use Rattle.replay.specs.Front.{fresh, takes_at};
-ghost use Rattle.replay.specs.Preamble.{SetupGives, SetupCause};
-ghost use Rattle.replay.specs.TakingLine.{TakesLine};
+ghost use Rattle.replay.specs.Preamble.{Takes, TakesLine, SetupGives, BehindHeader, SetupCause};
 
 use crate::ahead::{Ahead, read_ahead};
 use crate::cause::Cause;
-use login_base::{Items, NoMemory, Uid};
+use login_base::{Items, NoMemory, Uid, Word};
 use login_edge::Source;
-use login_model::{Setup, UserRow};
+use login_model::{Conf, Setup, Table, UserRow};
 use recording::{Line, LineReader};
 use std::alloc::Global;
+
+/// The identity of the server where no line says one.
+const DEFAULT_GUID: &[u8] = b"0123456789abcdef0123456789abcdef";
 
 /// How the reading of a preamble ended.
 #[derive(Debug, Drop)]
@@ -28,19 +32,27 @@ pub enum SetupEnd {
     NoMemory,
 }
 
-/// Whether no row is of this user.
-fn is_new_user(users: &Items<UserRow>, uid: Uid) -> bool
-    ensures { IsTrue result ↔ IsNewUser uid.0 users.now }
-{
-    users.as_slice().iter().all(|row| row.uid.0 != uid.0)
+/// What the lines of a preamble said so far.
+#[derive(Drop)]
+struct Preamble {
+    guid: Option<Word>,
+    users: Items<UserRow>,
 }
 
 /// What a line of the preamble does.
 #[derive(Clone, Copy)]
 enum Taken {
-    User,
+    /// It says something of the setup.
+    Row,
     Go,
     Refused,
+}
+
+/// Whether no row is of this user.
+fn is_new_user(users: &Items<UserRow>, uid: Uid) -> bool
+    ensures { IsTrue result ↔ IsNewUser uid.0 users.now }
+{
+    users.as_slice().iter().all(|row| row.uid.0 != uid.0)
 }
 
 /// Whether a user may come behind these.
@@ -50,35 +62,89 @@ fn is_next_user(users: &Items<UserRow>, uid: Uid) -> bool
     users.len() < 1024 && is_new_user(users, uid)
 }
 
-/// Takes a line behind the header and these users.
-fn take_line(users: &mut Items<UserRow>, line: Line) -> Result<Taken, NoMemory>
-    requires { AreUsers users.old × IsLine line }
-    ensures { TakesLine users.old line users.new result }
-{
-    match line {
-        Line::User(row) => {
-            if !is_next_user(users, row.uid) {
-                return Ok(Taken::Refused);
-            }
-            users.push(row)?;
-            Ok(Taken::User)
+impl Preamble {
+    /// The preamble that says nothing. It takes no memory.
+    fn new(alloc: Global) -> Preamble
+        ensures guid { result.guid ≡ None }
+        ensures users { result.users ≡ [] }
+    {
+        Preamble {
+            guid: None,
+            users: Items::new(alloc),
         }
-        Line::Go => Ok(Taken::Go),
-        _ => Ok(Taken::Refused),
+    }
+
+    /// Takes an identity behind these lines.
+    fn take_guid(&mut self, guid: Word) -> Taken
+        ensures { Takes self.old (Guid guid) self.new result }
+    {
+        if self.guid.is_some() {
+            return Taken::Refused;
+        }
+        self.guid = Some(guid);
+        Taken::Row
+    }
+
+    /// Takes a user behind these lines.
+    fn take_user(&mut self, row: UserRow) -> Result<Taken, NoMemory>
+        ensures { TakesLine self.old (User row) self.new result }
+    {
+        if !is_next_user(&self.users, row.uid) {
+            return Ok(Taken::Refused);
+        }
+        self.users.push(row)?;
+        Ok(Taken::Row)
+    }
+
+    /// Takes a line behind these lines.
+    fn take_line(&mut self, line: Line) -> Result<Taken, NoMemory>
+        ensures { TakesLine self.old line self.new result }
+    {
+        match line {
+            Line::Guid(guid) => Ok(self.take_guid(guid)),
+            Line::User(row) => self.take_user(row),
+            Line::Go => Ok(Taken::Go),
+            _ => Ok(Taken::Refused),
+        }
+    }
+
+    /// The setup that these lines say.
+    fn setup(self, alloc: Global) -> Result<Setup, NoMemory>
+        ensures guid { IfOk result (λ setup. setup.guid ≡ guid_or_default self.guid) }
+        ensures users { IfOk result (λ setup. setup.users ≡ self.users) }
+        ensures conf { IfOk result (λ setup. setup.conf ≡ default_conf) }
+        ensures table { IfOk result (λ setup. setup.table ≡ default_table) }
+    {
+        let Preamble { guid, users } = self;
+        let guid = match guid {
+            Some(guid) => guid,
+            None => Word::from_slice(alloc, DEFAULT_GUID)?,
+        };
+        Ok(Setup {
+            guid,
+            users,
+            conf: Conf::default(),
+            table: Table::default(),
+        })
     }
 }
 
-/// Reads the users of a recording through `go`, after its header.
-fn read_users<S: Source>(alloc: Global, lines: &mut LineReader, source: &mut S) -> SetupEnd
-    ensures gives { SetupGives (Header 1 ∷ []) (left_to lines.old (S.left source.old)) (left_to lines.new (S.left source.new)) (S.left source.new) result }
+/// Reads the lines of a recording behind its header, through `go`.
+fn read_lines<S: Source>(alloc: Global, lines: &mut LineReader, source: &mut S) -> SetupEnd
+    ensures gives { BehindHeader (left_to lines.old (S.left source.old)) (left_to lines.new (S.left source.new)) (S.left source.new) result }
     ensures cause { SetupCause (S.faults source.old) (S.faults source.new) result }
 {
-    let mut users = Items::new(alloc);
-    for number in 1..1026u32 {
+    let mut preamble = Preamble::new(alloc);
+    for number in 1..1027u32 {
         match read_ahead(alloc, lines, source) {
-            Ahead::Line(line) => match take_line(&mut users, line) {
-                Ok(Taken::User) => {}
-                Ok(Taken::Go) => return SetupEnd::Ready(Setup { users }, number + 1),
+            Ahead::Line(line) => match preamble.take_line(line) {
+                Ok(Taken::Row) => {}
+                Ok(Taken::Go) => {
+                    return match preamble.setup(alloc) {
+                        Ok(setup) => SetupEnd::Ready(setup, number + 1),
+                        Err(_) => SetupEnd::NoMemory,
+                    };
+                }
                 Ok(Taken::Refused) => return SetupEnd::Script(number + 1, Cause::WrongPlace),
                 Err(_) => return SetupEnd::NoMemory,
             },
@@ -103,7 +169,7 @@ fn is_header(line: &Line) -> bool
 
 /// Reads the lines of a recording through `go`.
 pub fn read_setup<S: Source>(alloc: Global, lines: &mut LineReader, source: &mut S) -> SetupEnd
-    ensures gives { SetupGives [] (left_to lines.old (S.left source.old)) (left_to lines.new (S.left source.new)) (S.left source.new) result }
+    ensures gives { SetupGives (left_to lines.old (S.left source.old)) (left_to lines.new (S.left source.new)) (S.left source.new) result }
     ensures cause { SetupCause (S.faults source.old) (S.faults source.new) result }
 {
     match read_ahead(alloc, lines, source) {
@@ -111,7 +177,7 @@ pub fn read_setup<S: Source>(alloc: Global, lines: &mut LineReader, source: &mut
             let is_first = is_header(&line);
             drop(line);
             if is_first {
-                read_users(alloc, lines, source)
+                read_lines(alloc, lines, source)
             } else {
                 SetupEnd::Script(1, Cause::WrongPlace)
             }

@@ -1,16 +1,17 @@
 // A recording is read line by line, and its transcript written.
 
-ghost use Rattle.std.specs.Prelude.{◌≤◌, ◌++◌, ◌≡◌, ◌+◌, ◌<◌, ◌^◌, [], length, IfOk, string_bytes};
+ghost use Rattle.std.specs.Prelude.{ℕ, List, Option, ◌≤◌, ◌≡◌, ◌<◌, [], length, IfOk, string_bytes};
 ghost use Rattle.recording.specs.Reading.{left_to};
 ghost use Rattle.recording.specs.Print.{transcript_end};
 ghost use Rattle.replay.specs.Writing.{Writes, WriteCause};
-ghost use Rattle.replay.specs.Users.{AreUsers};
-ghost use Rattle.replay.specs.Recording.{IsPlay, most_lines, spelling};
-ghost use Rattle.replay.specs.Front.{going, ended, lines_at};
+ghost use Rattle.replay.specs.Recording.{most_lines};
+ghost use Rattle.replay.specs.Front.{going, ended};
+ghost use Rattle.replay.specs.Preamble.{WasSetUp};
 ghost use Rattle.replay.specs.Behind.{SaysBehind};
-ghost use Rattle.std.specs.Option.{option_map};
 ghost use Rattle.replay.specs.Reporting.{ReportsEnd};
+ghost use Rattle.recording.specs.Lines.{IsLine, IsEventLine};
 ghost use Rattle.replay.specs.Replaying.{ReplayGives, GoesOn, ReadRises, WriteRises};
+ghost use Rattle.replay.specs.Turns.{PlaysTurn, TakesTurn, Turns, ReadTurns, WriteTurns, ReadsPast, IsReadEnd, IsReadless};
 
 use crate::ahead::{Ahead, read_ahead};
 use crate::cause::Cause;
@@ -19,7 +20,7 @@ use crate::preamble::{SetupEnd, read_setup};
 use crate::reporting::{RefusalLine, report};
 use login_core::Core;
 use login_edge::{Sink, Source, write_all};
-use login_model::{Event, Setup};
+use login_model::{Count, Event, Setup};
 use recording::{Line, LineReader, WriteEnd};
 use std::alloc::{AllocError, Global};
 
@@ -30,6 +31,8 @@ pub enum ReplayEnd {
     Done,
     /// The line with this number is refused for this cause.
     Script(u32, Cause),
+    /// The journal is full for the event of the next line, by this count.
+    Full(Count),
     ReadFault,
     WriteFault,
     NoMemory,
@@ -83,10 +86,8 @@ fn finish<S: Source, K: Sink>(
     number: u32,
     sink: &mut K,
 ) -> ReplayEnd
-    requires play { IsPlay core.now.setup.users core.now.journal }
-    requires count { number ≡ length (lines_at ended core.now.setup.users core.now.journal) }
     requires within { number ≤ most_lines }
-    ensures gives { GoesOn ended core.now.setup.users core.now.journal (left_to lines.old (S.left source.old)) (S.left source.new) (K.held sink.old) (K.held sink.new) result }
+    ensures gives { GoesOn ended core.now number (left_to lines.old (S.left source.old)) (S.left source.new) (K.held sink.old) (K.held sink.new) result }
     ensures read { ReadRises (S.faults source.old) (S.faults source.new) result }
     ensures write { WriteRises (K.faults sink.old) (K.faults sink.new) result }
 {
@@ -127,44 +128,84 @@ fn behind_go(line: Line) -> Behind
     }
 }
 
-/// Plays the events of a recording, from behind `go`, through the end of the text. So many lines were
-/// read before.
-fn play_events<S: Source, K: Sink>(
+/// What became of a line behind `go`.
+#[derive(Clone, Copy)]
+enum Turn {
+    /// Its event was played, and a further line may come.
+    Next,
+    /// It is the line `end`.
+    Closed,
+    /// The replay ended so.
+    Over(ReplayEnd),
+}
+
+/// Plays an event, which is the line with the number behind this one.
+fn play_turn<K: Sink>(
+    alloc: Global,
+    core: &mut Core,
+    event: Event,
+    number: u32,
+    sink: &mut K,
+) -> Turn
+    requires line { IsEventLine event }
+    requires within { number < most_lines }
+    ensures gives { PlaysTurn core.old core.new event number (K.held sink.old) (K.held sink.new) result }
+    ensures read { IsReadless result }
+    ensures write { WriteTurns (K.faults sink.old) (K.faults sink.new) result }
+{
+    match play_event(alloc, core, event, sink) {
+        Played::Done => Turn::Next,
+        Played::Refused => Turn::Over(ReplayEnd::Script(number + 1, Cause::WrongPlace)),
+        Played::Full(count) => Turn::Over(ReplayEnd::Full(count)),
+        Played::WriteFault => Turn::Over(ReplayEnd::WriteFault),
+        Played::NoMemory => Turn::Over(ReplayEnd::NoMemory),
+    }
+}
+
+/// Does what a line says that was read behind `go`, with the number behind this one.
+fn take_line<K: Sink>(alloc: Global, core: &mut Core, line: Line, number: u32, sink: &mut K) -> Turn
+    requires line { IsLine line }
+    requires within { number < most_lines }
+    ensures gives { TakesTurn core.old core.new line number (K.held sink.old) (K.held sink.new) result }
+    ensures read { IsReadless result }
+    ensures write { WriteTurns (K.faults sink.old) (K.faults sink.new) result }
+{
+    match behind_go(line) {
+        Behind::Event(event) => play_turn(alloc, core, event, number, sink),
+        Behind::End => Turn::Closed,
+        Behind::Other => Turn::Over(ReplayEnd::Script(number + 1, Cause::WrongPlace)),
+    }
+}
+
+/// Reads the line with the number behind this one, and does what it says.
+fn play_line<S: Source, K: Sink>(
     alloc: Global,
     lines: &mut LineReader,
     source: &mut S,
     core: &mut Core,
-    first: u32,
+    number: u32,
     sink: &mut K,
-) -> ReplayEnd
-    requires users { AreUsers core.old.setup.users }
-    requires journal { core.old.journal ≡ [] }
-    requires few { first ≤ most_lines }
-    requires first { first ≡ length (lines_at going core.old.setup.users []) }
-    ensures gives { GoesOn going core.old.setup.users [] (left_to lines.old (S.left source.old)) (S.left source.new) (K.held sink.old) (K.held sink.new) result }
-    ensures read { ReadRises (S.faults source.old) (S.faults source.new) result }
-    ensures write { WriteRises (K.faults sink.old) (K.faults sink.new) result }
+) -> Turn
+    requires within { number < most_lines }
+    ensures gives { Turns core.old core.new number (left_to lines.old (S.left source.old)) (left_to lines.new (S.left source.new)) (S.left source.new) (K.held sink.old) (K.held sink.new) result }
+    ensures read { ReadTurns (S.faults source.old) (S.faults source.new) result }
+    ensures write { WriteTurns (K.faults sink.old) (K.faults sink.new) result }
 {
-    for number in first..MOST_LINES {
-        let line = match read_ahead(alloc, lines, source) {
-            Ahead::Line(line) => line,
-            Ahead::Refused(cause) => return ReplayEnd::Script(number + 1, cause),
-            Ahead::End => return ReplayEnd::Script(number + 1, Cause::Ended),
-            Ahead::ReadFault => return ReplayEnd::ReadFault,
-            Ahead::NoMemory => return ReplayEnd::NoMemory,
-        };
-        let event = match behind_go(line) {
-            Behind::Event(event) => event,
-            Behind::End => return finish(alloc, lines, source, core, number + 1, sink),
-            Behind::Other => return ReplayEnd::Script(number + 1, Cause::WrongPlace),
-        };
-        match play_event(alloc, core, event, sink) {
-            Played::Done => {}
-            Played::Refused => return ReplayEnd::Script(number + 1, Cause::WrongPlace),
-            Played::WriteFault => return ReplayEnd::WriteFault,
-            Played::NoMemory => return ReplayEnd::NoMemory,
-        }
+    match read_ahead(alloc, lines, source) {
+        Ahead::Line(line) => take_line(alloc, core, line, number, sink),
+        Ahead::Refused(cause) => Turn::Over(ReplayEnd::Script(number + 1, cause)),
+        Ahead::End => Turn::Over(ReplayEnd::Script(number + 1, Cause::Ended)),
+        Ahead::ReadFault => Turn::Over(ReplayEnd::ReadFault),
+        Ahead::NoMemory => Turn::Over(ReplayEnd::NoMemory),
     }
+}
+
+/// Sees what follows where as many lines were read as there may be.
+fn read_past<S: Source>(alloc: Global, lines: &mut LineReader, source: &mut S) -> ReplayEnd
+    ensures gives { ReadsPast (left_to lines.old (S.left source.old)) (S.left source.new) result }
+    ensures read { ReadRises (S.faults source.old) (S.faults source.new) result }
+    ensures write { IsReadEnd result }
+{
     match read_ahead(alloc, lines, source) {
         Ahead::Line(line) => {
             drop(line);
@@ -177,8 +218,54 @@ fn play_events<S: Source, K: Sink>(
     }
 }
 
-/// Writes the first line of a transcript, and plays the events of a setup, before which so many lines
-/// were read.
+/// Plays the events of a recording, from behind `go`, through the end of the text. So many lines were
+/// read before.
+fn play_events<S: Source, K: Sink>(
+    alloc: Global,
+    lines: &mut LineReader,
+    source: &mut S,
+    core: &mut Core,
+    first: u32,
+    sink: &mut K,
+) -> ReplayEnd
+    requires few { first ≤ most_lines }
+    ensures gives { GoesOn going core.old first (left_to lines.old (S.left source.old)) (S.left source.new) (K.held sink.old) (K.held sink.new) result }
+    ensures read { ReadRises (S.faults source.old) (S.faults source.new) result }
+    ensures write { WriteRises (K.faults sink.old) (K.faults sink.new) result }
+{
+    for number in first..MOST_LINES {
+        match play_line(alloc, lines, source, core, number, sink) {
+            Turn::Next => {}
+            Turn::Closed => return finish(alloc, lines, source, core, number + 1, sink),
+            Turn::Over(end) => return end,
+        }
+    }
+    read_past(alloc, lines, source)
+}
+
+/// Writes the first line of a transcript, and plays the events of a core without any, before which so
+/// many lines were read.
+fn play_core<S: Source, K: Sink>(
+    alloc: Global,
+    lines: &mut LineReader,
+    source: &mut S,
+    core: &mut Core,
+    first: u32,
+    sink: &mut K,
+) -> ReplayEnd
+    requires few { first ≤ most_lines }
+    requires nothing { core.old.journal ≡ [] }
+    ensures gives { (all : Option (List ℕ)) → WasSetUp all core.old.setup first (left_to lines.old (S.left source.old)) → ReplayGives all (S.left source.new) (K.held sink.old) (K.held sink.new) result }
+    ensures read { ReadRises (S.faults source.old) (S.faults source.new) result }
+    ensures write { WriteRises (K.faults sink.old) (K.faults sink.new) result }
+{
+    match write_all(sink, b"login-transcript 1\n") {
+        login_edge::WriteEnd::Done => play_events(alloc, lines, source, core, first, sink),
+        login_edge::WriteEnd::Fault => ReplayEnd::WriteFault,
+    }
+}
+
+/// Plays a setup, before which so many lines were read.
 fn play_setup<S: Source, K: Sink>(
     alloc: Global,
     lines: &mut LineReader,
@@ -187,21 +274,19 @@ fn play_setup<S: Source, K: Sink>(
     first: u32,
     sink: &mut K,
 ) -> ReplayEnd
-    requires users { AreUsers setup.users }
-    requires first { first ≡ length (lines_at going setup.users []) }
-    ensures gives { ReplayGives (option_map (λ rest. spelling (lines_at going setup.users []) ++ rest) (left_to lines.old (S.left source.old))) (S.left source.new) (K.held sink.old) (K.held sink.new) result }
+    requires few { first ≤ most_lines }
+    ensures gives { (all : Option (List ℕ)) → WasSetUp all setup first (left_to lines.old (S.left source.old)) → ReplayGives all (S.left source.new) (K.held sink.old) (K.held sink.new) result }
     ensures read { ReadRises (S.faults source.old) (S.faults source.new) result }
     ensures write { WriteRises (K.faults sink.old) (K.faults sink.new) result }
 {
-    let mut core = match Core::new(alloc, setup) {
-        Ok(core) => core,
-        Err(_) => return ReplayEnd::NoMemory,
-    };
-    match write_all(sink, b"login-transcript 1\n") {
-        login_edge::WriteEnd::Done => {}
-        login_edge::WriteEnd::Fault => return ReplayEnd::WriteFault,
+    match Core::new(alloc, setup) {
+        Ok(mut core) => {
+            let end = play_core(alloc, lines, source, &mut core, first, sink);
+            drop(core);
+            end
+        }
+        Err(_) => ReplayEnd::NoMemory,
     }
-    play_events(alloc, lines, source, &mut core, first, sink)
 }
 
 /// Replays a recording, without a word on the errors.
@@ -231,6 +316,7 @@ fn report_end<E: Sink>(refusal: RefusalLine, end: ReplayEnd, errors: &mut E)
     match end {
         ReplayEnd::Done => {}
         ReplayEnd::Script(number, cause) => report(errors, &refusal.of(number, cause)),
+        ReplayEnd::Full(count) => report(errors, &refusal.full(count)),
         ReplayEnd::ReadFault => report(errors, b"read fault\n"),
         ReplayEnd::WriteFault => report(errors, b"write fault\n"),
         ReplayEnd::NoMemory => report(errors, b"no memory\n"),

@@ -2,15 +2,16 @@
 
 ghost use Rattle.std.specs.Prelude.{◌≡◌, ◌+◌, ◌<◌, ◌≤◌, ◌++◌, ◌^◌, [], IfOk, length, vec_len, vec_capacity};
 ghost use Rattle.std.specs.Fmt.{decimal};
-ghost use Rattle.replay.specs.Reporting.{Reported, refusal};
+ghost use Rattle.replay.specs.Reporting.{Reported, refusal, full_line, error_line};
 
 use crate::cause::Cause;
 use login_edge::{Sink, write_all};
+use login_model::Count;
 use std::alloc::{AllocError, Global};
 
 /// Puts a number in digits at the end, without memory.
 #[tactic(auto, using(crate::proofs::Decimals::of_digits))]
-fn push_decimal(out: &mut Vec<u8>, n: u32)
+fn push_decimal(out: &mut Vec<u8>, n: u64)
     requires { vec_len out.old + length (decimal n) ≤ vec_capacity out.old }
     ensures items { out.new.items ≡ out.old.items ++ decimal n }
     ensures len { vec_len out.new ≡ vec_len out.old + length (decimal n) }
@@ -34,19 +35,19 @@ fn push_text(out: &mut Vec<u8>, text: &[u8])
     out.extend_from_slice(text).unwrap();
 }
 
-/// The line of a refusal. Its memory is taken before it is needed.
+/// The line of a refused line, or of a full journal. Its memory is taken before it is needed.
 #[derive(Drop)]
 pub struct RefusalLine {
     text: Vec<u8>,
     ghost empty: { text.items ≡ [] },
     ghost unused: { vec_len text ≡ 0 },
-    ghost room: { 32 ≤ vec_capacity text },
+    ghost room: { 40 ≤ vec_capacity text },
 }
 
 impl RefusalLine {
     /// Room for the line of a refusal.
     pub fn new(alloc: Global) -> Result<RefusalLine, AllocError> {
-        let text = Vec::with_capacity(alloc, 32)?;
+        let text = Vec::with_capacity(alloc, 40)?;
         Ok(RefusalLine { text })
     }
 
@@ -56,9 +57,31 @@ impl RefusalLine {
     {
         let RefusalLine { mut text } = self;
         push_text(&mut text, b"line ");
-        push_decimal(&mut text, line);
+        push_decimal(&mut text, line as u64);
         push_text(&mut text, b": ");
         push_text(&mut text, cause.word());
+        push_text(&mut text, b"\n");
+        text
+    }
+
+    /// The line of a full journal, without memory.
+    pub fn full(self, count: Count) -> Vec<u8>
+        ensures { result.items ≡ full_line count }
+    {
+        match count {
+            Count::Entries(number) => self.counted(b"full entries ", number),
+            Count::Marks(number) => self.counted(b"full marks ", number),
+        }
+    }
+
+    /// A line of a word or two and a number, without memory.
+    fn counted(self, words: &[u8], number: u64) -> Vec<u8>
+        requires { length words.now ≤ 13 }
+        ensures { result.items ≡ words.now ++ error_line (decimal number) }
+    {
+        let RefusalLine { mut text } = self;
+        push_text(&mut text, words);
+        push_decimal(&mut text, number);
         push_text(&mut text, b"\n");
         text
     }

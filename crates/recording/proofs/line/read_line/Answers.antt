@@ -1,19 +1,21 @@
-use Rattle.std.proofs.Common.{◌≡◌, ◌≤◌, ◌++◌, ◌∷◌, [], ap, sym, ◌∙◌, map, Some, List, ℕ, length, length-append, arith, inl, inr}
-use Rattle.recording.specs.declared.line.LineFault.TheVariants.{TooLong, Ended}
+use Rattle.std.proofs.Common.{◌≡◌, ◌≤◌, ◌++◌, ◌∷◌, [], ap, sym, ◌∙◌, map, Some, ℕ, length, inl, inr}
+use Rattle.recording.specs.declared.line.LineFault.TheVariants.{TooLong, Ended, ExtraWord}
 use Rattle.recording.specs.Causes.{line_fault}
-use Rattle.recording.proofs.Causes.{too_long_before, too_long_whole, has_ended, nothing_ended, cause_of_words, found_unbuilt}
 use Rattle.recording.specs.Readings.{line_of}
-use Rattle.recording.proofs.ReadBytes.{each_byte, read_found, read_unbuilt, misfit_refused}
-use Rattle.recording.proofs.Grammar.{read_again, unbuilt_again, built_faultless, unbuilt_faultless, misfit_unbuilt}
+use Rattle.recording.proofs.Causes.{too_long_before, too_long_whole, has_ended, nothing_ended, more_than_line, cause_of_words, found_unbuilt}
+use Rattle.recording.proofs.ReadBytes.{each_byte, read_so, read_found, read_fits, read_unbuilt}
+use Rattle.recording.proofs.Grammar.{read_again, unbuilt_again, built_faultless, unbuilt_faultless, misfit_unread, misfit_unbuilt}
 use Rattle.recording.proofs.line.read_line.Goals.{then-text-gt-LONGEST-via-then-text-gt-LONGEST, then-text-gt-LONGEST-via-else-text-gt-LONGEST+then-bytes-gt-LONGEST}
 use Rattle.recording.proofs.line.read_line.Goals.{Joined-then-text-gt-LONGEST}
 use Rattle.recording.proofs.line.read_line.Goals as goal
 
 pub returns-in_default-clause-cause : goal.returns-in_default-clause-cause
-returns-in_default-clause-cause c fault e h k = let is : line_fault c.args.bytes.now ≡ Some Ended = nothing_ended c.args.bytes.now c.in_default.ensures.cases in cc
+returns-in_default-clause-cause c fault e h k =
+    let is : line_fault c.args.bytes.now ≡ Some Ended = nothing_ended c.args.bytes.now c.in_default.ensures.cases in
+    cc
 
 pub returns-in_default-clause-read : goal.returns-in_default-clause-read
-returns-in_default-clause-read c line h s = absurd (built_faultless c.args.bytes.now Ended (nothing_ended c.args.bytes.now c.in_default.ensures.cases) line h s)
+returns-in_default-clause-read c line h = absurd (built_faultless c.args.bytes.now Ended (nothing_ended c.args.bytes.now c.in_default.ensures.cases) line h)
 
 pub returns-in_default-clause-unbuilt : goal.returns-in_default-clause-unbuilt
 returns-in_default-clause-unbuilt c u = absurd (unbuilt_faultless c.args.bytes.now Ended (nothing_ended c.args.bytes.now c.in_default.ensures.cases) u)
@@ -25,10 +27,12 @@ is_too_long c = elim c.then-text-gt-LONGEST.branch [
 ]
 
 pub returns-then-text-gt-LONGEST-clause-cause : goal.returns-then-text-gt-LONGEST-clause-cause
-returns-then-text-gt-LONGEST-clause-cause c fault e h k = let is = is_too_long c in cc
+returns-then-text-gt-LONGEST-clause-cause c fault e h k =
+    let is : line_fault c.args.bytes.now ≡ Some TooLong = is_too_long c in
+    cc
 
 pub returns-then-text-gt-LONGEST-clause-read : goal.returns-then-text-gt-LONGEST-clause-read
-returns-then-text-gt-LONGEST-clause-read c line h s = absurd (built_faultless c.args.bytes.now TooLong (is_too_long c) line h s)
+returns-then-text-gt-LONGEST-clause-read c line h = absurd (built_faultless c.args.bytes.now TooLong (is_too_long c) line h)
 
 pub returns-then-text-gt-LONGEST-clause-unbuilt : goal.returns-then-text-gt-LONGEST-clause-unbuilt
 returns-then-text-gt-LONGEST-clause-unbuilt c u = absurd (unbuilt_faultless c.args.bytes.now TooLong (is_too_long c) u)
@@ -40,21 +44,30 @@ returns-then-not-is_whole-2-clause-cause c fault e h k =
     cc
 
 pub returns-then-not-is_whole-2-clause-read : goal.returns-then-not-is_whole-2-clause-read
-returns-then-not-is_whole-2-clause-read c line h s =
+returns-then-not-is_whole-2-clause-read c line h =
     let short : length c.args.bytes.now ≤ 16384 = elim c.if-bytes-gt-LONGEST.either [ inl x ↦ x.1 | inr x ↦ absurd (c.if-not-is_whole-2.true x) ] in
-    let is : line_fault c.args.bytes.now ≡ Some Ended = has_ended c.args.bytes.now c.in-Some.text.now c.in-Some.last.now c.in-Some.ensures.cases.0 c.if-not-is_whole-2.true short in
-    absurd (built_faultless c.args.bytes.now Ended is line h s)
+    absurd (built_faultless c.args.bytes.now Ended (has_ended c.args.bytes.now c.in-Some.text.now c.in-Some.last.now c.in-Some.ensures.cases.0 c.if-not-is_whole-2.true short) line h)
 
 pub returns-then-not-is_whole-2-clause-unbuilt : goal.returns-then-not-is_whole-2-clause-unbuilt
 returns-then-not-is_whole-2-clause-unbuilt c u =
     let short : length c.args.bytes.now ≤ 16384 = elim c.if-bytes-gt-LONGEST.either [ inl x ↦ x.1 | inr x ↦ absurd (c.if-not-is_whole-2.true x) ] in
-    let is : line_fault c.args.bytes.now ≡ Some Ended = has_ended c.args.bytes.now c.in-Some.text.now c.in-Some.last.now c.in-Some.ensures.cases.0 c.if-not-is_whole-2.true short in
-    absurd (unbuilt_faultless c.args.bytes.now Ended is u)
+    absurd (unbuilt_faultless c.args.bytes.now Ended (has_ended c.args.bytes.now c.in-Some.text.now c.in-Some.last.now c.in-Some.ensures.cases.0 c.if-not-is_whole-2.true short) u)
+
+pub returns-then-has_feed-clause-cause : goal.returns-then-has_feed-clause-cause
+returns-then-has_feed-clause-cause c fault e h k =
+    let is : line_fault c.args.bytes.now ≡ Some ExtraWord = more_than_line c.args.bytes.now c.in-Some.text.now c.in-Some.last.now c.in-Some.ensures.cases.0 c.if-not-is_whole-2.false c.if-text-gt-LONGEST.false (sym c.has_feed.ensures ∙ c.if-has_feed.true) in
+    cc
+
+pub returns-then-has_feed-clause-read : goal.returns-then-has_feed-clause-read
+returns-then-has_feed-clause-read c line h = absurd (built_faultless c.args.bytes.now ExtraWord (more_than_line c.args.bytes.now c.in-Some.text.now c.in-Some.last.now c.in-Some.ensures.cases.0 c.if-not-is_whole-2.false c.if-text-gt-LONGEST.false (sym c.has_feed.ensures ∙ c.if-has_feed.true)) line h)
+
+pub returns-then-has_feed-clause-unbuilt : goal.returns-then-has_feed-clause-unbuilt
+returns-then-has_feed-clause-unbuilt c u = absurd (unbuilt_faultless c.args.bytes.now ExtraWord (more_than_line c.args.bytes.now c.in-Some.text.now c.in-Some.last.now c.in-Some.ensures.cases.0 c.if-not-is_whole-2.false c.if-text-gt-LONGEST.false (sym c.has_feed.ensures ∙ c.if-has_feed.true)) u)
 
 pub returns-in-Err-Misfit-clause-read : goal.returns-in-Err-Misfit-clause-read
-returns-in-Err-Misfit-clause-read c line h s = absurd (misfit_refused c.args.bytes.now c.in-Some.text.now
+returns-in-Err-Misfit-clause-read c line h = absurd (misfit_unread c.args.bytes.now c.in-Some.text.now
     (c.in-Some.ensures.cases.0 ∙ ap (λ (b : ℕ). c.in-Some.text.now ++ b ∷ []) c.if-not-is_whole-2.false)
-    (sym (ap line_of (ap (map (λ word. word.now)) c.deref.ensures.value ∙ c.in-Ok.ensures)) ∙ rw c.in-Err-Misfit.field-0-is at c.in-Err-Misfit.ensures) line h s)
+    (sym (ap line_of (ap (map (λ word. word.now)) c.deref.ensures.value ∙ c.in-Ok.ensures)) ∙ rw c.in-Err-Misfit.field-0-is at c.in-Err-Misfit.ensures) line h)
 
 pub returns-in-Err-Misfit-clause-unbuilt : goal.returns-in-Err-Misfit-clause-unbuilt
 returns-in-Err-Misfit-clause-unbuilt c u = absurd (misfit_unbuilt c.args.bytes.now c.in-Some.text.now
@@ -63,16 +76,26 @@ returns-in-Err-Misfit-clause-unbuilt c u = absurd (misfit_unbuilt c.args.bytes.n
 
 pub returns-in-Err-Misfit-clause-cause : goal.returns-in-Err-Misfit-clause-cause
 returns-in-Err-Misfit-clause-cause c fault e h k =
-    cause_of_words c.args.bytes.now c.in-Some.text.now c.in-Some.last.now (map (λ word. word.now) c.deref-in-Err-Misfit.result.now) c.refusal.result fault c.in-Some.ensures.cases.0 c.if-not-is_whole-2.false c.if-text-gt-LONGEST.false
+    cause_of_words c.args.bytes.now c.in-Some.text.now c.in-Some.last.now (map (λ word. word.now) c.deref-in-Err-Misfit.result.now) c.refusal.result fault c.in-Some.ensures.cases.0 c.if-not-is_whole-2.false c.if-text-gt-LONGEST.false (sym c.has_feed.ensures ∙ c.if-has_feed.false)
     (ap (map (λ word. word.now)) c.deref-in-Err-Misfit.ensures.value ∙ c.in-Ok.ensures) c.refusal.ensures e h
 
 pub returns-in-Err-Misfit-clause-not_built : goal.returns-in-Err-Misfit-clause-not_built
 returns-in-Err-Misfit-clause-not_built c e = absurd (found_unbuilt (map (λ word. word.now) c.deref-in-Err-Misfit.result.now) c.refusal.result c.refusal.ensures e)
 
 pub returns-in-Ok-read_words-clause-found : goal.returns-in-Ok-read_words-clause-found
-returns-in-Ok-read_words-clause-found c = read_found c.args.bytes.now c.in-Some.text.now c.in-Ok-read_words.line c.built.result
-    (c.in-Some.ensures.cases.0 ∙ ap (λ (b : ℕ). c.in-Some.text.now ++ b ∷ []) c.if-not-is_whole-2.false) c.if-text-gt-LONGEST.false (each_byte c.args.bytes.now c.type_inv.bytes)
-    (sym (ap line_of (ap (map (λ word. word.now)) c.deref.ensures.value ∙ c.in-Ok.ensures)) ∙ c.in-Ok-read_words.ensures) c.built.ensures
+returns-in-Ok-read_words-clause-found c = read_found c.args.bytes.now c.in-Ok-read_words.line c.built.result (read_so c.args.bytes.now c.in-Some.text.now c.in-Ok-read_words.line
+    (c.in-Some.ensures.cases.0 ∙ ap (λ (b : ℕ). c.in-Some.text.now ++ b ∷ []) c.if-not-is_whole-2.false) c.if-text-gt-LONGEST.false (sym c.has_feed.ensures ∙ c.if-has_feed.false) (each_byte c.args.bytes.now c.type_inv.bytes)
+    (sym (ap line_of (ap (map (λ word. word.now)) c.deref.ensures.value ∙ c.in-Ok.ensures)) ∙ c.in-Ok-read_words.ensures)) c.built.ensures
+
+pub returns-in-Ok-read_words-clause-fits : goal.returns-in-Ok-read_words-clause-fits
+returns-in-Ok-read_words-clause-fits c = read_fits c.args.bytes.now c.in-Ok-read_words.line c.built.result (read_so c.args.bytes.now c.in-Some.text.now c.in-Ok-read_words.line
+    (c.in-Some.ensures.cases.0 ∙ ap (λ (b : ℕ). c.in-Some.text.now ++ b ∷ []) c.if-not-is_whole-2.false) c.if-text-gt-LONGEST.false (sym c.has_feed.ensures ∙ c.if-has_feed.false) (each_byte c.args.bytes.now c.type_inv.bytes)
+    (sym (ap line_of (ap (map (λ word. word.now)) c.deref.ensures.value ∙ c.in-Ok.ensures)) ∙ c.in-Ok-read_words.ensures)) c.built.ensures
+
+pub returns-in-Ok-read_words-clause-not_built : goal.returns-in-Ok-read_words-clause-not_built
+returns-in-Ok-read_words-clause-not_built c = read_unbuilt c.args.bytes.now c.in-Ok-read_words.line c.built.result (read_so c.args.bytes.now c.in-Some.text.now c.in-Ok-read_words.line
+    (c.in-Some.ensures.cases.0 ∙ ap (λ (b : ℕ). c.in-Some.text.now ++ b ∷ []) c.if-not-is_whole-2.false) c.if-text-gt-LONGEST.false (sym c.has_feed.ensures ∙ c.if-has_feed.false) (each_byte c.args.bytes.now c.type_inv.bytes)
+    (sym (ap line_of (ap (map (λ word. word.now)) c.deref.ensures.value ∙ c.in-Ok.ensures)) ∙ c.in-Ok-read_words.ensures)) c.built.ensures
 
 pub returns-in-Ok-read_words-clause-read : goal.returns-in-Ok-read_words-clause-read
 returns-in-Ok-read_words-clause-read c = read_again c.args.bytes.now c.in-Some.text.now c.in-Ok-read_words.line c.built.result
@@ -82,9 +105,4 @@ returns-in-Ok-read_words-clause-read c = read_again c.args.bytes.now c.in-Some.t
 pub returns-in-Ok-read_words-clause-unbuilt : goal.returns-in-Ok-read_words-clause-unbuilt
 returns-in-Ok-read_words-clause-unbuilt c = unbuilt_again c.args.bytes.now c.in-Some.text.now c.in-Ok-read_words.line c.built.result
     (c.in-Some.ensures.cases.0 ∙ ap (λ (b : ℕ). c.in-Some.text.now ++ b ∷ []) c.if-not-is_whole-2.false)
-    (sym (ap line_of (ap (map (λ word. word.now)) c.deref.ensures.value ∙ c.in-Ok.ensures)) ∙ c.in-Ok-read_words.ensures) c.built.ensures
-
-pub returns-in-Ok-read_words-clause-not_built : goal.returns-in-Ok-read_words-clause-not_built
-returns-in-Ok-read_words-clause-not_built c = read_unbuilt c.args.bytes.now c.in-Some.text.now c.in-Ok-read_words.line c.built.result
-    (c.in-Some.ensures.cases.0 ∙ ap (λ (b : ℕ). c.in-Some.text.now ++ b ∷ []) c.if-not-is_whole-2.false) c.if-text-gt-LONGEST.false (each_byte c.args.bytes.now c.type_inv.bytes)
     (sym (ap line_of (ap (map (λ word. word.now)) c.deref.ensures.value ∙ c.in-Ok.ensures)) ∙ c.in-Ok-read_words.ensures) c.built.ensures

@@ -1,0 +1,136 @@
+// The greatest lengths of texts and lines, the greatest numbers, and how many users there may be.
+
+use crate::running::{accept, joined, replay};
+use login_base::NoMemory;
+use std::alloc::Global;
+use std::test::Fail;
+
+/// A text of so many letters between two other texts.
+fn framed(alloc: Global, front: &[u8], letters: usize, rest: &[u8]) -> Result<Vec<u8>, NoMemory> {
+    let middle = vec![in alloc; b'a'; letters]?;
+    joined(alloc, &[front, middle.as_slice(), rest])
+}
+
+#[test]
+fn texts_and_lines_have_a_greatest_length(rt: HostRuntime) -> Result<(), Fail> {
+    let alloc = rt.alloc();
+    let user = "login-recording 1\nuser 1 1 ";
+    let exit = "login-recording 1\ngo\nexit ";
+    let cases = [
+        (user, 255, "\ngo\nend\n", 0, ""),
+        (user, 256, "\ngo\nend\n", 2, "line 2: bad-name\n"),
+        (exit, 512, "\nend\n", 0, ""),
+        (exit, 513, "\nend\n", 2, "line 3: bad-name\n"),
+        (user, 16_375, "\ngo\nend\n", 2, "line 2: bad-name\n"),
+        (user, 16_376, "\ngo\nend\n", 2, "line 2: too-long\n"),
+        (user, 16_375, "", 2, "line 2: ended\n"),
+        (user, 16_376, "", 2, "line 2: too-long\n"),
+        (user, 100_000, "\ngo\nend\n", 2, "line 2: too-long\n"),
+    ];
+    for (front, letters, rest, status, errors) in cases {
+        let text = framed(alloc, front.as_bytes(), letters, rest.as_bytes())?;
+        let run = replay(alloc, text.as_slice())?;
+        assert_eq!(rt; run.status, status, "at {letters} bytes");
+        assert_eq!(rt; run.errors(), errors.as_bytes(), "at {letters} bytes");
+    }
+    Ok(())
+}
+
+/// A call whose text is longer than any may be is another call, and the line is none of its own.
+#[test]
+fn calls_with_longer_texts_have_bad_arguments(rt: HostRuntime) -> Result<(), Fail> {
+    let alloc = rt.alloc();
+    let call = "login-recording 1\ngo\nconnect 1 0\ncall 1 1 uncontrol ";
+    let connected = "login-transcript 1\n1 connect 1 0\n granted\n set conn 1 0\n";
+    let kept = framed(
+        alloc,
+        b"2 call 1 1 uncontrol ",
+        512,
+        b"\n denied P04 no-such-session\nend 2\n",
+    )?;
+    let dropped = b"2 call 1 1 bad-args\n denied P03 bad-arguments\nend 2\n";
+    for (letters, block) in [(512, kept.as_slice()), (513, dropped.as_slice())] {
+        let text = framed(alloc, call.as_bytes(), letters, b"\nend\n")?;
+        let want = joined(alloc, &[connected.as_bytes(), block])?;
+        let run = replay(alloc, text.as_slice())?;
+        assert_eq!(rt; run.status, 0, "at {letters} bytes");
+        assert_eq!(rt; run.output(), want.as_slice(), "at {letters} bytes");
+    }
+    Ok(())
+}
+
+/// The greatest number of each type.
+const NUMBERS: &str = "\
+login-recording 1
+user 4294967295 4294967295 nobody
+go
+connect 4294967295 4294967295
+call 4294967295 4294967295 kill c1 all -2147483648
+call 4294967295 4294967295 kill c1 all 2147483647
+call 4294967295 4294967295 kill-user 4294967295 1
+call 4294967295 4294967295 close 4294967295
+vtkey 4294967295
+exit c4294967295
+tick 18446744073709551615
+tick 0
+end
+";
+
+/// Its transcript.
+const NUMBERS_TRANSCRIPT: &str = "\
+login-transcript 1
+1 connect 4294967295 4294967295
+ granted
+ set conn 4294967295 4294967295
+2 call 4294967295 4294967295 kill c1 all -2147483648
+ denied P04 no-such-session
+3 call 4294967295 4294967295 kill c1 all 2147483647
+ denied P04 no-such-session
+4 call 4294967295 4294967295 kill-user 4294967295 1
+ denied P05 no-such-user
+5 call 4294967295 4294967295 close 4294967295
+ denied P07 no-such-handle
+6 vtkey 4294967295
+ denied P03 bad-arguments
+7 exit c4294967295
+ denied P04 no-such-session
+8 tick 18446744073709551615
+ granted
+ set now 18446744073709551615
+9 tick 0
+ denied P33 clock-backwards 18446744073709551615
+end 9
+";
+
+#[test]
+fn the_greatest_numbers(rt: HostRuntime) -> Result<(), Fail> {
+    accept(&rt, rt.alloc(), NUMBERS, NUMBERS_TRANSCRIPT)
+}
+
+/// A recording of a setup with so many users beside root, and no event.
+fn users(alloc: Global, count: u32) -> Result<Vec<u8>, NoMemory> {
+    let mut text = Vec::from_slice(alloc, b"login-recording 1\n")?;
+    for uid in 1..=count {
+        let line = format!(in alloc; "user {uid} {uid} u{uid}\n")?;
+        text.extend_from_slice(line.as_bytes())?;
+    }
+    text.extend_from_slice(b"go\nend\n")?;
+    Ok(text)
+}
+
+#[test]
+fn a_setup_has_a_greatest_number_of_users(rt: HostRuntime) -> Result<(), Fail> {
+    let alloc = rt.alloc();
+    let cases = [
+        (1024, 0, "login-transcript 1\nend 0\n", ""),
+        (1025, 2, "", "line 1026: wrong-place\n"),
+    ];
+    for (count, status, output, errors) in cases {
+        let text = users(alloc, count)?;
+        let run = replay(alloc, text.as_slice())?;
+        assert_eq!(rt; run.status, status, "at {count} users");
+        assert_eq!(rt; run.output(), output.as_bytes(), "at {count} users");
+        assert_eq!(rt; run.errors(), errors.as_bytes(), "at {count} users");
+    }
+    Ok(())
+}

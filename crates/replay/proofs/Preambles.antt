@@ -1,0 +1,152 @@
+-- Laws of the lines of a preamble.
+use Rattle.std.proofs.Common.{◌≡◌, ◌≤◌, ◌+◌, ℕ, List, [], ◌∷◌, ◌++◌, length, length-append, refl, arith, ap, ◌∙◌, subst, append_assoc, append-nil, Option, Some, None}
+use Rattle.login_model.specs.declared.setup.UserRow.{UserRow}
+use Rattle.recording.specs.declared.line.Line.{Line}
+use Rattle.recording.specs.declared.line.Line.TheVariants.{Header, Guid, User, Conf, Action, Go, Event, Link, In, Hangup, End}
+use Rattle.recording.specs.Lines.{IsLine}
+use Rattle.replay.specs.PreambleLines.{guid_in, users_in, MayFollow, IsPreambleAfter, IsPreamble}
+use Rattle.replay.specs.Front.{headed, takes_at}
+
+-- the line that comes after some lines of a preamble may follow them
+preamble_at : (before ls : List Line) (l : Line) (rest : List Line) → IsPreambleAfter before (ls ++ (l ∷ rest)) → MayFollow (before ++ ls) l
+preamble_at before [] l rest h = rw append-nil h.1
+preamble_at before (x ∷ ls) l rest h = subst (λ (b : List Line). MayFollow b l) (append_assoc before (x ∷ []) ls) (preamble_at (before ++ x ∷ []) ls l rest h.2)
+
+more_after : (before ls : List Line) (l : Line) → IsPreambleAfter before ls → IsLine l → MayFollow (before ++ ls) l → IsPreambleAfter before (ls ++ l ∷ [])
+more_after before [] l h f m = (f, subst (λ (b : List Line). MayFollow b l) (append-nil before) m, tt)
+more_after before (x ∷ ls) l h f m =
+    let there : MayFollow ((before ++ x ∷ []) ++ ls) l = rw append_assoc m in
+    (h.0, h.1, more_after (before ++ x ∷ []) ls l h.2 f there)
+
+-- one more line
+pub preamble_more : (ls : List Line) (l : Line) → IsPreamble ls → IsLine l → MayFollow ls l → IsPreamble (ls ++ l ∷ [])
+preamble_more ls l h f m = more_after [] ls l h f m
+
+-- what may follow in a preamble may come next
+follows_takes : (ls : List Line) (l : Line) → MayFollow ls l → takes_at headed ls [] l
+follows_takes ls (Guid guid) h = h
+follows_takes ls (User row) h = h
+follows_takes ls (Header version) h = absurd h
+follows_takes ls (Conf text) h = absurd h
+follows_takes ls (Action text) h = absurd h
+follows_takes ls Go h = absurd h
+follows_takes ls (Event e) h = absurd h
+follows_takes ls (Link c u) h = absurd h
+follows_takes ls (In c bytes) h = absurd h
+follows_takes ls (Hangup c) h = absurd h
+follows_takes ls End h = absurd h
+
+pub preamble_takes : (ls : List Line) (l : Line) (rest : List Line) → IsPreamble (ls ++ (l ∷ rest)) → takes_at headed ls [] l
+preamble_takes ls l rest h = follows_takes ls l (preamble_at [] ls l rest h)
+
+-- `go` is none of its lines
+no_go_after : (before : List Line) (l : Line) (rest : List Line) → IsPreambleAfter before (l ∷ rest) → l ≡ Go → ⊥
+no_go_after before l rest h e = let m : MayFollow before Go = subst (MayFollow before) e h.1 in m
+
+-- a preamble, and what stands behind it, where lines are the same
+pub record Apart (ls ms x y : List Line) : Type 0 where
+  pub preambles : ls ≡ ms
+  pub behind : x ≡ y
+
+apart_after : (before before' ls ms x y : List Line) → IsPreambleAfter before ls → IsPreambleAfter before' ms → ls ++ (Go ∷ x) ≡ ms ++ (Go ∷ y) → Apart ls ms x y
+apart_after before before' [] [] x y h k e = record { preambles = refl; behind = cc }
+apart_after before before' [] (m ∷ ms) x y h k e = let go : m ≡ Go = cc in absurd (no_go_after before' m ms k go)
+apart_after before before' (l ∷ ls) [] x y h k e = let go : l ≡ Go = cc in absurd (no_go_after before l ls h go)
+apart_after before before' (l ∷ ls) (m ∷ ms) x y h k e =
+    let same : l ≡ m = cc in
+    let t : ls ++ (Go ∷ x) ≡ ms ++ (Go ∷ y) = cc in
+    let a = apart_after (before ++ l ∷ []) (before' ++ m ∷ []) ls ms x y h.2 k.2 t in
+    record { preambles = ap (λ (v : Line). v ∷ ls) same ∙ ap (λ (vs : List Line). m ∷ vs) a.preambles; behind = a.behind }
+
+pub apart : (ls ms x y : List Line) → IsPreamble ls → IsPreamble ms → ls ++ (Go ∷ x) ≡ ms ++ (Go ∷ y) → Apart ls ms x y
+apart ls ms x y h k e = apart_after [] [] ls ms x y h k e
+
+-- what comes next in a preamble: a further line of it, or `go`
+data NextRow (all ls : List Line) (line : Line) : Type 0 where
+  goes : line ≡ Go → NextRow all ls line
+  further : (rest : List Line) → all ≡ ls ++ (line ∷ rest) → NextRow all ls line
+
+next_more : (l : Line) (all ls : List Line) (line : Line) → NextRow all ls line → NextRow (l ∷ all) (l ∷ ls) line
+next_more l all ls line (NextRow.goes e) = NextRow.goes e
+next_more l all ls line (NextRow.further rest e) = NextRow.further rest (ap (λ (t : List Line). l ∷ t) e)
+
+next_after : (before' all ls x more : List Line) (line : Line) → IsPreambleAfter before' ls → all ++ (Go ∷ x) ≡ ls ++ (line ∷ more) → NextRow all ls line
+next_after before' [] [] x more line h e = NextRow.goes (cc)
+next_after before' [] (l ∷ ls) x more line h e = let go : l ≡ Go = cc in absurd (no_go_after before' l ls h go)
+next_after before' (a ∷ all) [] x more line h e = let same : a ≡ line = cc in NextRow.further all (ap (λ (v : Line). v ∷ all) same)
+next_after before' (a ∷ all) (l ∷ ls) x more line h e =
+    let same : a ≡ l = cc in
+    let t : all ++ (Go ∷ x) ≡ ls ++ (line ∷ more) = cc in
+    subst (λ (v : Line). NextRow (a ∷ all) (v ∷ ls) line) same (next_more a all ls line (next_after (before' ++ l ∷ []) all ls x more line h.2 t))
+
+row_fits : (all ls : List Line) (line : Line) → IsPreamble all → NextRow all ls line → takes_at headed ls [] line
+row_fits all ls line h (NextRow.goes e) = rw e tt
+row_fits all ls line h (NextRow.further rest e) = preamble_takes ls line rest (subst IsPreamble e h)
+
+pub next_in_preamble : (all ls x more : List Line) (line : Line) → IsPreamble all → IsPreamble ls → all ++ (Go ∷ x) ≡ ls ++ (line ∷ more) → takes_at headed ls [] line
+next_in_preamble all ls x more line h k e = row_fits all ls line h (next_after [] all ls x more line k e)
+
+-- no preamble has `go` in it
+go_after : (before' ls all x : List Line) → IsPreambleAfter before' ls → all ++ (Go ∷ x) ≡ ls → ⊥
+go_after before' [] [] x h e = cc
+go_after before' [] (a ∷ all) x h e = cc
+go_after before' (l ∷ ls) [] x h e = let go : l ≡ Go = cc in no_go_after before' l ls h go
+go_after before' (l ∷ ls) (a ∷ all) x h e = let t : all ++ (Go ∷ x) ≡ ls = cc in go_after (before' ++ l ∷ []) ls all x h.2 t
+
+pub no_go : (ls all x : List Line) → IsPreamble ls → all ++ (Go ∷ x) ≡ ls → ⊥
+no_go ls all x h e = go_after [] ls all x h e
+
+-- what lines say, and an identity more
+pub guid_guid : (ls : List Line) (guid : List ℕ) → guid_in ls ≡ None → guid_in (ls ++ Guid guid ∷ []) ≡ Some guid
+guid_guid [] guid e = refl
+guid_guid (Guid other ∷ ls) guid e = cc
+guid_guid (_ ∷ ls) guid e = guid_guid ls guid e
+
+pub users_guid : (ls : List Line) (guid : List ℕ) → users_in (ls ++ Guid guid ∷ []) ≡ users_in ls
+users_guid [] guid = refl
+users_guid (User other ∷ ls) guid = ap (λ (rows : List UserRow). other ∷ rows) (users_guid ls guid)
+users_guid (_ ∷ ls) guid = users_guid ls guid
+
+-- and a user more
+pub guid_user : (ls : List Line) (row : UserRow) → guid_in (ls ++ User row ∷ []) ≡ guid_in ls
+guid_user [] row = refl
+guid_user (Guid other ∷ ls) row = refl
+guid_user (_ ∷ ls) row = guid_user ls row
+
+pub users_user : (ls : List Line) (row : UserRow) → users_in (ls ++ User row ∷ []) ≡ users_in ls ++ row ∷ []
+users_user [] row = refl
+users_user (User other ∷ ls) row = ap (λ (rows : List UserRow). other ∷ rows) (users_user ls row)
+users_user (_ ∷ ls) row = users_user ls row
+
+abbrev given : Option (List ℕ) → ℕ
+given None = 0
+given (Some guid) = 1
+
+given_one : (o : Option (List ℕ)) → given o ≤ 1
+given_one None = omega arith
+given_one (Some guid) = omega arith
+
+few_after : (before ls : List Line) → IsPreambleAfter before ls → length (users_in before) ≤ 1024 → length ls + length (users_in before) + given (guid_in before) ≤ 1025
+few_after before [] h few = omega (arith, few, given_one (guid_in before))
+few_after before (Guid guid ∷ ls) h few =
+    let users : length (users_in (before ++ Guid guid ∷ [])) ≡ length (users_in before) = ap length (users_guid before guid) in
+    let one : given (guid_in (before ++ Guid guid ∷ [])) ≡ 1 = ap given (guid_guid before guid h.1) in
+    let none : given (guid_in before) ≡ 0 = ap given h.1 in
+    omega (arith, users, one, none, few_after (before ++ Guid guid ∷ []) ls h.2 (omega (arith, users, few)))
+few_after before (User row ∷ ls) h few =
+    let users : length (users_in (before ++ User row ∷ [])) ≡ length (users_in before) + 1 = ap length (users_user before row) ∙ length-append (users_in before) (row ∷ []) in
+    let same : given (guid_in (before ++ User row ∷ [])) ≡ given (guid_in before) = ap given (guid_user before row) in
+    omega (arith, users, same, few_after (before ++ User row ∷ []) ls h.2 (omega (arith, users, h.1.1)))
+few_after before (Header version ∷ ls) h few = absurd h.1
+few_after before (Conf text ∷ ls) h few = absurd h.1
+few_after before (Action text ∷ ls) h few = absurd h.1
+few_after before (Go ∷ ls) h few = absurd h.1
+few_after before (Event e ∷ ls) h few = absurd h.1
+few_after before (Link c u ∷ ls) h few = absurd h.1
+few_after before (In c bytes ∷ ls) h few = absurd h.1
+few_after before (Hangup c ∷ ls) h few = absurd h.1
+few_after before (End ∷ ls) h few = absurd h.1
+
+-- a preamble has at most one identity and 1024 users
+pub few_lines : (ls : List Line) → IsPreamble ls → length ls ≤ 1025
+few_lines ls h = omega (arith, few_after [] ls h (omega arith))

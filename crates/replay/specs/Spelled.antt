@@ -1,0 +1,18 @@
+-- Recordings that are spelled line by line.
+use Rattle.std.specs.Prelude.{ℕ, ◌≤◌, List, length}
+use Rattle.std.specs.List.{flat_map}
+use Rattle.login_model.specs.declared.mark.Entry.{Entry}
+use Rattle.recording.specs.declared.line.Line.{Line}
+use Rattle.recording.specs.Lines.{spell}
+use Rattle.replay.specs.PreambleLines.{setup_of}
+use Rattle.replay.specs.Recording.{recording, IsPlay, HasRoom, most_lines}
+use Rattle.replay.specs.Outcome.{IsRecordingText}
+
+-- the bytes of lines
+abbrev pub spelling : List Line → List ℕ
+spelling lines = flat_map spell lines
+
+-- a preamble and a legal journal, spelled, are a recording
+abbrev pub SpelledIsRecording : Type 0
+SpelledIsRecording = (preamble : List Line) (journal : List Entry) → IsPlay preamble journal → HasRoom (setup_of preamble) journal
+    → length (recording preamble journal) ≤ most_lines → IsRecordingText (spelling (recording preamble journal))
