@@ -22,11 +22,14 @@ use Rattle.bus_value.proofs.BasicSpelled.{not_less}
 use Rattle.std.specs.Prelude.{FitsSigned}
 use Rattle.bus_value.specs.declared.order.Order.{Order}
 use Rattle.bus_value.specs.BasicValues.{kind_of}
-use Rattle.bus_value.specs.Spelling.{number_bytes, pad_size, padding, alignment, text_bytes, signature_bytes, basic_bytes, basic_spelling}
-use Rattle.bus_value.specs.Faults.{told, cut_off, and_then, zeros, check_padding, short_padding}
-use Rattle.bus_value.specs.BasicReading.{number, size, text_size, signature_size, whole, body_size, ends_with_zero, is_text, text_in, text_at, path_by, path_at, types_by, types_in, bool_by, decoded}
+use Rattle.bus_value.specs.Numbers.{number_bytes, number}
+use Rattle.bus_value.specs.Spelling.{pad_size, padding, text_bytes, signature_bytes, basic_bytes, basic_spelling}
+use Rattle.bus_value.specs.Alignment.{alignment}
+use Rattle.bus_value.specs.BasicReading.{size, text_size, signature_size, whole, body_size, ends_with_zero, text_in, text_at, path_by, path_at, types_by, types_in, bool_by, decoded}
+use Rattle.bus_value.specs.Texts.{is_text}
 use Rattle.bus_value.specs.Reading.{Reading, Answer, made, padded, read_body, read_basic}
-use Rattle.bus_value.specs.Grammar.{IsLegal}
+use Rattle.bus_value.proofs.Typing.{IsLegal}
+use Rattle.bus_value.specs.Faults.{told, cut_off, and_then, zeros, check_padding, short_padding}
 use Rattle.bus_value.proofs.Padding.{zeros-cons}
 use Rattle.bus_value.proofs.NumberSound.{AreBytes, back_2, back_4, back_8, bound_2, bound_4, bound_8, same_front}
 

@@ -4,10 +4,11 @@ use Rattle.bus_names.specs.declared.basic.Basic.{Basic}
 use Rattle.bus_value.specs.declared.basic_value.BasicValue.{BasicValue}
 use Rattle.bus_value.specs.declared.fault.ValueFault.{ValueFault}
 use Rattle.bus_value.specs.declared.order.Order.{Order}
-use Rattle.bus_value.specs.Spelling.{pad_size, alignment}
-use Rattle.bus_value.specs.Faults.{and_then, check_padding}
+use Rattle.bus_value.specs.Spelling.{pad_size}
+use Rattle.bus_value.specs.Alignment.{alignment}
 use Rattle.bus_value.specs.BasicReading.{body_size, decoded}
 use Rattle.bus_value.specs.Reading.{Reading, padded, read_body, read_basic}
+use Rattle.bus_value.specs.Faults.{and_then, check_padding}
 
 pub and_then_ok : {A B : Type 0} (r : Result A ValueFault) (a : A) (f : A → Result B ValueFault) → r ≡ Ok a → and_then r f ≡ f a
 and_then_ok r a f e = ap (λ x. and_then x f) e

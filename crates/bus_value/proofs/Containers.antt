@@ -9,12 +9,13 @@ use Rattle.bus_value.specs.declared.fault.ValueFault.{ValueFault}
 use Rattle.bus_value.specs.declared.fault.ValueFault.TheVariants.{NoMemory}
 use Rattle.bus_value.specs.declared.reader.Reader.{Reader}
 use Rattle.bus_value.specs.declared.reader.containers.Elements.{Elements}
-use Rattle.bus_value.specs.Spelling.{pad_size, boundary}
+use Rattle.bus_value.specs.Spelling.{pad_size}
+use Rattle.bus_value.specs.Alignment.{boundary}
+use Rattle.bus_value.specs.BasicReading.{body_size, types_in}
+use Rattle.bus_value.specs.Reading.{Reading, Answer, made, read_basic, read_variant, read_array, read_elements, read_pair, element_bytes, read, read_entry, to_end, in_turn, levels, variant_type}
 use Rattle.bus_value.specs.Values.{Val, vals, entries}
 use Rattle.bus_value.specs.Values as values
 use Rattle.bus_value.specs.Faults.{told, and_then, check_padding}
-use Rattle.bus_value.specs.BasicReading.{body_size, types_in}
-use Rattle.bus_value.specs.Reading.{Reading, Answer, made, read_basic, read_variant, read_array, read_elements, read_pair, element_bytes, read, read_entry, to_end, in_turn, levels, variant_type}
 use Rattle.bus_value.specs.Opening.{Opens, OpensAt}
 use Rattle.bus_value.proofs.Chains.{and_then_ok, padded_at}
 use Rattle.bus_value.proofs.Levels.{variant_level, array_level, dict_level, entry_level, struct_level}

@@ -6,9 +6,10 @@ use Rattle.bus_value.specs.declared.basic_value.BasicValue.{BasicValue}
 use Rattle.bus_value.specs.declared.basic_value.BasicValue.TheVariants.{Byte, Bool as Boolean, I16, U16, I32, U32, I64, U64, Double, Str, Path, Sig, Handle}
 use Rattle.bus_value.specs.declared.order.Order.{Order}
 use Rattle.bus_value.specs.Values.{Val, Vals, Entries, basic, array, struct, dict, variant, none, more, no_entries, entry, shape}
-use Rattle.bus_value.specs.Spelling.{pad_size, boundary, first_element, spelling, signature_bytes, pair_bytes, value_at}
+use Rattle.bus_value.specs.Spelling.{pad_size, first_element, spelling, signature_bytes, pair_bytes, value_at}
+use Rattle.bus_value.specs.Alignment.{boundary}
+use Rattle.bus_value.proofs.Typing.{IsLegal, HasType, AllHave, EachHas, EntriesHave}
 use Rattle.bus_value.specs.Limits.{HasRoom, Fits, AllFit, EntriesFit}
-use Rattle.bus_value.specs.Grammar.{IsLegal, HasType, AllHave, EachHas, EntriesHave}
 
 has_room : (a : BasicValue) → IsLegal a → HasRoom a
 has_room (Byte n) h = omega arith

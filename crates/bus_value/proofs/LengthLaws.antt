@@ -1,5 +1,5 @@
 -- How long spellings are.
-use Rattle.std.proofs.Common.{◌≡◌, ℕ, ◌+◌, List, [], ◌∷◌, ◌++◌, length, length-append, refl, ap, sym, ◌∙◌, cond, arith, w16, w32, w64}
+use Rattle.std.proofs.Common.{◌≡◌, ℕ, ◌+◌, List, [], ◌∷◌, ◌++◌, length, length-append, refl, ap, ◌∙◌, cond, arith, w16, w32, w64}
 use Rattle.std.specs.Int.{cast_unsigned}
 use Rattle.std.proofs.lemmas.List.{length-replicate}
 use Rattle.bus_names.specs.Types.{signature_text}
@@ -8,7 +8,9 @@ use Rattle.bus_value.specs.declared.basic_value.BasicValue.TheVariants.{Byte, Bo
 use Rattle.bus_value.specs.declared.order.Order.{Order}
 use Rattle.bus_value.specs.BasicValues.{kind_of}
 use Rattle.bus_value.specs.Values.{Val, Vals, Entries, basic, array, struct, dict, variant, none, more, no_entries, entry, shape, vals}
-use Rattle.bus_value.specs.Spelling.{number_bytes, pad_size, padding, alignment, boundary, text_bytes, signature_bytes, basic_bytes, basic_spelling, behind_length, first_element, array_bytes, key_at, value_at, pair_bytes, spelling, spellings, entry_spellings}
+use Rattle.bus_value.specs.Numbers.{number_bytes}
+use Rattle.bus_value.specs.Spelling.{pad_size, padding, signature_bytes, basic_bytes, basic_spelling, behind_length, first_element, array_bytes, key_at, value_at, pair_bytes, spelling, spellings, entry_spellings}
+use Rattle.bus_value.specs.Alignment.{alignment, boundary}
 use Rattle.bus_value.specs.Lengths.{basic_size, basic_end, value_end, values_end, entries_end}
 use Rattle.bus_value.proofs.NumberLaws.{width_2, width_4, width_8}
 use Rattle.bus_value.proofs.BasicSpelled.{text_length}

@@ -3,10 +3,10 @@ use Rattle.std.proofs.Common.{◌≡◌, ℕ, suc, ◌+◌, ◌<◌, ◌≤◌, 
 use Rattle.bus_names.specs.declared.basic.Basic.{Basic}
 use Rattle.bus_names.specs.Types.{Shape, basic, variant, array, dict, struct_of, fields_of, listed}
 use Rattle.bus_value.specs.declared.order.Order.{Order}
-use Rattle.bus_value.specs.Spelling.{boundary}
+use Rattle.bus_value.specs.Alignment.{boundary}
+use Rattle.bus_value.specs.Reading.{made, padded, read_basic, read_variant, read_array, read_pair, read, read_entry, to_end, in_turn, levels}
 use Rattle.bus_value.specs.Values.{Val, vals, entries}
 use Rattle.bus_value.specs.Values as values
-use Rattle.bus_value.specs.Reading.{made, padded, read_basic, read_variant, read_array, read_pair, read, read_entry, to_end, in_turn, levels}
 
 next_level : (d : ℕ) → d ≤ 97 → levels d ≡ suc (levels (d + 1))
 next_level d h = omega arith

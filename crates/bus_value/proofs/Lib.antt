@@ -1,4 +1,5 @@
 pub mod Texts
+pub mod Typing
 pub mod Rows
 pub mod Padding
 pub mod Chains
@@ -13,5 +14,11 @@ pub mod ValueSpelled
 pub mod NumberSound
 pub mod BasicSound
 pub mod ValueSound
+pub mod BasicRules
+pub mod Rules
+pub mod RulesHold
 pub mod Fitting
+pub mod TypesHold
 pub mod LengthLaws
+pub mod GrammarLaws
+pub mod TypedLaws

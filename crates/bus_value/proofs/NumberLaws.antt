@@ -5,8 +5,7 @@ use Rattle.std.proofs.lemmas.Nat.{from_le_bytes-to_le_bytes_2, from_le_bytes-to_
 use Rattle.byteorder.specs.Endian.{little_number, big_number}
 use Rattle.bus_value.specs.declared.order.Order.{Order}
 use Rattle.bus_value.specs.declared.order.Order.TheVariants.{Little, Big}
-use Rattle.bus_value.specs.Spelling.{number_bytes}
-use Rattle.bus_value.specs.BasicReading.{number}
+use Rattle.bus_value.specs.Numbers.{number_bytes, number}
 
 pub little_2 : (bs : List ℕ) → little_number 2 bs ≡ from_le_bytes w16 bs
 little_2 bs = omega arith

@@ -3,8 +3,7 @@ use Rattle.std.proofs.Common.{◌≡◌, ℕ, ◌<◌, ◌≤◌, ◌^◌, List,
 use Rattle.std.proofs.lemmas.Nat.{le_bytes_2, le_bytes_4, le_bytes_8, be_bytes_2, be_bytes_4, be_bytes_8}
 use Rattle.bus_value.specs.declared.order.Order.{Order}
 use Rattle.bus_value.specs.declared.order.Order.TheVariants.{Little, Big}
-use Rattle.bus_value.specs.Spelling.{number_bytes}
-use Rattle.bus_value.specs.BasicReading.{number}
+use Rattle.bus_value.specs.Numbers.{number_bytes, number}
 use Rattle.bus_value.proofs.NumberLaws.{little_2, little_4, little_8, big_2, big_4, big_8}
 
 abbrev pub AreBytes : List ℕ → Type 0

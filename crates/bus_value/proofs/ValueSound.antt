@@ -14,11 +14,15 @@ use Rattle.bus_value.specs.declared.fault.ValueFault.TheVariants.{BadLength, Bad
 use Rattle.bus_value.specs.declared.order.Order.{Order}
 use Rattle.bus_value.specs.BasicValues.{kind_of}
 use Rattle.bus_value.specs.Values.{Val, basic, array, struct, dict, variant, shape, shapes, vals, entries}
-use Rattle.bus_value.specs.Spelling.{number_bytes, pad_size, padding, boundary, signature_bytes, basic_spelling, first_element, array_bytes, key_at, value_at, pair_bytes, spelling, spellings, entry_spellings}
+use Rattle.bus_value.specs.Numbers.{number_bytes, number}
+use Rattle.bus_value.specs.Spelling.{pad_size, padding, signature_bytes, basic_spelling, first_element, array_bytes, key_at, value_at, pair_bytes, spelling, spellings, entry_spellings}
+use Rattle.bus_value.specs.Alignment.{boundary}
+use Rattle.bus_value.specs.BasicReading.{body_size, types_in}
+use Rattle.bus_value.specs.Reading.{Reading, Answer, made, padded, read_basic, read_variant, read_array, read_elements, read_pair, element_bytes, read, read_entry, all_of, to_end, in_turn, variant_type, levels, ended, read_all}
+use Rattle.bus_value.specs.Nesting.{nesting}
+use Rattle.bus_value.proofs.Typing.{IsLegal, HasType, AllHave, EachHas, EntriesHave}
+use Rattle.bus_value.proofs.Typing.{IsComputed}
 use Rattle.bus_value.specs.Faults.{told, cut_off, and_then, zeros}
-use Rattle.bus_value.specs.BasicReading.{number, body_size, types_in}
-use Rattle.bus_value.specs.Reading.{Reading, Answer, made, padded, read_basic, read_variant, read_array, read_elements, read_pair, element_bytes, read, read_entry, all_of, to_end, in_turn, nesting, variant_type, levels, ended, read_all}
-use Rattle.bus_value.specs.Grammar.{IsLegal, HasType, AllHave, EachHas, EntriesHave, Spells}
 use Rattle.bus_value.proofs.NumberSound.{AreBytes, back_4, same_front}
 use Rattle.bus_value.proofs.NumberLaws.{width_4}
 use Rattle.bus_value.proofs.Rounds.{all_of-end, all_of-cons, in_turn-end, in_turn-cons}
@@ -35,7 +39,7 @@ pub record Found (o : Order) (d at : ℕ) (t : Shape) (bytes : List ℕ) (v : Va
 abbrev pub IsSound : Order → ℕ → Shape → Reading Val → Type 0
 IsSound o d t f = (at : ℕ) (bytes : List ℕ) (v : Val) (at2 : ℕ) (rest : List ℕ) → AreBytes bytes → f at bytes ≡ Ok (v, (at2, rest)) → Found o d at t bytes v at2 rest
 
-has_shape : (v : Val) (o : Order) (d at : ℕ) (t : Shape) → HasType o d at t v → t ≡ shape v
+pub has_shape : (v : Val) (o : Order) (d at : ℕ) (t : Shape) → HasType o d at t v → t ≡ shape v
 has_shape (basic a) o d at t h = h.0
 has_shape (array u vs) o d at t h = h.0
 has_shape (struct vs) o d at t h = h.0
@@ -294,7 +298,7 @@ entries_sound f o d b t s (suc most) at (c ∷ bs) xs few h e =
     subst (λ (ys : List (BasicValue × Val)). EntriesHave o d at b t (entries ys) × (c ∷ bs ≡ entry_spellings o at (entries ys))) (ok_same (p ∷ r.0) xs r.1.1)
     (((found.kind, (found.legal, found.typed)), here.0), found.same ∙ ap (λ (x : List ℕ). one ++ x) here.1)
 
-fields_again : (ts : Shapes) → fields_of (listed ts) ≡ ts
+pub fields_again : (ts : Shapes) → fields_of (listed ts) ≡ ts
 fields_again types.none = refl
 fields_again (types.more t ts) = ap (λ (us : Shapes). types.more t us) (fields_again ts)
 
@@ -376,7 +380,7 @@ all_ended (Ok (us, (at, b ∷ bs))) vs e = cc
 all_ended (Err x) vs e = cc
 
 -- what is read is spelled
-pub all_values_sound : (o : Order) (start : ℕ) (ts : List Shape) (bytes : List ℕ) (vs : List Val) → AreBytes bytes → read_all o start ts bytes ≡ Ok vs → Spells o start ts vs bytes
+pub all_values_sound : (o : Order) (start : ℕ) (ts : List Shape) (bytes : List ℕ) (vs : List Val) → AreBytes bytes → read_all o start ts bytes ≡ Ok vs → IsComputed o start ts vs bytes
 unfolding read_all
 all_values_sound o start ts bytes vs h e =
     let r = all_ended (in_turn (read (levels 0) o 0 None) ts start bytes) vs e in

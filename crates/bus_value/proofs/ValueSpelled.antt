@@ -18,11 +18,15 @@ use Rattle.bus_value.specs.declared.order.Order.{Order}
 use Rattle.bus_value.specs.declared.order.Order.TheVariants.{Little, Big}
 use Rattle.bus_value.specs.BasicValues.{kind_of}
 use Rattle.bus_value.specs.Values.{Val, Vals, Entries, basic, array, struct, dict, variant, none, more, no_entries, entry, shape, shapes, vals, entries}
-use Rattle.bus_value.specs.Spelling.{number_bytes, pad_size, padding, alignment, boundary, signature_bytes, basic_bytes, basic_spelling, behind_length, first_element, array_bytes, key_at, value_at, pair_bytes, spelling, spellings, entry_spellings}
+use Rattle.bus_value.specs.Numbers.{number_bytes, number}
+use Rattle.bus_value.specs.Spelling.{pad_size, padding, signature_bytes, basic_bytes, basic_spelling, behind_length, first_element, array_bytes, key_at, value_at, pair_bytes, spelling, spellings, entry_spellings}
+use Rattle.bus_value.specs.Alignment.{alignment, boundary}
+use Rattle.bus_value.specs.BasicReading.{body_size, types_in}
+use Rattle.bus_value.specs.Reading.{Reading, Answer, made, padded, read_basic, read_variant, read_array, read_elements, read_pair, element_bytes, read, read_entry, all_of, to_end, in_turn, variant_type, levels, ended, read_all}
+use Rattle.bus_value.specs.Nesting.{nesting, nesting_all}
+use Rattle.bus_value.proofs.Typing.{IsLegal, HasType, AllHave, EachHas, EntriesHave}
+use Rattle.bus_value.proofs.Typing.{IsComputed}
 use Rattle.bus_value.specs.Faults.{told, cut_off, and_then, zeros}
-use Rattle.bus_value.specs.BasicReading.{number, body_size, types_in}
-use Rattle.bus_value.specs.Reading.{Reading, Answer, made, padded, read_basic, read_variant, read_array, read_elements, read_pair, element_bytes, read, read_entry, all_of, to_end, in_turn, nesting, nesting_all, variant_type, levels, ended, read_all}
-use Rattle.bus_value.specs.Grammar.{IsLegal, HasType, AllHave, EachHas, EntriesHave, Spells}
 use Rattle.bus_value.proofs.Chains.{and_then_ok}
 use Rattle.bus_value.proofs.NumberLaws.{spelled_4, width_2, width_4, width_8}
 use Rattle.bus_value.proofs.Rounds.{all_of-end, all_of-step, in_turn-end, in_turn-cons}
@@ -321,7 +325,7 @@ mutual
       ∙ ap (λ r. and_then r (λ xs. Ok ((a, v) ∷ xs))) (entries_spelled es most (suc left) o d around b t next h.1 n e (omega (arith, k, l, few)))
 
 -- what is spelled is read
-pub all_values_spelled : (o : Order) (start : ℕ) (ts : List Shape) (vs : List Val) (bytes : List ℕ) → IsWithin ts → Spells o start ts vs bytes → read_all o start ts bytes ≡ Ok vs
+pub all_values_spelled : (o : Order) (start : ℕ) (ts : List Shape) (vs : List Val) (bytes : List ℕ) → IsWithin ts → IsComputed o start ts vs bytes → read_all o start ts bytes ≡ Ok vs
 unfolding read_all
 all_values_spelled o start ts vs bytes within s =
     let nest : nesting_all (shapes (vals vs)) ≤ 97 = subst (λ (us : List Shape). nesting_all us ≤ 97) (sym s.types) (nesting_within ts within) in
@@ -330,6 +334,6 @@ all_values_spelled o start ts vs bytes within s =
     ∙ ap (λ (r : Answer (List Val)). ended r) (each_spelled (vals vs) (levels 0) o 0 None start [] s.legal (omega (arith, nest)) (omega arith)) ∙ ap (λ (us : List Val). Ok us) (list_again vs)
 
 -- no two value lists have the same spelling
-pub one_reading : (o : Order) (start : ℕ) (ts : List Shape) (vs ws : List Val) (bytes : List ℕ) → IsWithin ts → Spells o start ts vs bytes → Spells o start ts ws bytes → vs ≡ ws
-one_reading o start ts vs ws bytes within s u =
+pub one_reading_of : (o : Order) (start : ℕ) (ts : List Shape) (vs ws : List Val) (bytes : List ℕ) → IsWithin ts → IsComputed o start ts vs bytes → IsComputed o start ts ws bytes → vs ≡ ws
+one_reading_of o start ts vs ws bytes within s u =
     let same : Ok vs ≡ Ok ws = sym (all_values_spelled o start ts vs bytes within s) ∙ all_values_spelled o start ts ws bytes within u in cc

@@ -1,9 +1,6 @@
 -- How values of basic types are read.
-use Rattle.std.specs.Prelude.{ℕ, ◌+◌, ◌-◌, ◌==◌, ◌&&◌, not, nat_lt, List, [], ◌∷◌, length, take, drop, slice_index, Bool, true, false, Option, Some, None, Result, Ok, Err, if◌then◌else◌}
+use Rattle.std.specs.Prelude.{ℕ, ◌+◌, ◌-◌, ◌==◌, ◌&&◌, nat_lt, List, [], ◌∷◌, length, take, drop, slice_index, Bool, true, false, Option, Some, None, Result, Ok, Err, if◌then◌else◌}
 use Rattle.std.specs.Int.{w16, w32, w64, cast_signed}
-use Rattle.std.specs.List.{list_all}
-use Rattle.std.specs.Str.{is_utf8}
-use Rattle.byteorder.specs.Endian.{little_number, big_number}
 use Rattle.bus_names.specs.declared.fault.NameFault.{NameFault}
 use Rattle.bus_names.specs.declared.basic.Basic.{Basic}
 use Rattle.bus_names.specs.declared.basic.Basic.TheVariants as kinds
@@ -15,13 +12,9 @@ use Rattle.bus_value.specs.declared.basic_value.BasicValue.TheVariants.{Byte, Bo
 use Rattle.bus_value.specs.declared.fault.ValueFault.{ValueFault}
 use Rattle.bus_value.specs.declared.fault.ValueFault.TheVariants.{BadBool, BadText}
 use Rattle.bus_value.specs.declared.order.Order.{Order}
-use Rattle.bus_value.specs.declared.order.Order.TheVariants.{Little, Big}
 use Rattle.bus_value.specs.Faults.{told, cut_off, and_then}
-
--- the number in the first n bytes
-abbrev pub number : Order → ℕ → List ℕ → ℕ
-number Little n bytes = little_number n bytes
-number Big n bytes = big_number n bytes
+use Rattle.bus_value.specs.Numbers.{number}
+use Rattle.bus_value.specs.Texts.{is_text}
 
 -- how many bytes a text has, with its length and the zero byte behind it, where its length is there
 abbrev pub text_size : Order → List ℕ → Option ℕ
@@ -77,13 +70,6 @@ text_in n body = take (length body - 1 - n) (drop n body)
 
 abbrev pub ends_with_zero : List ℕ → Bool
 ends_with_zero body = slice_index body (length body - 1) == 0
-
-abbrev pub has_no_zero : List ℕ → Bool
-has_no_zero text = list_all (λ b. not (b == 0)) text
-
--- UTF-8 with no zero byte
-abbrev pub is_text : List ℕ → Bool
-is_text text = is_utf8 text && has_no_zero text
 
 -- a text, with its length and the zero byte
 unfoldable pub text_at : ℕ → List ℕ → Result BasicValue ValueFault

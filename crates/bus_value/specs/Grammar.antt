@@ -1,67 +1,86 @@
--- Which bytes spell which values: the D-Bus Specification, "Marshaling (Wire Format)", with the limits on lengths and depth.
-use Rattle.std.specs.Prelude.{ℕ, ◌≡◌, ◌≤◌, ◌<◌, ◌+◌, ◌^◌, List, [], ◌∷◌, length, true, None, FitsSigned}
-use Rattle.std.specs.Int.{w16, w32, w64}
+-- Which bytes spell which values, by a rule for each type: the D-Bus Specification, "Marshaling (Wire Format)", with its
+-- limits on lengths and depth.
+use Rattle.std.specs.Prelude.{ℕ, ◌≡◌, ◌≤◌, ◌<◌, ◌+◌, ◌%◌, ◌^◌, List, [], ◌∷◌, ◌++◌, length, replicate, true, FitsSigned, if◌then◌else◌}
+use Rattle.std.specs.Int.{w16, w32, w64, cast_unsigned}
+use Rattle.login_base.specs.Names.{IsPath}
 use Rattle.bus_names.specs.declared.basic.Basic.{Basic}
-use Rattle.bus_names.specs.Types.{Shape, struct_of}
+use Rattle.bus_names.specs.declared.basic.Basic.TheVariants as kinds
+use Rattle.bus_names.specs.Types.{Shape, Shapes, listed, signature_text}
 use Rattle.bus_names.specs.Types as types
 use Rattle.bus_names.specs.Signatures.{IsWithin}
-use Rattle.bus_names.specs.Reading.{path_fault}
 use Rattle.bus_value.specs.declared.basic_value.BasicValue.{BasicValue}
-use Rattle.bus_value.specs.declared.basic_value.BasicValue.TheVariants.{Byte, Bool, I16, U16, I32, U32, I64, U64, Double, Str, Path, Sig, Handle}
+use Rattle.bus_value.specs.declared.basic_value.BasicValue.TheVariants.{Byte, Bool as Boolean, I16, U16, I32, U32, I64, U64, Double, Str, Path, Sig, Handle}
 use Rattle.bus_value.specs.declared.order.Order.{Order}
-use Rattle.bus_value.specs.BasicValues.{kind_of}
-use Rattle.bus_value.specs.Values.{Val, Vals, Entries, basic, array, struct, dict, variant, none, more, no_entries, entry, shape, shapes, vals}
-use Rattle.bus_value.specs.Spelling.{pad_size, boundary, first_element, spelling, spellings, entry_spellings, signature_bytes, pair_bytes, value_at}
-use Rattle.bus_value.specs.BasicReading.{is_text}
-use Rattle.bus_value.specs.Reading.{nesting}
+use Rattle.bus_value.specs.Values.{Val, Vals, Entries, vals, count}
+use Rattle.bus_value.specs.Values as values
+use Rattle.bus_value.specs.Alignment.{alignment, boundary}
+use Rattle.bus_value.specs.Nesting.{nesting}
+use Rattle.bus_value.specs.Numbers.{number_bytes}
+use Rattle.bus_value.specs.Texts.{is_text}
 
--- a value is one of its type
-abbrev pub IsLegal : BasicValue → Type 0
-IsLegal (Byte n) = n < 2 ^ 8
-IsLegal (Bool b) = Unit {0}
-IsLegal (I16 n) = FitsSigned w16 n
-IsLegal (U16 n) = n < 2 ^ 16
-IsLegal (I32 n) = FitsSigned w32 n
-IsLegal (U32 n) = n < 2 ^ 32
-IsLegal (I64 n) = FitsSigned w64 n
-IsLegal (U64 n) = n < 2 ^ 64
-IsLegal (Double bytes) = length bytes ≡ 8
-IsLegal (Str text) = (is_text text ≡ true) × (length text < 2 ^ 32)
-IsLegal (Path text) = (path_fault text ≡ None) × (length text < 2 ^ 32)
-IsLegal (Sig ts) = IsWithin ts
-IsLegal (Handle n) = n < 2 ^ 32
+-- from an offset on, zero bytes up to the next multiple of the boundary
+pub record IsPadding (at align : ℕ) (zeros : List ℕ) : Type 0 where
+  pub zero : zeros ≡ replicate (length zeros) 0
+  pub aligned : (at + length zeros) % align ≡ 0
+  pub least : length zeros < align
 
-abbrev mutual
-  -- The value has the type, where it stands at an offset in so many containers. An array has up to 2^26 bytes of elements;
-  -- a variant's signature is one of the format, and up to 64 containers are open in it.
-  pub HasType : Order → ℕ → ℕ → Shape → Val → Type 0
-  HasType o depth at t (basic a) = (t ≡ types.basic (kind_of a)) × IsLegal a
-  HasType o depth at t (array u vs) =
-      (t ≡ types.array u) × ((length (spellings o (first_element at (boundary u)) vs) ≤ 2 ^ 26) × AllHave o (depth + 1) (first_element at (boundary u)) u vs)
-  HasType o depth at t (struct vs) = (t ≡ struct_of (shapes vs)) × ((0 < length (shapes vs)) × EachHas o (depth + 1) (at + pad_size at 8) vs)
-  HasType o depth at t (dict b u es) =
-      (t ≡ types.dict b u) × ((length (entry_spellings o (first_element at 8) es) ≤ 2 ^ 26) × EntriesHave o (depth + 2) (first_element at 8) b u es)
-  HasType o depth at t (variant v) =
-      (t ≡ types.variant) × ((depth + 1 + nesting (shape v) ≤ 64) × (IsWithin (shape v ∷ []) × HasType o (depth + 1) (at + length (signature_bytes (shape v ∷ []))) (shape v) v))
+-- a value of a basic type, behind its padding
+pub data IsBasic (o : Order) : Basic → BasicValue → List ℕ → Type 0 where
+  byte : {n : ℕ} → n < 2 ^ 8 → IsBasic o kinds.Byte (Byte n) (n ∷ [])
+  boolean : {b : _} → IsBasic o kinds.Bool (Boolean b) (number_bytes o 4 (if b then 1 else 0))
+  int16 : {n : _} → FitsSigned w16 n → IsBasic o kinds.I16 (I16 n) (number_bytes o 2 (cast_unsigned w16 n))
+  uint16 : {n : ℕ} → n < 2 ^ 16 → IsBasic o kinds.U16 (U16 n) (number_bytes o 2 n)
+  int32 : {n : _} → FitsSigned w32 n → IsBasic o kinds.I32 (I32 n) (number_bytes o 4 (cast_unsigned w32 n))
+  uint32 : {n : ℕ} → n < 2 ^ 32 → IsBasic o kinds.U32 (U32 n) (number_bytes o 4 n)
+  int64 : {n : _} → FitsSigned w64 n → IsBasic o kinds.I64 (I64 n) (number_bytes o 8 (cast_unsigned w64 n))
+  uint64 : {n : ℕ} → n < 2 ^ 64 → IsBasic o kinds.U64 (U64 n) (number_bytes o 8 n)
+  -- the eight bytes of a double are kept as they stand
+  double : {bytes : List ℕ} → length bytes ≡ 8 → IsBasic o kinds.Double (Double bytes) bytes
+  -- UTF-8 with no zero byte inside: its length, the text and a zero byte
+  string : {text : List ℕ} → is_text text ≡ true → length text < 2 ^ 32 → IsBasic o kinds.Str (Str text) (number_bytes o 4 (length text) ++ (text ++ 0 ∷ []))
+  -- the same of the path of an object
+  path : {text : List ℕ} → IsPath text → length text < 2 ^ 32 → IsBasic o kinds.Path (Path text) (number_bytes o 4 (length text) ++ (text ++ 0 ∷ []))
+  -- a length in one byte, the letters and a zero byte
+  signature : {ts : List Shape} → IsWithin ts → IsBasic o kinds.Sig (Sig ts) (length (signature_text ts) ∷ (signature_text ts ++ 0 ∷ []))
+  -- the index of a file descriptor
+  handle : {n : ℕ} → n < 2 ^ 32 → IsBasic o kinds.Handle (Handle n) (number_bytes o 4 n)
 
-  -- all values have the one type
-  pub AllHave : Order → ℕ → ℕ → Shape → Vals → Type 0
-  AllHave o depth at t none = Unit {0}
-  AllHave o depth at t (more v vs) = HasType o depth at t v × AllHave o depth (at + length (spelling o at v)) t vs
+-- a dict entry is a struct of its key and its value
+abbrev pub pair_type : Basic → Shape → Shape
+pair_type b t = types.struct (types.basic b) (types.more t types.none)
 
-  -- each value has a type of its own
-  pub EachHas : Order → ℕ → ℕ → Vals → Type 0
-  EachHas o depth at none = Unit {0}
-  EachHas o depth at (more v vs) = HasType o depth at (shape v) v × EachHas o depth (at + length (spelling o at v)) vs
+abbrev pub pairs : Entries → Vals
+pairs values.no_entries = values.none
+pairs (values.entry a v es) = values.more (values.struct (values.more (values.basic a) (values.more v values.none))) (pairs es)
 
-  -- all keys have the one type, and all values the other
-  pub EntriesHave : Order → ℕ → ℕ → Basic → Shape → Entries → Type 0
-  EntriesHave o depth at b t no_entries = Unit {0}
-  EntriesHave o depth at b t (entry a v es) =
-      ((b ≡ kind_of a) × (IsLegal a × HasType o depth (value_at o at a) t v)) × EntriesHave o depth (at + length (pair_bytes o at a (spelling o (value_at o at a) v))) b t es
+mutual
+  -- In an order of bytes and in so many open containers, the bytes, which stand from an offset on, spell a value of the type.
+  pub data IsSpelled (o : Order) : ℕ → ℕ → Shape → Val → List ℕ → Type 0 where
+    -- A basic type: padding to its boundary, and the value.
+    basic : {depth at : ℕ} {b : Basic} {a : BasicValue} {zeros body : List ℕ} → IsPadding at (alignment b) zeros → IsBasic o b a body →
+        IsSpelled o depth at (types.basic b) (values.basic a) (zeros ++ body)
+    -- An array: padding to 4, a length, padding to the boundary of the elements' type, and the elements, all of this type.
+    -- The length is that of the elements alone, and at most 2^26.
+    array : {depth at : ℕ} {t : Shape} {vs : Vals} {zeros gap elements : List ℕ} → IsPadding at 4 zeros → IsPadding (at + length zeros + 4) (boundary t) gap → length elements ≤ 2 ^ 26 →
+        AreSpelled o (depth + 1) (at + length zeros + 4 + length gap) (replicate (count vs) t) vs elements →
+        IsSpelled o depth at (types.array t) (values.array t vs) (zeros ++ (number_bytes o 4 (length elements) ++ (gap ++ elements)))
+    -- A struct: padding to 8, and the fields.
+    struct : {depth at : ℕ} {t : Shape} {ts : Shapes} {vs : Vals} {zeros fields : List ℕ} → IsPadding at 8 zeros → AreSpelled o (depth + 1) (at + length zeros) (t ∷ listed ts) vs fields →
+        IsSpelled o depth at (types.struct t ts) (values.struct vs) (zeros ++ fields)
+    -- A dict: the array of its entries.
+    dict : {depth at : ℕ} {b : Basic} {t : Shape} {es : Entries} {bytes : List ℕ} → IsSpelled o depth at (types.array (pair_type b t)) (values.array (pair_type b t) (pairs es)) bytes →
+        IsSpelled o depth at (types.dict b t) (values.dict b t es) bytes
+    -- A variant: the signature of the value's type, and the value. The containers that are open, the variant and those
+    -- in this type are at most 64.
+    variant : {depth at : ℕ} {t : Shape} {v : Val} {letters body : List ℕ} → IsBasic o kinds.Sig (Sig (t ∷ [])) letters → depth + 1 + nesting t ≤ 64 →
+        IsSpelled o (depth + 1) (at + length letters) t v body → IsSpelled o depth at types.variant (values.variant v) (letters ++ body)
+
+  -- the same of values of several types, one behind the other
+  pub data AreSpelled (o : Order) : ℕ → ℕ → List Shape → Vals → List ℕ → Type 0 where
+    none : {depth at : ℕ} → AreSpelled o depth at [] values.none []
+    more : {depth at : ℕ} {t : Shape} {ts : List Shape} {v : Val} {vs : Vals} {first others : List ℕ} → IsSpelled o depth at t v first →
+        AreSpelled o depth (at + length first) ts vs others → AreSpelled o depth at (t ∷ ts) (values.more v vs) (first ++ others)
 
 -- the bytes, which stand from an offset on, spell values of these types
-pub record Spells (o : Order) (start : ℕ) (ts : List Shape) (vs : List Val) (bytes : List ℕ) : Type 0 where
-  pub types : shapes (vals vs) ≡ ts
-  pub legal : EachHas o 0 start (vals vs)
-  pub spelled : bytes ≡ spellings o start (vals vs)
+abbrev pub Spells : Order → ℕ → List Shape → List Val → List ℕ → Type 0
+Spells o start ts vs bytes = AreSpelled o 0 start ts (vals vs) bytes

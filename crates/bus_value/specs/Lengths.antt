@@ -5,7 +5,8 @@ use Rattle.bus_value.specs.declared.basic_value.BasicValue.{BasicValue}
 use Rattle.bus_value.specs.declared.basic_value.BasicValue.TheVariants.{Byte, Bool, I16, U16, I32, U32, I64, U64, Double, Str, Path, Sig, Handle}
 use Rattle.bus_value.specs.BasicValues.{kind_of}
 use Rattle.bus_value.specs.Values.{Val, Vals, Entries, basic, array, struct, dict, variant, none, more, no_entries, entry, shape}
-use Rattle.bus_value.specs.Spelling.{pad_size, alignment, boundary, first_element, key_at}
+use Rattle.bus_value.specs.Spelling.{pad_size, first_element, key_at}
+use Rattle.bus_value.specs.Alignment.{alignment, boundary}
 
 -- how many bytes a basic value has behind its padding
 abbrev pub basic_size : BasicValue → ℕ

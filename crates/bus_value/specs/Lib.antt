@@ -12,5 +12,10 @@ pub mod BasicReading
 pub mod Reading
 pub mod Answers
 pub mod Opening
+pub mod Nesting
+pub mod Numbers
+pub mod Texts
 pub mod Grammar
 pub mod Lengths
+pub mod Typed
+pub mod Laws

@@ -5,7 +5,8 @@ use Rattle.bus_value.specs.declared.basic_value.BasicValue.{BasicValue}
 use Rattle.bus_value.specs.declared.basic_value.BasicValue.TheVariants.{Byte, Bool, I16, U16, I32, U32, I64, U64, Double, Str, Path, Sig, Handle}
 use Rattle.bus_value.specs.declared.order.Order.{Order}
 use Rattle.bus_value.specs.Values.{Val, Vals, Entries, basic, array, struct, dict, variant, none, more, no_entries, entry, shape}
-use Rattle.bus_value.specs.Spelling.{pad_size, boundary, first_element, spelling, spellings, entry_spellings, signature_bytes, pair_bytes, value_at}
+use Rattle.bus_value.specs.Spelling.{pad_size, first_element, spelling, spellings, entry_spellings, signature_bytes, pair_bytes, value_at}
+use Rattle.bus_value.specs.Alignment.{boundary}
 
 -- a text's length is a number of four bytes
 abbrev pub HasRoom : BasicValue → Type 0

@@ -4,8 +4,8 @@ use Rattle.bus_value.specs.declared.fault.ValueFault.{ValueFault}
 use Rattle.bus_value.specs.declared.reader.Reader.{Reader}
 use Rattle.bus_value.specs.declared.reader.containers.Elements.{Elements}
 use Rattle.bus_value.specs.Spelling.{pad_size}
-use Rattle.bus_value.specs.Faults.{told, and_then, check_padding}
 use Rattle.bus_value.specs.Reading.{element_bytes}
+use Rattle.bus_value.specs.Faults.{told, and_then, check_padding}
 
 -- the array's length stands at the place, and is read there
 pub record OpensAt (a : Elements) (r : Reader) (bytes : List ℕ) (at align place : ℕ) : Type 0 where

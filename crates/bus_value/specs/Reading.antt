@@ -1,17 +1,20 @@
 -- How values are read, from the left: the values, or the first fault that the reading meets.
-use Rattle.std.specs.Prelude.{ℕ, zero, suc, ◌+◌, ◌-◌, ◌^◌, ◌&&◌, ◌||◌, nat_lt, nat_le, max, Bool, false, List, [], ◌∷◌, length, take, drop, Option, Some, None, is_some, Result, Ok, Err, if◌then◌else◌}
+use Rattle.std.specs.Prelude.{ℕ, zero, suc, ◌+◌, ◌-◌, ◌^◌, ◌&&◌, ◌||◌, nat_lt, nat_le, Bool, false, List, [], ◌∷◌, length, take, drop, Option, Some, None, is_some, Result, Ok, Err, if◌then◌else◌}
 use Rattle.bus_names.specs.declared.basic.Basic.{Basic}
 use Rattle.bus_names.specs.declared.basic.Basic.TheVariants as kinds
-use Rattle.bus_names.specs.Types.{Shape, Shapes, basic, variant, array, dict, struct, none, more, listed}
+use Rattle.bus_names.specs.Types.{Shape, basic, variant, array, dict, struct, listed}
 use Rattle.bus_value.specs.declared.basic_value.BasicValue.{BasicValue}
 use Rattle.bus_value.specs.declared.fault.ValueFault.{ValueFault}
 use Rattle.bus_value.specs.declared.fault.ValueFault.TheVariants.{BadLength, BadVariant, NoMemory}
 use Rattle.bus_value.specs.declared.order.Order.{Order}
-use Rattle.bus_value.specs.Spelling.{pad_size, alignment, boundary}
+use Rattle.bus_value.specs.Spelling.{pad_size}
+use Rattle.bus_value.specs.Alignment.{alignment, boundary}
+use Rattle.bus_value.specs.Nesting.{nesting}
+use Rattle.bus_value.specs.Numbers.{number}
+use Rattle.bus_value.specs.BasicReading.{body_size, decoded, types_in}
 use Rattle.bus_value.specs.Values.{Val, vals, entries}
 use Rattle.bus_value.specs.Values as values
 use Rattle.bus_value.specs.Faults.{told, cut_off, and_then, zeros, check_padding}
-use Rattle.bus_value.specs.BasicReading.{number, body_size, decoded, types_in}
 
 -- what was read, the offset behind it, and the bytes from there on
 abbrev pub Answer : Type 0 → Type 0
@@ -77,19 +80,6 @@ unfoldable pub read_pair : Order → Option ℕ → Basic → Reading Val → Re
 read_pair o around b f at bytes =
     padded around 8 (λ at bytes. and_then (read_basic o around b at bytes) (λ k. made (λ v. (k.0, v)) (f k.1.0 k.1.1))) at bytes
 
-abbrev mutual
-  -- how deep the containers of a type are nested: arrays, structs, dict entries, variants
-  pub nesting : Shape → ℕ
-  nesting (basic b) = 0
-  nesting variant = 1
-  nesting (array t) = nesting t + 1
-  nesting (dict b t) = nesting t + 2
-  nesting (struct t ts) = max (nesting t) (nesting_in ts) + 1
-
-  pub nesting_in : Shapes → ℕ
-  nesting_in none = 0
-  nesting_in (more t ts) = max (nesting t) (nesting_in ts)
-
 -- A variant's signature names one type. The containers that are open, the variant and those in this type are at most 64.
 abbrev pub variant_type : ℕ → ℕ → List Shape → Result Shape ValueFault
 variant_type depth at [] = Err (BadVariant (told at))
@@ -124,11 +114,6 @@ unfoldable mutual
   pub read_entry : ℕ → Order → ℕ → Option ℕ → Basic → Shape → Reading (BasicValue × Val)
   read_entry zero o depth around b t at bytes = Err NoMemory
   read_entry (suc left) o depth around b t at bytes = read_pair o around b (read left o (depth + 1) around t) at bytes
-
--- the same of several types
-abbrev pub nesting_all : List Shape → ℕ
-nesting_all [] = 0
-nesting_all (t ∷ ts) = max (nesting t) (nesting_all ts)
 
 -- up to 97 containers can be open: 32 arrays with a dict entry in each, 32 structs and a variant
 abbrev pub levels : ℕ → ℕ

@@ -1,45 +1,14 @@
 -- The bytes of values: the D-Bus Specification, "Marshaling (Wire Format)".
 use Rattle.std.specs.Prelude.{ℕ, ◌+◌, ◌-◌, ◌%◌, List, [], ◌∷◌, ◌++◌, length, replicate, if◌then◌else◌}
 use Rattle.std.specs.Int.{w16, w32, w64, cast_unsigned}
-use Rattle.byteorder.specs.Endian.{little_bytes, big_bytes}
-use Rattle.bus_names.specs.declared.basic.Basic.{Basic}
-use Rattle.bus_names.specs.declared.basic.Basic.TheVariants as kinds
 use Rattle.bus_names.specs.Types.{Shape, signature_text}
-use Rattle.bus_names.specs.Types as types
 use Rattle.bus_value.specs.declared.basic_value.BasicValue.{BasicValue}
 use Rattle.bus_value.specs.declared.basic_value.BasicValue.TheVariants.{Byte, Bool, I16, U16, I32, U32, I64, U64, Double, Str, Path, Sig, Handle}
 use Rattle.bus_value.specs.declared.order.Order.{Order}
-use Rattle.bus_value.specs.declared.order.Order.TheVariants.{Little, Big}
+use Rattle.bus_value.specs.Alignment.{alignment, boundary}
+use Rattle.bus_value.specs.Numbers.{number_bytes}
 use Rattle.bus_value.specs.BasicValues.{kind_of}
 use Rattle.bus_value.specs.Values.{Val, Vals, Entries, basic, array, struct, dict, variant, none, more, no_entries, entry, shape}
-
--- the bytes of a number
-abbrev pub number_bytes : Order → ℕ → ℕ → List ℕ
-number_bytes Little n x = little_bytes n x
-number_bytes Big n x = big_bytes n x
-
--- the boundary on which the values of a type begin
-abbrev pub alignment : Basic → ℕ
-alignment kinds.Byte = 1
-alignment kinds.Bool = 4
-alignment kinds.I16 = 2
-alignment kinds.U16 = 2
-alignment kinds.I32 = 4
-alignment kinds.U32 = 4
-alignment kinds.I64 = 8
-alignment kinds.U64 = 8
-alignment kinds.Double = 8
-alignment kinds.Str = 4
-alignment kinds.Path = 4
-alignment kinds.Sig = 1
-alignment kinds.Handle = 4
-
-abbrev pub boundary : Shape → ℕ
-boundary (types.basic b) = alignment b
-boundary types.variant = 1
-boundary (types.array t) = 4
-boundary (types.dict b t) = 4
-boundary (types.struct t ts) = 8
 
 -- how many bytes stand between an offset and the next boundary
 abbrev pub pad_size : ℕ → ℕ → ℕ

@@ -1,5 +1,5 @@
 -- Values of the D-Bus Specification ("Type System").
-use Rattle.std.specs.Prelude.{ℕ, ◌+◌, List, [], ◌∷◌}
+use Rattle.std.specs.Prelude.{ℕ, suc, ◌+◌, List, [], ◌∷◌}
 use Rattle.bus_names.specs.declared.basic.Basic.{Basic}
 use Rattle.bus_names.specs.Types.{Shape, struct_of}
 use Rattle.bus_names.specs.Types as types
@@ -26,6 +26,11 @@ mutual
 abbrev pub vals : List Val → Vals
 vals [] = none
 vals (v ∷ vs) = more v (vals vs)
+
+-- how many values there are
+abbrev pub count : Vals → ℕ
+count none = 0
+count (more v vs) = suc (count vs)
 
 abbrev pub entries : List (BasicValue × Val) → Entries
 entries [] = no_entries

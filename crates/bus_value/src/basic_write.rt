@@ -1,8 +1,8 @@
 // How values of basic types are written.
 
 ghost use Rattle.std.specs.Prelude.{◌≡◌, ◌+◌, ◌++◌, ◌<◌, ◌^◌, OnOk, length};
-ghost use Rattle.bus_value.specs.Spelling.{alignment, text_bytes, signature_bytes, basic_bytes, basic_spelling};
-ghost use Rattle.bus_value.specs.Alignment.{IsAlignment};
+ghost use Rattle.bus_value.specs.Alignment.{alignment, IsAlignment};
+ghost use Rattle.bus_value.specs.Spelling.{text_bytes, signature_bytes, basic_bytes, basic_spelling};
 ghost use Rattle.bus_value.specs.Limits.{HasRoom};
 ghost use Rattle.bus_value.specs.BasicValues.{kind_of};
 

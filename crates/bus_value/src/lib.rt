@@ -5,6 +5,7 @@
 mod basic_value;
 mod basic_write;
 mod fault;
+mod law;
 mod numbers;
 mod order;
 mod reader;
@@ -14,6 +15,8 @@ mod writing;
 
 pub use basic_value::BasicValue;
 pub use fault::ValueFault;
+pub use law::{has_spelling, one_reading, one_spelling, spelling_length};
+pub use numbers::{pad_size, push_padding, push_u32, read_u32};
 pub use order::Order;
 pub use reading::read_values;
 pub use value::{Value, ValueKind};

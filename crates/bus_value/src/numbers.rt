@@ -1,9 +1,9 @@
 // Numbers and padding as bytes.
 
 ghost use Rattle.std.specs.Prelude.{◌≡◌, ◌≤◌, ◌<◌, ◌+◌, ◌-◌, ◌^◌, ◌++◌, ◌∷◌, [], OnOk, IfOk, take, drop, length, vec_len, replicate, ◌⊎◌};
-ghost use Rattle.bus_value.specs.Spelling.{number_bytes, pad_size, padding, array_front};
+ghost use Rattle.bus_value.specs.Numbers.{number_bytes, number};
+ghost use Rattle.bus_value.specs.Spelling.{pad_size, padding, array_front};
 ghost use Rattle.bus_value.specs.Alignment.{IsAlignment};
-ghost use Rattle.bus_value.specs.BasicReading.{number};
 
 use crate::order::Order;
 use byteorder::{BigEndian, ByteOrder, LittleEndian};

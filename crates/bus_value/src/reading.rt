@@ -3,8 +3,8 @@
 ghost use Rattle.std.specs.Prelude.{◌≡◌, List, Ok, IfOk};
 ghost use Rattle.bus_value.specs.Answers.{Gives};
 ghost use Rattle.bus_value.specs.Grammar.{Spells};
-ghost use Rattle.bus_value.specs.Limits.{AllFit};
 ghost use Rattle.bus_value.specs.Reading.{read_all};
+ghost use Rattle.bus_value.specs.Limits.{AllFit};
 ghost use Rattle.bus_value.specs.Values.{Val, vals};
 
 use crate::fault::ValueFault;

@@ -7,6 +7,7 @@ ghost use Rattle.bus_value.specs.Limits.{AllFit, HasRoom};
 
 mod basic;
 mod containers;
+mod fault_places;
 mod faults;
 
 use super::*;
@@ -184,25 +185,64 @@ fn is_told(alloc: Global, case: Fault) -> bool {
     }
 }
 
+/// Whether each of these ends with its fault.
+fn are_told(alloc: Global, cases: &[Fault]) -> bool {
+    cases.iter().all(|case| is_told(alloc, *case))
+}
+
 #[test]
 fn faults_of_numbers_are_told(rt: HostRuntime) {
-    for case in faults::NUMBERS {
-        assert!(rt; is_told(rt.alloc(), case));
-    }
+    assert!(rt; are_told(rt.alloc(), &faults::NUMBERS));
 }
 
 #[test]
 fn faults_of_texts_are_told(rt: HostRuntime) {
-    for case in faults::TEXTS {
-        assert!(rt; is_told(rt.alloc(), case));
-    }
+    assert!(rt; are_told(rt.alloc(), &faults::TEXTS));
 }
 
 #[test]
 fn faults_of_containers_are_told(rt: HostRuntime) {
-    for case in faults::CONTAINERS {
-        assert!(rt; is_told(rt.alloc(), case));
-    }
+    assert!(rt; are_told(rt.alloc(), &faults::CONTAINERS));
+}
+
+#[test]
+fn values_cut_off_are_told(rt: HostRuntime) {
+    assert!(rt; are_told(rt.alloc(), &fault_places::SHORT));
+}
+
+#[test]
+fn padding_not_zero_are_told(rt: HostRuntime) {
+    assert!(rt; are_told(rt.alloc(), &fault_places::PADDING));
+}
+
+#[test]
+fn booleans_and_texts_in_containers_are_told(rt: HostRuntime) {
+    assert!(rt; are_told(rt.alloc(), &fault_places::PLACES));
+}
+
+#[test]
+fn texts_not_utf_8_are_told(rt: HostRuntime) {
+    assert!(rt; are_told(rt.alloc(), &faults::UTF_8));
+}
+
+#[test]
+fn ends_of_arrays_are_told(rt: HostRuntime) {
+    assert!(rt; are_told(rt.alloc(), &fault_places::ENDS));
+}
+
+#[test]
+fn parts_cut_off_are_told(rt: HostRuntime) {
+    assert!(rt; are_told(rt.alloc(), &fault_places::PARTS));
+}
+
+#[test]
+fn limits_are_told(rt: HostRuntime) {
+    assert!(rt; are_told(rt.alloc(), &fault_places::LIMITS));
+}
+
+#[test]
+fn first_faults_are_told(rt: HostRuntime) {
+    assert!(rt; are_told(rt.alloc(), &fault_places::FIRST));
 }
 
 #[test]
@@ -310,6 +350,35 @@ fn nested(alloc: Global, count: usize) -> Result<Vec<u8>, NoMemory> {
     }
     bytes.extend_from_slice(b"\x01y\x00\x07")?;
     Ok(bytes)
+}
+
+/// 32 arrays in one another, around a variant of 31 more, of which none is in the outermost.
+const DEEPEST: [u8; 168] = [
+    0xa4, 0x00, 0x00, 0x00, 0xa0, 0x00, 0x00, 0x00, 0x9c, 0x00, 0x00, 0x00, 0x98, 0x00, 0x00, 0x00,
+    0x94, 0x00, 0x00, 0x00, 0x90, 0x00, 0x00, 0x00, 0x8c, 0x00, 0x00, 0x00, 0x88, 0x00, 0x00, 0x00,
+    0x84, 0x00, 0x00, 0x00, 0x80, 0x00, 0x00, 0x00, 0x7c, 0x00, 0x00, 0x00, 0x78, 0x00, 0x00, 0x00,
+    0x74, 0x00, 0x00, 0x00, 0x70, 0x00, 0x00, 0x00, 0x6c, 0x00, 0x00, 0x00, 0x68, 0x00, 0x00, 0x00,
+    0x64, 0x00, 0x00, 0x00, 0x60, 0x00, 0x00, 0x00, 0x5c, 0x00, 0x00, 0x00, 0x58, 0x00, 0x00, 0x00,
+    0x54, 0x00, 0x00, 0x00, 0x50, 0x00, 0x00, 0x00, 0x4c, 0x00, 0x00, 0x00, 0x48, 0x00, 0x00, 0x00,
+    0x44, 0x00, 0x00, 0x00, 0x40, 0x00, 0x00, 0x00, 0x3c, 0x00, 0x00, 0x00, 0x38, 0x00, 0x00, 0x00,
+    0x34, 0x00, 0x00, 0x00, 0x30, 0x00, 0x00, 0x00, 0x2c, 0x00, 0x00, 0x00, 0x28, 0x00, 0x00, 0x00,
+    0x20, 0x61, 0x61, 0x61, 0x61, 0x61, 0x61, 0x61, 0x61, 0x61, 0x61, 0x61, 0x61, 0x61, 0x61, 0x61,
+    0x61, 0x61, 0x61, 0x61, 0x61, 0x61, 0x61, 0x61, 0x61, 0x61, 0x61, 0x61, 0x61, 0x61, 0x61, 0x61,
+    0x79, 0x00, 0x00, 0x00, 0x00, 0x00, 0x00, 0x00,
+];
+
+#[test]
+fn arrays_nest_64_deep_with_a_variant(rt: HostRuntime) -> Result<(), ValueFault> {
+    assert!(rt;
+        is_written_again(
+            rt.alloc(),
+            Order::Little,
+            0,
+            b"aaaaaaaaaaaaaaaaaaaaaaaaaaaaaaaav",
+            &DEEPEST
+        )?
+    );
+    Ok(())
 }
 
 #[test]

@@ -1,8 +1,11 @@
 // How value lists are written.
 
-ghost use Rattle.std.specs.Prelude.{◌≡◌, ◌+◌, length, IfOk};
+ghost use Rattle.std.specs.Prelude.{◌≡◌, ◌+◌, List, ℕ, length, IfOk};
+ghost use Rattle.bus_names.specs.Types.{Shape};
 ghost use Rattle.bus_value.specs.Values.{vals};
 ghost use Rattle.bus_value.specs.Spelling.{spellings};
+ghost use Rattle.bus_value.specs.Grammar.{Spells};
+ghost use Rattle.bus_value.specs.Typed.{AreTyped};
 ghost use Rattle.bus_value.specs.Lengths.{values_end};
 ghost use Rattle.bus_value.specs.Limits.{AllFit};
 
@@ -20,7 +23,11 @@ pub fn write_values(
     values: &Items<Value>,
 ) -> Result<Bytes, NoMemory>
     requires { AllFit order start (vals values.now) }
-    ensures spelled { IfOk result (λ bytes. bytes ≡ spellings order start (vals values.now)) }
+    ensures value { IfOk result (λ bytes. bytes ≡ spellings order start (vals values.now)) }
+    // values of these types are spelled so
+    ensures spelled { (ts : List Shape) → AreTyped 0 ts (vals values.now) → IfOk result (λ bytes. Spells order start ts values.now bytes) }
+    // and have no other spelling
+    ensures only { (ts : List Shape) (text : List ℕ) → Spells order start ts values.now text → IfOk result (λ bytes. bytes ≡ text) }
     ensures long { IfOk result (λ bytes. start + length bytes ≡ values_end start (vals values.now)) }
 {
     let mut out = Vec::new(alloc);

@@ -3,7 +3,8 @@
 ghost use Rattle.std.specs.Prelude.{◌≡◌, ◌≤◌, ◌<◌, ◌+◌, ◌-◌, length, drop, IfOk, IsTrue};
 ghost use Rattle.std.specs.Str.{is_utf8};
 ghost use Rattle.bus_value.specs.Answers.{Gives, Reads};
-ghost use Rattle.bus_value.specs.BasicReading.{size, body_size, least, has_no_zero, is_text, text_size, types_in, text_at, path_at, decoded, bool_by};
+ghost use Rattle.bus_value.specs.BasicReading.{size, body_size, least, text_size, types_in, text_at, path_at, decoded, bool_by};
+ghost use Rattle.bus_value.specs.Texts.{has_no_zero, is_text};
 ghost use Rattle.bus_value.specs.Reading.{read_basic};
 
 use crate::basic_value::BasicValue;

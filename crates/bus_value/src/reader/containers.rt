@@ -3,10 +3,11 @@
 ghost use Rattle.std.specs.Prelude.{◌≡◌, ◌≤◌, ◌<◌, ◌+◌, ◌-◌, ◌^◌, length, drop, nat_le, IfOk, IsTrue};
 ghost use Rattle.bus_names.specs.Types.{variant, array, dict, struct_of};
 ghost use Rattle.bus_value.specs.Alignment.{IsAlignment};
+ghost use Rattle.bus_value.specs.Reading.{element_bytes, levels, read, read_entry, to_end, in_turn, is_variant_type};
+ghost use Rattle.bus_value.specs.Nesting.{nesting, nesting_all};
+ghost use Rattle.bus_value.specs.Spelling.{pad_size as pad_from};
 ghost use Rattle.bus_value.specs.Answers.{Gives, Reads};
 ghost use Rattle.bus_value.specs.Opening.{Opens};
-ghost use Rattle.bus_value.specs.Reading.{element_bytes, levels, read, read_entry, to_end, in_turn, nesting, nesting_all, is_variant_type};
-ghost use Rattle.bus_value.specs.Spelling.{pad_size as pad_from};
 
 use crate::basic_value::BasicValue;
 use crate::fault::ValueFault;

@@ -3,10 +3,10 @@
 ghost use Rattle.std.specs.Prelude.{◌≡◌, ◌+◌, ◌++◌, ◌∷◌, [], OnOk, length};
 ghost use Rattle.bus_names.specs.Types.{text};
 ghost use Rattle.bus_value.specs.Values.{shape, vals, entries};
-ghost use Rattle.bus_value.specs.Spelling.{boundary, spelling, spellings, entry_spellings, signature_bytes};
+ghost use Rattle.bus_value.specs.Alignment.{boundary, IsAlignment};
+ghost use Rattle.bus_value.specs.Spelling.{spelling, spellings, entry_spellings, signature_bytes};
 ghost use Rattle.bus_value.specs.Limits.{Fits, AllFit, EntriesFit};
 ghost use Rattle.bus_names.specs.Signatures.{IsWithin};
-ghost use Rattle.bus_value.specs.Alignment.{IsAlignment};
 
 use crate::basic_value::BasicValue;
 use crate::basic_write::{alignment, push_basic};

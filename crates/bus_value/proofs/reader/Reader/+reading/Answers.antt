@@ -1,7 +1,8 @@
 use Rattle.std.proofs.Common.{◌≡◌, ℕ, ◌+◌, ◌-◌, sym, ◌∙◌, arith, ap, rules, subst, Ok, Err, List, inr, true, false, drop, take}
-use Rattle.bus_value.specs.Reading.{read, read_entry, levels, to_end, in_turn, made, read_basic, nesting, variant_type, is_variant_type}
-use Rattle.bus_value.specs.declared.fault.ValueFault.TheVariants.{BadVariant}
+use Rattle.bus_value.specs.Reading.{read, read_entry, levels, to_end, in_turn, made, read_basic, variant_type, is_variant_type}
+use Rattle.bus_value.specs.Nesting.{nesting}
 use Rattle.bus_value.specs.BasicReading.{types_in}
+use Rattle.bus_value.specs.declared.fault.ValueFault.TheVariants.{BadVariant}
 use Rattle.bus_value.proofs.Nesting.{nesting_struct, nesting_part, is_variant, no_variant}
 use Rattle.bus_value.proofs.Levels.{basic_level}
 use Rattle.bus_value.specs.Values.{vals, entries}

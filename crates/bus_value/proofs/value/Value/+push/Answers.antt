@@ -2,7 +2,9 @@ use Rattle.std.proofs.Common.{rules, arith, subst, sym, ap, ◌∙◌, refl, ◌
 use Rattle.bus_value.specs.declared.basic_value.BasicValue.{BasicValue}
 use Rattle.bus_value.specs.Values.{Val, vals, entries, array, struct, dict, parts}
 use Rattle.bus_value.specs.Nodes.{value_of}
-use Rattle.bus_value.specs.Spelling.{boundary, first_element, pad_size, array_front, number_bytes}
+use Rattle.bus_value.specs.Alignment.{boundary}
+use Rattle.bus_value.specs.Spelling.{first_element, pad_size, array_front}
+use Rattle.bus_value.specs.Numbers.{number_bytes}
 use Rattle.bus_value.specs.Limits.{Fits, AllFit, EntriesFit}
 use Rattle.bus_value.proofs.Rows.{value_fits, value_pushed, behind_padding, behind_front, entry_fits, entry_pushed, value_place, array_written, dict_written, item_smaller, pair_smaller}
 use Rattle.bus_value.proofs.value.Value.+push.Goals as goal

@@ -1,6 +1,6 @@
 use Rattle.std.proofs.Common.{◌≡◌, ◌<◌, List, [], ◌∷◌, length, ap, sym, arith}
 use Rattle.bus_names.specs.Types.{Shape, struct_of}
-use Rattle.bus_value.specs.Spelling.{boundary}
+use Rattle.bus_value.specs.Alignment.{boundary}
 use Rattle.bus_value.proofs.value.write.boundary.Goals as goal
 
 of_struct : (fs : List Shape) (t : Shape) → 0 < length fs → t ≡ struct_of fs → 8 ≡ boundary t

@@ -1,0 +1,14 @@
+pub mod FieldLaws
+pub mod Cuts
+pub mod Pieces
+pub mod Signatures
+pub mod Wholes
+pub mod Sound
+pub mod Written
+pub mod NameTexts
+pub mod Readings
+pub mod Zeros
+pub mod FirstNumbers
+pub mod Each
+pub mod Letters
+pub mod Begins

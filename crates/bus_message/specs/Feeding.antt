@@ -1,0 +1,49 @@
+-- A stream that is fed in pieces.
+use Rattle.std.specs.Prelude.{ℕ, ◌≡◌, ◌≤◌, List, [], Option, Some, None, Result, Ok, Err, ⊤}
+use Rattle.login_base.specs.declared.memory.NoMemory.{NoMemory}
+use Rattle.bus_value.specs.Faults.{told}
+use Rattle.bus_message.specs.declared.fault.Fault.{Fault}
+use Rattle.bus_message.specs.declared.fault.Malformed.{Malformed}
+use Rattle.bus_message.specs.declared.fault.Refusal.{Refusal}
+use Rattle.bus_message.specs.declared.fault.Refusal.TheVariants as refusals
+use Rattle.bus_message.specs.declared.message.Message.{Message}
+use Rattle.bus_message.specs.declared.cutter.Cut.{Cut}
+use Rattle.bus_message.specs.declared.cutting.Next.{Next}
+use Rattle.bus_message.specs.declared.cutting.Next.TheVariants as next
+use Rattle.bus_message.specs.Cutting.{Front, Open, Bad, Whole, front, Cutting, cut}
+
+-- what is kept between two pieces: the place behind the messages, as it is told; the bytes from there on, of a
+-- message that is not whole; and what is wrong there
+pub record Stream : Type 0 where
+  pub place : ℕ
+  pub rest : List ℕ
+  pub malformed : Option Malformed
+
+abbrev pub kept : Cutting → Stream
+kept c = record { place = told c.place; rest = c.rest; malformed = c.malformed }
+
+-- what was fed so far, all pieces joined, is this text
+pub record HasFed (stream : Stream) (text : List ℕ) : Type 0 where
+  pub state : stream ≡ kept (cut text)
+
+-- behind a fault nothing is kept; else no whole message is, and none that shows a fault
+abbrev pub IsKept : Option Malformed → List ℕ → Type 0
+IsKept None rest = front rest ≡ Open
+IsKept (Some place) rest = rest ≡ []
+
+-- the answer of a stream that is malformed
+abbrev pub IsEnded : Result Cut NoMemory → Malformed → Type 0
+IsEnded (Ok c) place = (c.messages ≡ []) × (c.malformed ≡ Some place)
+IsEnded (Err e) place = ⊥
+
+-- what was found at the front of a text of so many bytes
+abbrev pub Shows : Next → Front → ℕ → Type 0
+Shows next.Open found count = found ≡ Open
+Shows (next.Whole m size) found count = (found ≡ Whole size m) × (16 ≤ size) × (size ≤ count)
+Shows (next.Malformed e) found count = found ≡ Bad e
+
+-- the same, unless there was no memory
+abbrev pub Finds : Result Next Refusal → Front → ℕ → Type 0
+Finds (Ok n) found count = Shows n found count
+Finds (Err (refusals.Malformed e)) found count = found ≡ Bad e
+Finds (Err refusals.NoMemory) found count = ⊤

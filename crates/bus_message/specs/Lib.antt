@@ -1,0 +1,14 @@
+pub mod Faults
+pub mod Headers
+pub mod Fields
+pub mod Names
+pub mod Reading
+pub mod Parts
+pub mod Checks
+pub mod Cutting
+pub mod Feeding
+pub mod Outcomes
+pub mod Spelling
+pub mod Grammar
+pub mod Stream
+pub mod Named

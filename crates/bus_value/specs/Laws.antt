@@ -1,0 +1,28 @@
+-- Laws of the grammar.
+use Rattle.std.specs.Prelude.{ℕ, ◌≡◌, ◌+◌, List, length}
+use Rattle.bus_names.specs.Types.{Shape}
+use Rattle.bus_names.specs.Signatures.{IsWithin}
+use Rattle.bus_value.specs.declared.order.Order.{Order}
+use Rattle.bus_value.specs.Values.{Val, vals}
+use Rattle.bus_value.specs.Lengths.{values_end}
+use Rattle.bus_value.specs.Grammar.{Spells}
+use Rattle.bus_value.specs.Limits.{AllFit}
+use Rattle.bus_value.specs.Typed.{AreTyped}
+
+-- values have one spelling at one place
+abbrev pub OneSpelling : Type 0
+OneSpelling = (o : Order) (start : ℕ) (ts us : List Shape) (vs : List Val) (x y : List ℕ) → Spells o start ts vs x → Spells o start us vs y → (ts ≡ us) × (x ≡ y)
+
+-- no two value lists have the same spelling under one signature
+abbrev pub OneReading : Type 0
+OneReading = (o : Order) (start : ℕ) (ts : List Shape) (vs ws : List Val) (bytes : List ℕ) → IsWithin ts → Spells o start ts vs bytes → Spells o start ts ws bytes → vs ≡ ws
+
+-- a spelling ends where its values end
+abbrev pub SpellingLength : Type 0
+SpellingLength = (o : Order) (start : ℕ) (ts : List Shape) (vs : List Val) (bytes : List ℕ) → Spells o start ts vs bytes → start + length bytes ≡ values_end start (vals vs)
+
+-- values have a spelling exactly where they are of their types and within the limits
+abbrev pub HasSpelling : Type 0
+HasSpelling =
+    (o : Order) (start : ℕ) (ts : List Shape) (vs : List Val) →
+    ((bytes : List ℕ) → Spells o start ts vs bytes → AreTyped 0 ts (vals vs) × AllFit o start (vals vs)) × (AreTyped 0 ts (vals vs) → AllFit o start (vals vs) → (bytes : List ℕ) × Spells o start ts vs bytes)

@@ -1,0 +1,23 @@
+// Laws of the grammar.
+
+ghost use Rattle.bus_value.specs.Laws.{OneSpelling, OneReading, SpellingLength, HasSpelling};
+
+/// Values have one spelling at one place.
+pub fn one_spelling()
+    ensures { OneSpelling }
+{}
+
+/// No two value lists have the same spelling under one signature.
+pub fn one_reading()
+    ensures { OneReading }
+{}
+
+/// A spelling ends where its values end.
+pub fn spelling_length()
+    ensures { SpellingLength }
+{}
+
+/// Values have a spelling exactly where they are of their types and within the limits.
+pub fn has_spelling()
+    ensures { HasSpelling }
+{}
