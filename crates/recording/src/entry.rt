@@ -147,23 +147,35 @@ mod tests {
         Ok(())
     }
 
-    #[test]
-    fn writes_an_entry_or_a_front_of_it(rt: HostRuntime) -> Result<(), Fail> {
-        let mut marks = Items::new(rt.alloc());
+    /// An entry with a mark.
+    fn uncontrolled(alloc: Global) -> Result<Entry, Fail> {
+        let mut marks = Items::new(alloc);
         marks.push(Mark::Set(Key::Ctl(SessId(1)), Fact::Absent))?;
-        let granted = entry(
-            rt.alloc(),
+        entry(
+            alloc,
             "call 1 2 uncontrol c1\n",
             Verdict::Granted,
             Answer::Nothing,
             marks,
-        )?;
+        )
+    }
+
+    #[test]
+    fn writes_an_entry(rt: HostRuntime) -> Result<(), Fail> {
+        let granted = uncontrolled(rt.alloc())?;
         let mut sink = MemSink::new(rt.alloc(), 50, Items::new(rt.alloc()))?;
         assert_eq!(rt; write_entry(rt.alloc(), 7, &granted, &mut sink), Ok(()));
         assert_eq!(rt;
             sink.held(),
             "7 call 1 2 uncontrol c1\n granted\n set ctl c1 -\n".as_bytes()
         );
+        Ok(())
+    }
+
+    #[test]
+    fn writes_a_front_of_an_entry(rt: HostRuntime) -> Result<(), Fail> {
+        let granted = uncontrolled(rt.alloc())?;
+        let mut sink = MemSink::new(rt.alloc(), 30, Items::new(rt.alloc()))?;
         assert_eq!(rt;
             write_entry(rt.alloc(), 7, &granted, &mut sink),
             Err(WriteEnd::WriteFault)
