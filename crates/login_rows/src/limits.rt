@@ -36,29 +36,6 @@ fn texts_and_lines_have_a_greatest_length(rt: HostRuntime) -> Result<(), Fail> {
     Ok(())
 }
 
-/// A call whose text is longer than any may be is another call, and the line is none of its own.
-#[test]
-fn calls_with_longer_texts_have_bad_arguments(rt: HostRuntime) -> Result<(), Fail> {
-    let alloc = rt.alloc();
-    let call = "login-recording 1\ngo\nconnect 1 0\ncall 1 1 uncontrol ";
-    let connected = "login-transcript 1\n1 connect 1 0\n granted\n set conn 1 0\n";
-    let kept = framed(
-        alloc,
-        b"2 call 1 1 uncontrol ",
-        512,
-        b"\n denied P04 no-such-session\nend 2\n",
-    )?;
-    let dropped = b"2 call 1 1 bad-args\n denied P03 bad-arguments\nend 2\n";
-    for (letters, block) in [(512, kept.as_slice()), (513, dropped.as_slice())] {
-        let text = framed(alloc, call.as_bytes(), letters, b"\nend\n")?;
-        let want = joined(alloc, &[connected.as_bytes(), block])?;
-        let run = replay(alloc, text.as_slice())?;
-        assert_eq!(rt; run.status, 0, "at {letters} bytes");
-        assert_eq!(rt; run.output(), want.as_slice(), "at {letters} bytes");
-    }
-    Ok(())
-}
-
 /// The greatest number of each type.
 const NUMBERS: &str = "\
 login-recording 1
