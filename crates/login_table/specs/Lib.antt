@@ -1,1 +1,5 @@
+pub mod KeyOrder
 pub mod Listed
+pub mod Nearest
+pub mod Rows
+pub mod Stands

@@ -1,14 +1,16 @@
 // Names of one kind: what sessions, users, connections, seats, devices and locks have in common.
 
-ghost use Rattle.std.specs.Prelude.{◌≡◌, nat_lt, Bool, Option, None, Some};
+ghost use Rattle.std.specs.Prelude.{◌≡◌, ℕ, nat_lt, Bool, Option, None, Some, refl};
 ghost use Rattle.login_model.specs.declared.fact.Key.{Key};
 ghost use Rattle.login_model.specs.declared.fact.Key.TheVariants as key_about;
 ghost use Rattle.login_model.specs.declared.fact.Fact.{Fact};
-ghost use Rattle.login_model.specs.Names.{session_lt, user_lt, conn_lt, seat_lt, device_lt, lock_lt, session_in, user_in, conn_in, seat_in, device_in, lock_in};
+ghost use Rattle.login_table.specs.Nearest.{is_lower};
+ghost use Rattle.login_model.specs.Names.{is_above, session_lt, user_lt, conn_lt, seat_lt, device_lt, lock_lt, session_in, user_in, conn_in, seat_in, device_in, lock_in};
 ghost use Rattle.login_model.specs.Start.{seat0};
 ghost use Rattle.login_model.specs.Where.{is_session_fact, is_user_fact, is_connected_fact, is_seat_fact, is_device_fact, is_lock_fact};
 ghost use Rattle.login_model.specs.Kind.{IsOrder, AreKeys};
 ghost use Rattle.login_model.proofs.NameLaws.{number_order, session_order, user_order, conn_order, seat_order, device_order, lock_order, session_keys, user_keys, conn_keys, seat_keys, device_keys, lock_keys};
+ghost use Rattle.login_table.specs.KeyOrder.{key_lt, place};
 
 use login_base::{ConnId, DevNo, LockNo, SeatName, SessId, Uid};
 use login_model::{
@@ -25,6 +27,26 @@ pub trait Order: Copy {
         ensures { result ≡ lt self other };
 
     ghost order: { IsOrder lt };
+}
+
+/// Whether a name is above another, or there is no other.
+pub fn is_above<N: Order>(above: Option<N>, name: N) -> bool
+    ensures { result ≡ is_above N.lt above name }
+{
+    match above {
+        Some(other) => other.is_below(name),
+        None => true,
+    }
+}
+
+/// Whether a name is below another, or there is no other.
+pub fn is_lower<N: Order>(name: N, best: Option<N>) -> bool
+    ensures { result ≡ is_lower N.lt name best }
+{
+    match best {
+        Some(other) => name.is_below(other),
+        None => true,
+    }
 }
 
 /// A name that keys are about.
@@ -53,7 +75,17 @@ pub trait Name: Order {
     fn at_start() -> Option<Self>
         ensures { result ≡ first };
 
+    ghost kind: { ℕ };
+
+    /// The place of the kind of that key.
+    fn kind() -> u8
+        ensures { result ≡ kind };
+
     ghost keys: { AreKeys name_in key_of is_fact first };
+
+    ghost of_kind: { (a : Self) → place (key_of a) ≡ Self.kind };
+
+    ghost ordered: { (a b : Self) → key_lt (key_of a) (key_of b) ≡ Self.lt a b };
 }
 
 impl Order for SessId {
@@ -77,6 +109,12 @@ impl Name for SessId {
 
     ghost keys = { session_keys };
 
+    ghost kind = { 1 };
+
+    ghost of_kind = { λ a. refl };
+
+    ghost ordered = { λ a b. refl };
+
     fn in_key(key: &Key) -> Option<SessId> {
         match key {
             Key::Sess(session) => Some(*session),
@@ -94,6 +132,10 @@ impl Name for SessId {
 
     fn at_start() -> Option<SessId> {
         None
+    }
+
+    fn kind() -> u8 {
+        1
     }
 }
 
@@ -118,6 +160,12 @@ impl Name for Uid {
 
     ghost keys = { user_keys };
 
+    ghost kind = { 2 };
+
+    ghost of_kind = { λ a. refl };
+
+    ghost ordered = { λ a b. refl };
+
     fn in_key(key: &Key) -> Option<Uid> {
         match key {
             Key::User(user) => Some(*user),
@@ -135,6 +183,10 @@ impl Name for Uid {
 
     fn at_start() -> Option<Uid> {
         None
+    }
+
+    fn kind() -> u8 {
+        2
     }
 }
 
@@ -159,6 +211,12 @@ impl Name for ConnId {
 
     ghost keys = { conn_keys };
 
+    ghost kind = { 0 };
+
+    ghost of_kind = { λ a. refl };
+
+    ghost ordered = { λ a b. refl };
+
     fn in_key(key: &Key) -> Option<ConnId> {
         match key {
             Key::Conn(who) => Some(*who),
@@ -176,6 +234,10 @@ impl Name for ConnId {
 
     fn at_start() -> Option<ConnId> {
         None
+    }
+
+    fn kind() -> u8 {
+        0
     }
 }
 
@@ -200,6 +262,12 @@ impl Name for SeatName {
 
     ghost keys = { seat_keys };
 
+    ghost kind = { 3 };
+
+    ghost of_kind = { λ a. refl };
+
+    ghost ordered = { λ a b. refl };
+
     fn in_key(key: &Key) -> Option<SeatName> {
         match key {
             Key::Seat(seat) => Some(*seat),
@@ -217,6 +285,10 @@ impl Name for SeatName {
 
     fn at_start() -> Option<SeatName> {
         Some(seat0())
+    }
+
+    fn kind() -> u8 {
+        3
     }
 }
 
@@ -241,6 +313,12 @@ impl Name for DevNo {
 
     ghost keys = { device_keys };
 
+    ghost kind = { 4 };
+
+    ghost of_kind = { λ a. refl };
+
+    ghost ordered = { λ a b. refl };
+
     fn in_key(key: &Key) -> Option<DevNo> {
         match key {
             Key::Dev(device) => Some(*device),
@@ -258,6 +336,10 @@ impl Name for DevNo {
 
     fn at_start() -> Option<DevNo> {
         None
+    }
+
+    fn kind() -> u8 {
+        4
     }
 }
 
@@ -282,6 +364,12 @@ impl Name for LockNo {
 
     ghost keys = { lock_keys };
 
+    ghost kind = { 5 };
+
+    ghost of_kind = { λ a. refl };
+
+    ghost ordered = { λ a b. refl };
+
     fn in_key(key: &Key) -> Option<LockNo> {
         match key {
             Key::Lock(lock) => Some(*lock),
@@ -299,6 +387,10 @@ impl Name for LockNo {
 
     fn at_start() -> Option<LockNo> {
         None
+    }
+
+    fn kind() -> u8 {
+        5
     }
 }
 

@@ -1,0 +1,202 @@
+-- Rows whose keys ascend: what is under a key, and what a setting makes of them.
+use Rattle.std.proofs.Common.{◌≡◌, ℕ, zero, suc, nat_lt, ◌<◌, ◌≤◌, Bool, true, false, cond, not, Option, Some, List, [], ◌∷◌, ◌++◌, length, get_or, take, drop, set, refl, ap, sym, ◌∙◌, subst, arith, inl, inr}
+use Rattle.std.proofs.lemmas.List.{get_or_read}
+use Rattle.std.specs.List.Sorted.{IsPartitionedBy, IsPartitionPoint}
+use Rattle.login_model.specs.declared.fact.Key.{Key}
+use Rattle.login_model.specs.declared.fact.Fact.{Fact}
+use Rattle.login_model.specs.declared.mark.Mark.TheVariants.{Set}
+use Rattle.login_model.specs.Same.{same_key}
+use Rattle.login_model.specs.Start.{start_fact}
+use Rattle.login_model.specs.Trail.{Trail, value}
+use Rattle.login_model.specs.Names.{is_above}
+use Rattle.login_model.proofs.Keys.{same_key-true, test}
+use Rattle.login_table.specs.KeyOrder.{key_lt, place}
+use Rattle.login_table.specs.Rows.{as_trail, AscendFrom, IsFront}
+use Rattle.login_table.specs.declared.rows.Row.{Row}
+use Rattle.login_table.proofs.Standing.{value-set, value-start}
+use Rattle.login_table.proofs.KeyOrder.{key_order, kind-below, no-test, below-apart, above-apart, above}
+
+-- all rows behind a key are above it
+behind : (k : Key) (xs : List Row) → AscendFrom (Some k) xs → (j : ℕ) (d : Row) → j < length xs → key_lt k (get_or xs j d).key ≡ true
+behind k [] a j d h = absurd (omega arith)
+behind k (x ∷ xs) a zero d h = a.0
+behind k (x ∷ xs) a (suc j) d h = key_order.transitive k x.key (get_or xs j d).key a.0 (behind x.key xs a.1 j d (omega arith))
+
+-- a test that passes below what passes parts the rows
+pub parted : (p : Row → Bool) → ((x y : Row) → key_lt x.key y.key ≡ true → p y ≡ true → p x ≡ true) → (b : Option Key) (xs : List Row) → AscendFrom b xs → IsPartitionedBy p xs
+parted p c b [] a i j d le lt h = absurd (omega arith)
+parted p c b (x ∷ xs) a zero zero d le lt h = h
+parted p c b (x ∷ xs) a zero (suc j) d le lt h = c x (get_or xs j d) (behind x.key xs a.1 j d (omega arith)) h
+parted p c b (x ∷ xs) a (suc i) zero d le lt h = absurd (omega arith)
+parted p c b (x ∷ xs) a (suc i) (suc j) d le lt h = parted p c (Some x.key) xs a.1 i j d (omega arith) (omega arith) h
+
+pub below-closed : (k : Key) (x y : Row) → key_lt x.key y.key ≡ true → key_lt y.key k ≡ true → key_lt x.key k ≡ true
+below-closed k x y h e = key_order.transitive x.key y.key k h e
+
+flip : (b : Bool) → not b ≡ true → b ≡ false
+flip true h = let z : false ≡ true = h in cc
+flip false h = refl
+
+pub up-to-closed : (k : Key) (x y : Row) → key_lt x.key y.key ≡ true → not (key_lt k y.key) ≡ true → not (key_lt k x.key) ≡ true
+up-to-closed k x y h e = elim (test (key_lt k x.key)) [
+  | inl t ↦ absurd (no-test (key_order.transitive k x.key y.key t h) (flip (key_lt k y.key) e))
+  | inr f ↦ ap not f
+]
+
+pub kinds-closed : (m : ℕ) (x y : Row) → key_lt x.key y.key ≡ true → nat_lt (place y.key) m ≡ true → nat_lt (place x.key) m ≡ true
+kinds-closed m x y h e = kind-below m x.key y.key h e
+
+-- a point that parts the rows ends their front
+pub front-point : (p : Row → Bool) (xs : List Row) (i : ℕ) → i ≤ length xs → IsPartitionPoint (λ y. p y ≡ true) (λ y. p y ≡ false) xs i → IsFront p i xs
+front-point p [] zero h e = tt
+front-point p [] (suc i) h e = absurd (omega arith)
+front-point p (x ∷ xs) zero h e = e.1 0 x (omega arith) (omega arith)
+front-point p (x ∷ xs) (suc i) h e = (
+  e.0 0 x (omega arith) (omega arith),
+  front-point p xs i (omega arith) ((λ j d l m. e.0 (suc j) d (omega arith) (omega arith)), (λ j d l m. e.1 (suc j) d (omega arith) (omega arith))),
+)
+
+value-same : (k j : Key) (x : Fact) (t : Trail) → same_key j k ≡ true → value (Set j x ∷ t) k ≡ x
+value-same k j x t e = value-set k j x t ∙ ap (λ (b : Bool). cond b x (value t k)) e
+
+value-other : (k j : Key) (x : Fact) (t : Trail) → same_key j k ≡ false → value (Set j x ∷ t) k ≡ value t k
+value-other k j x t e = value-set k j x t ∙ ap (λ (b : Bool). cond b x (value t k)) e
+
+-- the row at the place of a key is its own
+pub found : (k : Key) (xs : List Row) (i : ℕ) (d : Row) → IsFront (λ x. key_lt x.key k) i xs → i < length xs → same_key (get_or xs i d).key k ≡ true
+    → (get_or xs i d).fact ≡ value (as_trail xs) k
+found k [] i d f h e = absurd (omega arith)
+found k (x ∷ xs) zero d f h e = sym (value-same k x.key x.fact (as_trail xs) e)
+found k (x ∷ xs) (suc i) d f h e = found k xs i d f.1 (omega arith) e ∙ sym (value-other k x.key x.fact (as_trail xs) (below-apart x.key k f.0))
+
+-- rows above a key are above those below it
+pub lower : (j k : Key) (xs : List Row) → key_lt j k ≡ true → AscendFrom (Some k) xs → AscendFrom (Some j) xs
+lower j k [] h a = tt
+lower j k (x ∷ xs) h a = (key_order.transitive j k x.key h a.0, a.1)
+
+-- a key below all rows has none
+pub none-below : (k : Key) (xs : List Row) → AscendFrom (Some k) xs → value (as_trail xs) k ≡ start_fact k
+none-below k [] a = value-start k
+none-below k (x ∷ xs) a =
+    value-other k x.key x.fact (as_trail xs) (above-apart x.key k a.0) ∙ none-below k xs (lower k x.key xs a.0 a.1)
+
+-- the row at the place of a key is another's, or there is no row
+abbrev pub IsMissed : Key → List Row → ℕ → Row → Type 0
+IsMissed k xs i d = i < length xs → same_key (get_or xs i d).key k ≡ false
+
+pub missed : (k : Key) (b : Option Key) (xs : List Row) (i : ℕ) (d : Row) → AscendFrom b xs → IsFront (λ x. key_lt x.key k) i xs → IsMissed k xs i d → value (as_trail xs) k ≡ start_fact k
+missed k b [] zero d a f n = value-start k
+missed k b [] (suc i) d a f n = absurd f
+missed k b (x ∷ xs) zero d a f n =
+    let e = n (omega arith) in
+    value-other k x.key x.fact (as_trail xs) e ∙ none-below k xs (lower k x.key xs (above x.key k f e) a.1)
+missed k b (x ∷ xs) (suc i) d a f n =
+    value-other k x.key x.fact (as_trail xs) (below-apart x.key k f.0) ∙ missed k (Some x.key) xs i d a.1 f.1 (λ h. n (omega arith))
+
+-- what a setting makes of the rows
+pub put_row : Key → Fact → List Row → List Row
+put_row k f [] = record { key = k; fact = f } ∷ []
+put_row k f (x ∷ xs) = cond (key_lt x.key k) (x ∷ put_row k f xs) (cond (same_key x.key k) (record { key = x.key; fact = f } ∷ xs) (record { key = k; fact = f } ∷ x ∷ xs))
+
+put-behind : (k : Key) (f : Fact) (x : Row) (xs : List Row) → key_lt x.key k ≡ true → put_row k f (x ∷ xs) ≡ x ∷ put_row k f xs
+unfolding put_row
+put-behind k f x xs h = rw h refl
+
+put-there : (k : Key) (f : Fact) (x : Row) (xs : List Row) → key_lt x.key k ≡ false → same_key x.key k ≡ true → put_row k f (x ∷ xs) ≡ record { key = x.key; fact = f } ∷ xs
+unfolding put_row
+put-there k f x xs h e = rw (h, e) refl
+
+put-before : (k : Key) (f : Fact) (x : Row) (xs : List Row) → key_lt x.key k ≡ false → same_key x.key k ≡ false → put_row k f (x ∷ xs) ≡ record { key = k; fact = f } ∷ x ∷ xs
+unfolding put_row
+put-before k f x xs h e = rw (h, e) refl
+
+put-alone : (k : Key) (f : Fact) → put_row k f [] ≡ record { key = k; fact = f } ∷ []
+unfolding put_row
+put-alone k f = refl
+
+-- a row put in at the place of its key
+pub inserted : (k : Key) (f : Fact) (xs : List Row) (i : ℕ) (d : Row) → IsFront (λ x. key_lt x.key k) i xs → IsMissed k xs i d
+    → take i xs ++ record { key = k; fact = f } ∷ drop i xs ≡ put_row k f xs
+inserted k f [] zero d h n = sym (put-alone k f)
+inserted k f [] (suc i) d h n = absurd h
+inserted k f (x ∷ xs) zero d h n = sym (put-before k f x xs h (n (omega arith)))
+inserted k f (x ∷ xs) (suc i) d h n = ap (λ (ys : List Row). x ∷ ys) (inserted k f xs i d h.1 (λ l. n (omega arith))) ∙ sym (put-behind k f x xs h.0)
+
+-- the fact of a key's row exchanged
+pub exchanged : (k : Key) (f : Fact) (xs : List Row) (i : ℕ) (d : Row) → IsFront (λ x. key_lt x.key k) i xs → i < length xs → same_key (get_or xs i d).key k ≡ true
+    → set xs i (record { key = (get_or xs i d).key; fact = f }) ≡ put_row k f xs
+exchanged k f [] i d h l e = absurd (omega arith)
+exchanged k f (x ∷ xs) zero d h l e = sym (put-there k f x xs h e)
+exchanged k f (x ∷ xs) (suc i) d h l e = ap (λ (ys : List Row). x ∷ ys) (exchanged k f xs i d h.1 (omega arith) e) ∙ sym (put-behind k f x xs h.0)
+
+-- the rows still ascend
+ascends-by : (k : Key) (f : Fact) (b : Option Key) (x : Row) (xs : List Row) → AscendFrom b (x ∷ xs) → is_above key_lt b k ≡ true
+    → (key_lt x.key k ≡ true → AscendFrom (Some x.key) (put_row k f xs)) → AscendFrom b (put_row k f (x ∷ xs))
+ascends-by k f b x xs a h more =
+    let P : List Row → Type 0 = λ ys. AscendFrom b ys in
+    elim (test (key_lt x.key k)) [
+      | inl t ↦ subst P (sym (put-behind k f x xs t)) (a.0, more t)
+      | inr n ↦ elim (test (same_key x.key k)) [
+        | inl s ↦ subst P (sym (put-there k f x xs n s)) (a.0, a.1)
+        | inr m ↦ subst P (sym (put-before k f x xs n m)) (h, (above x.key k n m, a.1))
+      ]
+    ]
+
+pub put-ascends : (k : Key) (f : Fact) (b : Option Key) (xs : List Row) → AscendFrom b xs → is_above key_lt b k ≡ true → AscendFrom b (put_row k f xs)
+put-ascends k f b [] a h = let P : List Row → Type 0 = λ ys. AscendFrom b ys in subst P (sym (put-alone k f)) (h, tt)
+put-ascends k f b (x ∷ xs) a h = ascends-by k f b x xs a h (λ t. put-ascends k f (Some x.key) xs a.1 t)
+
+-- what two settings of two keys leave is the same in either order
+swapped : (p q : Bool) (x y z : Fact) → (p ≡ true → q ≡ false) → cond p x (cond q y z) ≡ cond q y (cond p x z)
+swapped true true x y z n = absurd (no-test refl (n refl))
+swapped true false x y z n = refl
+swapped false q x y z n = refl
+
+one-key : (x k j : Key) → key_lt x k ≡ true → same_key x j ≡ true → same_key k j ≡ false
+one-key x k j h e = above-apart k j (let P : Key → Type 0 = λ z. key_lt z k ≡ true in subst P (same_key-true x j e) h)
+
+covered : (b : Bool) (x y z : Fact) → cond b x z ≡ cond b x (cond b y z)
+covered true x y z = refl
+covered false x y z = refl
+
+value-by : (k : Key) (f : Fact) (x : Row) (xs : List Row) (j : Key) → (key_lt x.key k ≡ true → value (as_trail (put_row k f xs)) j ≡ cond (same_key k j) f (value (as_trail xs) j))
+    → value (as_trail (put_row k f (x ∷ xs))) j ≡ cond (same_key k j) f (cond (same_key x.key j) x.fact (value (as_trail xs) j))
+value-by k f x xs j more =
+    let v = value (as_trail xs) j in
+    elim (test (key_lt x.key k)) [
+      | inl t ↦ ap (λ (ys : List Row). value (as_trail ys) j) (put-behind k f x xs t) ∙ value-set j x.key x.fact (as_trail (put_row k f xs))
+          ∙ ap (λ (y : Fact). cond (same_key x.key j) x.fact y) (more t) ∙ swapped (same_key x.key j) (same_key k j) x.fact f v (one-key x.key k j t)
+      | inr n ↦ elim (test (same_key x.key k)) [
+        | inl s ↦ ap (λ (ys : List Row). value (as_trail ys) j) (put-there k f x xs n s) ∙ value-set j x.key f (as_trail xs)
+            ∙ covered (same_key x.key j) f x.fact v
+            ∙ ap (λ (z : Key). cond (same_key z j) f (cond (same_key x.key j) x.fact v)) (same_key-true x.key k s)
+        | inr m ↦ ap (λ (ys : List Row). value (as_trail ys) j) (put-before k f x xs n m) ∙ value-set j k f (as_trail (x ∷ xs))
+            ∙ ap (λ (y : Fact). cond (same_key k j) f y) (value-set j x.key x.fact (as_trail xs))
+      ]
+    ]
+
+value-put : (k : Key) (f : Fact) (xs : List Row) (j : Key) → value (as_trail (put_row k f xs)) j ≡ cond (same_key k j) f (value (as_trail xs) j)
+value-put k f [] j = ap (λ (ys : List Row). value (as_trail ys) j) (put-alone k f) ∙ value-set j k f []
+value-put k f (x ∷ xs) j = value-by k f x xs j (λ t. value-put k f xs j) ∙ ap (λ (y : Fact). cond (same_key k j) f y) (sym (value-set j x.key x.fact (as_trail xs)))
+
+-- the facts that a setting leaves
+pub put-is : (k : Key) (f : Fact) (xs : List Row) (j : Key) → value (as_trail (put_row k f xs)) j ≡ value (Set k f ∷ as_trail xs) j
+put-is k f xs j = value-put k f xs j ∙ sym (value-set j k f (as_trail xs))
+
+-- what indexing reads twice at the place of a key
+pub found-at : (k : Key) (xs : List Row) (i : ℕ) (x y : Row) → IsFront (λ x. key_lt x.key k) i xs → i < length xs → y ≡ get_or xs i y → same_key y.key k ≡ true → x ≡ get_or xs i x
+    → x.fact ≡ value (as_trail xs) k
+found-at k xs i x y f h at e again =
+    ap (λ (z : Row). z.fact) again
+    ∙ found k xs i x f h (ap (λ (z : Row). same_key z.key k) (sym (get_or_read xs i y h at x)) ∙ e)
+
+-- what indexing reads at the place of a key is another's
+pub missed-at : (k : Key) (xs : List Row) (i : ℕ) (y : Row) → y ≡ get_or xs i y → same_key y.key k ≡ false → IsMissed k xs i y
+missed-at k xs i y at e h = ap (λ (z : Row). same_key z.key k) (sym at) ∙ e
+
+-- the fact of the row that indexing reads exchanged
+pub exchanged-at : (k : Key) (f : Fact) (xs : List Row) (i : ℕ) (x y : Row) → IsFront (λ x. key_lt x.key k) i xs → i < length xs → y ≡ get_or xs i y → same_key y.key k ≡ true → x ≡ get_or xs i x
+    → set xs i (record { key = x.key; fact = f }) ≡ put_row k f xs
+exchanged-at k f xs i x y h l at e again =
+    ap (λ (z : Row). set xs i (record { key = z.key; fact = f })) again
+    ∙ exchanged k f xs i x h l (ap (λ (z : Row). same_key z.key k) (sym (get_or_read xs i y l at x)) ∙ e)

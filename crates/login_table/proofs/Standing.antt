@@ -1,0 +1,47 @@
+-- A table stands for one more setting.
+use Rattle.std.proofs.Common.{◌≡◌, Bool, true, false, cond, Some, None, [], ◌∷◌, refl, ap, sym, ◌∙◌, inl, inr}
+use Rattle.login_model.specs.declared.fact.Key.{Key}
+use Rattle.login_model.specs.declared.fact.Fact.{Fact}
+use Rattle.login_model.specs.declared.mark.Mark.TheVariants.{Set}
+use Rattle.login_model.specs.Same.{same_key}
+use Rattle.login_model.specs.Start.{start_fact}
+use Rattle.login_model.specs.Trail.{Trail, value}
+use Rattle.login_model.proofs.Keys.{same_key-true, test}
+use Rattle.login_table.specs.Stands.{Stands, told}
+
+pub value-set : (k j : Key) (x : Fact) (t : Trail) → value (Set j x ∷ t) k ≡ cond (same_key j k) x (value t k)
+unfolding value
+value-set k j x t = refl
+
+pub value-start : (k : Key) → value [] k ≡ start_fact k
+unfolding value
+value-start k = refl
+
+-- the setting was under one of the table's keys
+pub own-key : (owns : Key → Bool) (old new t : Trail) (k : Key) (x : Fact) → ((j : Key) → value new j ≡ value (Set k x ∷ old) j) → Stands owns old t → Stands owns new (Set k x ∷ t)
+own-key owns old new t k x e s j own =
+    e j ∙ value-set j k x old ∙ ap (λ (y : Fact). cond (same_key k j) x y) (s j own) ∙ sym (value-set j k x t)
+
+-- the setting was under another key
+pub other-key : (owns : Key → Bool) (rows t : Trail) (k : Key) (x : Fact) → owns k ≡ false → Stands owns rows t → Stands owns rows (Set k x ∷ t)
+other-key owns rows t k x e s j own =
+    elim (test (same_key k j)) [
+      | inl y ↦ absurd (let z : true ≡ false = sym own ∙ ap owns (sym (same_key-true k j y)) ∙ e in cc)
+      | inr n ↦ s j own ∙ sym (value-set j k x t ∙ ap (λ (b : Bool). cond b x (value t j)) n)
+    ]
+
+told-by : (b : Bool) (rows t : Trail) (k : Key) (x : Fact) → cond b (Some (value rows k)) None ≡ Some x → (b ≡ true → value rows k ≡ value t k) → x ≡ value t k
+told-by true rows t k x e s = let q : value rows k ≡ x = cc in sym q ∙ s refl
+told-by false rows t k x e s = absurd (cc)
+
+-- what a table tells is the fact that the marks have
+pub told-fact : (owns : Key → Bool) (rows t : Trail) (k : Key) (x : Fact) → told owns rows k ≡ Some x → Stands owns rows t → x ≡ value t k
+told-fact owns rows t k x e s = told-by (owns k) rows t k x e (s k)
+
+told-none : (b : Bool) (x : Fact) → cond b (Some x) None ≡ None → b ≡ false
+told-none true x e = absurd (cc)
+told-none false x e = refl
+
+-- where a table tells nothing, the key is another's
+pub told-other : (owns : Key → Bool) (rows : Trail) (k : Key) → told owns rows k ≡ None → owns k ≡ false
+told-other owns rows k e = told-none (owns k) (value rows k) e

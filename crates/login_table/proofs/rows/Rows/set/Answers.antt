@@ -1,0 +1,67 @@
+use Rattle.std.proofs.Common.{◌≡◌, ◌<◌, ◌∙◌, sym, ap, subst, None, arith, length, List, ◌∷◌, vec_len, refl}
+use Rattle.login_model.specs.Trail.{value}
+use Rattle.login_model.specs.declared.mark.Mark.TheVariants.{Set}
+use Rattle.login_table.specs.Rows.{RowList, as_trail, AscendFrom, IsFront}
+use Rattle.login_table.specs.KeyOrder.{key_lt}
+use Rattle.login_table.specs.declared.rows.Row.{Row}
+use Rattle.login_table.proofs.Ascending.{exchanged-at, inserted, missed-at, put_row, put-ascends, put-is}
+use Rattle.login_table.proofs.rows.Rows.set.Goals.{else-at-len-via-then-at-len+else-is_same_key, else-at-len-via-else-at-len}
+use Rattle.login_table.proofs.rows.Rows.set.Goals as goal
+
+pub invariant_of-self : goal.invariant_of-self
+invariant_of-self c =
+    let k = c.args.key in
+    let xs = c.self.inside.rows.items in
+    let i = c.place-at.result in
+    let F : List Row → Type 0 = λ ys. IsFront (λ (x : Row). key_lt x.key k) i ys in
+    let front : F xs = subst F c.as_slice.ensures.value c.place-at.ensures.front in
+    let long : length xs ≡ vec_len c.self.inside.rows = ap length (sym c.as_slice.ensures.value) ∙ c.as_slice.ensures.len in
+    let within : i < length xs = omega (arith, c.if-at-len.true, c.len.ensures) in
+    let P : List Row → Type 0 = λ ys. AscendFrom None ys in
+    subst P (sym (exchanged-at k c.args.fact xs i c.index_mut.result.now c.index.result.now front within c.index.ensures (sym c.is_same_key.ensures ∙ c.if-is_same_key.true) c.index_mut.ensures.value))
+    (put-ascends k c.args.fact None xs c.self.invariant refl)
+
+pub returns-then-is_same_key-clause-facts : goal.returns-then-is_same_key-clause-facts
+returns-then-is_same_key-clause-facts c j =
+    let k = c.args.key in
+    let xs = c.self.inside.rows.items in
+    let i = c.place-at.result in
+    let F : List Row → Type 0 = λ ys. IsFront (λ (x : Row). key_lt x.key k) i ys in
+    let front : F xs = subst F c.as_slice.ensures.value c.place-at.ensures.front in
+    let long : length xs ≡ vec_len c.self.inside.rows = ap length (sym c.as_slice.ensures.value) ∙ c.as_slice.ensures.len in
+    let within : i < length xs = omega (arith, c.if-at-len.true, c.len.ensures) in
+    ap (λ (ys : List Row). value (as_trail ys) j)
+    (exchanged-at k c.args.fact xs i c.index_mut.result.now c.index.result.now front within c.index.ensures (sym c.is_same_key.ensures ∙ c.if-is_same_key.true) c.index_mut.ensures.value)
+    ∙ put-is k c.args.fact xs j
+    ∙ ap (λ (v : RowList). value (Set k c.args.fact ∷ v.trail) j) c.self.view_is
+
+-- the rows with one more
+made : (c : goal.In-Ok) → c.insert.new.self.items ≡ put_row c.args.key c.args.fact c.self.inside.rows.items
+made c =
+    let k = c.args.key in
+    let xs = c.self.inside.rows.items in
+    let i = c.place-at.result in
+    let r : Row = record { key = k; fact = c.args.fact } in
+    let F : List Row → Type 0 = λ ys. IsFront (λ (x : Row). key_lt x.key k) i ys in
+    let front : F xs = subst F c.as_slice.ensures.value c.place-at.ensures.front in
+    let long : length xs ≡ vec_len c.self.inside.rows = ap length (sym c.as_slice.ensures.value) ∙ c.as_slice.ensures.len in
+    c.in-Ok.ensures.items
+    ∙ elim c.else-at-len.branch [
+      | else-at-len-via-then-at-len+else-is_same_key w ↦
+          inserted k c.args.fact xs i w.index.result.now front
+          (missed-at k xs i w.index.result.now w.index.ensures (sym w.is_same_key.ensures ∙ w.if-is_same_key.false))
+      | else-at-len-via-else-at-len w ↦
+          inserted k c.args.fact xs i r front (λ h. absurd (omega (arith, w.if-at-len.false, c.len.ensures)))
+    ]
+
+pub invariant_of-self-2 : goal.invariant_of-self-2
+invariant_of-self-2 c =
+    let xs = c.self.inside.rows.items in
+    let P : List Row → Type 0 = λ ys. AscendFrom None ys in
+    subst P (sym (made c)) (put-ascends c.args.key c.args.fact None xs c.self.invariant refl)
+
+pub returns-clause-facts : goal.returns-clause-facts
+returns-clause-facts c j =
+    let xs = c.self.inside.rows.items in
+    ap (λ (ys : List Row). value (as_trail ys) j) (made c) ∙ put-is c.args.key c.args.fact xs j
+    ∙ ap (λ (v : RowList). value (Set c.args.key c.args.fact ∷ v.trail) j) c.self.view_is
