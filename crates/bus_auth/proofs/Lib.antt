@@ -5,3 +5,6 @@ pub mod Ends
 pub mod Responses
 pub mod Turns
 pub mod Pieces
+pub mod Histories
+pub mod LineLaws
+pub mod LeastLaws

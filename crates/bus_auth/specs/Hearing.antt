@@ -1,5 +1,5 @@
 -- A handshake that is heard in pieces.
-use Rattle.std.specs.Prelude.{ℕ, ◌≡◌, List, [], Result, Ok, Err, ⊤}
+use Rattle.std.specs.Prelude.{ℕ, ◌≡◌, ◌≢◌, List, [], ◌∷◌, ◌++◌, Result, Ok, Err, ⊤}
 use Rattle.login_base.specs.declared.memory.NoMemory.{NoMemory}
 use Rattle.bus_auth.specs.declared.table.Ending.{Ending}
 use Rattle.bus_auth.specs.declared.step.AuthState.{AuthState}
@@ -46,3 +46,16 @@ pub record Gives (greeting : Greeting) (old new : Handshake) (step : AuthStep) :
 abbrev pub IsEnded : Result AuthStep NoMemory → Ending → Type 0
 IsEnded (Ok step) ending = (step.replies ≡ []) × (step.state ≡ ended ending)
 IsEnded (Err e) ending = ⊥
+
+-- what a piece led to: it was heard behind all that was heard before, and the step is what it brought about
+pub record Hears (old : Handshake) (piece : List ℕ) (new : Handshake) (step : AuthStep) : Type 0 where
+  pub heard : (text : List ℕ) → HasHeard old text → HasHeard new (text ++ piece)
+  pub replies : (text : List ℕ) → HasHeard old text → (greeting old (text ++ piece)).replies ≡ (greeting old text).replies ++ step.replies
+  pub state : (text : List ℕ) → HasHeard old text → step.state ≡ told (greeting old (text ++ piece)).state
+
+-- a handshake that is new or was fed these pieces, all that it replied, and how far the last step said it was
+pub data WasFed : Handshake → List (List ℕ) → List ℕ → AuthState → Type 0 where
+  new : {auth : Handshake} → HasHeard auth [] → WasFed auth [] [] Going
+  fed : {old new : Handshake} {pieces : List (List ℕ)} {piece replies : List ℕ} {state : AuthState} {step : AuthStep} → WasFed old pieces replies state
+      → old.state ≢ Begun [] → Hears old piece new step → new.uid ≡ old.uid → new.guid ≡ old.guid
+      → WasFed new (pieces ++ piece ∷ []) (replies ++ step.replies) step.state

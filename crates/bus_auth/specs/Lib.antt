@@ -5,3 +5,4 @@ pub mod Greeting
 pub mod Standing
 pub mod Hearing
 pub mod Outcomes
+pub mod Laws

@@ -3,7 +3,7 @@
 ghost use Rattle.std.specs.Prelude.{◌≡◌, ◌≢◌, ◌↔◌, ◌++◌, ◌≤◌, List, ℕ, [], drop, length, IsTrue, IsOk, IfOk, OnOk, OnErr, ◌<◌};
 ghost use Rattle.bus_auth.specs.Greeting.{WaitingForNul, Begun, Ended, greet, run, resume};
 ghost use Rattle.bus_auth.specs.Standing.{kept, state_of, open_line, IsKept};
-ghost use Rattle.bus_auth.specs.Hearing.{HasHeard, greeting, told, Tells, Gives, IsEnded};
+ghost use Rattle.bus_auth.specs.Hearing.{HasHeard, Hears, told, Tells, Gives, IsEnded};
 ghost use Rattle.bus_auth.specs.Cutting.{cut};
 ghost use Rattle.bus_auth.specs.Outcomes.{state_in, IsOpenIn};
 
@@ -118,14 +118,8 @@ impl Auth {
     pub fn feed(&mut self, alloc: Global, piece: &[u8]) -> Result<AuthStep, NoMemory>
         requires { self.old.state ≢ Begun [] }
 
-        // Whatever was heard before, it is now that and the piece.
-        ensures heard { OnOk result ((text : List ℕ) → HasHeard self.old text
-            → HasHeard self.new (text ++ piece.now)) }
-        ensures replies { IfOk result (λ step. (text : List ℕ) → HasHeard self.old text
-            → (greeting self.old (text ++ piece.now)).replies
-            ≡ (greeting self.old text).replies ++ step.replies) }
-        ensures state { IfOk result (λ step. (text : List ℕ) → HasHeard self.old text
-            → step.state ≡ told (greeting self.old (text ++ piece.now)).state) }
+        // It goes on as one that hears all bytes at once.
+        ensures heard { IfOk result (λ step. Hears self.old piece.now self.new step) }
         ensures shown { IfOk result (λ step. Tells step.state self.new.state) }
         ensures uid { self.new.uid ≡ self.old.uid }
         ensures guid { self.new.guid ≡ self.old.guid }

@@ -1,10 +1,9 @@
 -- What is cut from a stream is what stands at its front.
-use Rattle.std.proofs.Common.{◌≡◌, ℕ, zero, suc, ◌+◌, ◌-◌, ◌≤◌, List, [], ◌∷◌, ◌++◌, length, length-drop, take, drop, Option, Some, None, refl, ap, sym, ◌∙◌, subst, arith}
+use Rattle.std.proofs.Common.{◌≡◌, ℕ, zero, suc, ◌+◌, ◌-◌, ◌≤◌, List, length, length-drop, take, drop, refl, sym, subst, arith}
 use Rattle.std.proofs.lemmas.List.{take-append-drop}
-use Rattle.bus_message.specs.declared.fault.Fault.{Fault}
 use Rattle.bus_message.specs.declared.message.Message.{Message}
 use Rattle.bus_message.specs.Cutting.{Front, Open, Bad, Whole, front, Cutting, open_at, bad_at, behind, cut}
-use Rattle.bus_message.specs.Grammar.{AreBytes, IsMessage}
+use Rattle.bus_message.specs.Grammar.{AreBytes}
 use Rattle.bus_message.specs.Stream.{Begins, Leaves, IsCut}
 use Rattle.bus_message.specs.Outcomes.{cut_at}
 use Rattle.bus_message.proofs.Cuts.{cut_open, cut_bad, cut_whole, count_least}
@@ -23,7 +22,7 @@ cut_front place bytes Open e are more =
     let there : IsCutAt place bytes (open_at place bytes) = record { rest = bytes; begins = refl; reached = refl; leaves = (e, refl) } in
     subst (IsCutAt place bytes) (sym (cut_open place bytes e)) there
 cut_front place bytes (Bad x) e are more =
-    let there : IsCutAt place bytes (bad_at place x) = record { rest = bytes; begins = refl; reached = refl; leaves = (x, (e, refl)) } in
+    let there : IsCutAt place bytes (bad_at place x) = record { rest = bytes; begins = refl; reached = refl; leaves = (refl, (x, (e, refl))) } in
     subst (IsCutAt place bytes) (sym (cut_bad place bytes x e)) there
 cut_front place bytes (Whole n m) e are more =
     let c : Cutting = cut_at (place + n) (drop n bytes) in

@@ -1,5 +1,5 @@
 -- Fields that are checked one after another.
-use Rattle.std.proofs.Common.{◌≡◌, ℕ, zero, suc, ◌+◌, ◌<◌, ◌≤◌, List, [], ◌∷◌, ◌++◌, length, length-append, get_or, take, drop, drop-cons, add-one, Bool, true, false, Option, Some, None, Result, Ok, Err, refl, ap, sym, ◌∙◌, arith}
+use Rattle.std.proofs.Common.{◌≡◌, ℕ, zero, suc, ◌+◌, ◌<◌, ◌≤◌, List, [], ◌∷◌, ◌++◌, length, length-append, get_or, take, drop, drop-cons, add-one, Bool, true, false, Some, None, Result, Ok, Err, refl, ap, sym, ◌∙◌, arith}
 use Rattle.std.proofs.Math.ListN.{drop_of_length-le}
 use Rattle.std.proofs.Math.Seq.{take-suc}
 use Rattle.bus_value.specs.declared.basic_value.BasicValue.TheVariants.{Byte}
@@ -9,11 +9,10 @@ use Rattle.bus_value.specs.Spelling.{pad_size, spelling, spellings}
 use Rattle.bus_value.specs.Limits.{AllFit}
 use Rattle.bus_value.proofs.Rows.{first_pushed}
 use Rattle.bus_message.specs.declared.fault.Cause.TheVariants.{BadField}
-use Rattle.bus_message.specs.declared.fault.Fault.{Fault}
 use Rattle.bus_message.specs.declared.fault.Refusal.{Refusal}
 use Rattle.bus_message.specs.declared.fault.Refusal.TheVariants.{Malformed}
 use Rattle.bus_message.specs.Checks.{behind_padding, field_at}
-use Rattle.bus_message.specs.Faults.{fault, is_at, Gives}
+use Rattle.bus_message.specs.Faults.{fault, Gives}
 use Rattle.bus_message.specs.Fields.{is_bad, bad_field}
 use Rattle.bus_message.specs.Reading.{unless_bad}
 

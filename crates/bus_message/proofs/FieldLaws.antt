@@ -1,10 +1,10 @@
 -- Fields in a slice.
-use Rattle.std.proofs.Common.{◌≡◌, ℕ, zero, suc, ◌+◌, ◌<◌, ◌≤◌, List, [], ◌∷◌, ◌++◌, length, get_or, take, drop, drop-cons, add-one, Bool, true, false, cond, eqb, ltb, not, leb, ◌&&◌, ◌||◌, is_some, Option, Some, None, refl, ap, sym, ◌∙◌, arith}
+use Rattle.std.proofs.Common.{◌≡◌, ℕ, zero, suc, ◌+◌, ◌<◌, ◌≤◌, List, [], ◌∷◌, length, get_or, take, drop, drop-cons, add-one, Bool, true, false, cond, eqb, ltb, not, leb, is_some, Option, Some, None, refl, ap, sym, ◌∙◌, arith}
 use Rattle.std.proofs.Math.ListN.{drop_of_length-le}
 use Rattle.std.proofs.lemmas.Bool.Decides.{nat_tests}
 use Rattle.bus_names.specs.Types.{Shape}
 use Rattle.bus_value.specs.declared.basic_value.BasicValue.TheVariants.{Byte}
-use Rattle.bus_value.specs.Values.{Val, Vals, vals, array, basic, struct}
+use Rattle.bus_value.specs.Values.{Val, vals, array, basic, struct}
 use Rattle.bus_message.specs.Checks.{field_at}
 use Rattle.bus_message.specs.Fields.{listed, fields_in, number, held, found, is_typed, is_bad}
 

@@ -12,3 +12,4 @@ pub mod FirstNumbers
 pub mod Each
 pub mod Letters
 pub mod Begins
+pub mod Histories

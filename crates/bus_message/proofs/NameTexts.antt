@@ -1,15 +1,13 @@
 -- Names are texts: ASCII with no zero byte.
-use Rattle.std.proofs.Common.{◌≡◌, ℕ, zero, suc, ◌+◌, ◌<◌, ◌≤◌, List, [], ◌∷◌, length, get_or, Bool, true, false, not, ◌&&◌, ◌||◌, cond, eqb, leb, ltb, Option, Some, None, refl, ap, sym, ◌∙◌, inl, inr, arith}
-use Rattle.std.specs.List.{list_all}
-use Rattle.std.specs.Str.{is_utf8, IsAscii}
+use Rattle.std.proofs.Common.{◌≡◌, ℕ, zero, suc, ◌+◌, ◌<◌, List, [], ◌∷◌, get_or, Bool, true, false, ◌&&◌, ◌||◌, cond, eqb, Option, Some, None, refl, sym, ◌∙◌, inl, inr, arith}
 use Rattle.std.proofs.lemmas.Str.{IsUtf8-from_ascii, is_utf8-from_IsUtf8}
 use Rattle.std.proofs.lemmas.Bool.Decides.{nat_tests}
-use Rattle.login_base.specs.Names.{is_digit, is_word_byte}
+use Rattle.login_base.specs.Names.{is_word_byte}
 use Rattle.bus_names.specs.declared.grammar.Grammar.{Grammar}
 use Rattle.bus_names.specs.declared.grammar.Grammar.TheVariants.{Path, Interface, Member, WellKnown, Unique}
 use Rattle.bus_names.specs.declared.grammar.Place.{Place}
 use Rattle.bus_names.specs.declared.grammar.Place.TheVariants.{Slash, Root, First, Opening, Gap, Last}
-use Rattle.bus_names.specs.Grammar.{step, begins, stands, separator, next, fault_from, repeats, wanted}
+use Rattle.bus_names.specs.Grammar.{step, begins, stands, separator, next, fault_from, repeats}
 use Rattle.bus_names.specs.Reading.{interface_fault, member_fault, bus_name_fault}
 use Rattle.bus_names.proofs.Steps.{guard_some, step_is, onward_is}
 use Rattle.bus_names.proofs.Reading.{fault_from-none, fault_from-some}

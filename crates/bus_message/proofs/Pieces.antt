@@ -1,6 +1,5 @@
 -- A stream that is fed in pieces.
-use Rattle.std.proofs.Common.{◌≡◌, ℕ, ◌+◌, ◌^◌, ◌-◌, ◌<◌, ◌≤◌, min, List, [], ◌∷◌, ◌++◌, length, length-append, length-drop, take, drop, Option, Some, None, Result, Ok, Err, IfOk, refl, ap, sym, ◌∙◌, subst, append_assoc, append-nil, arith}
-use Rattle.std.specs.Prelude.{OnOk}
+use Rattle.std.proofs.Common.{◌≡◌, ℕ, ◌+◌, ◌^◌, ◌-◌, ◌<◌, ◌≤◌, min, List, [], ◌∷◌, ◌++◌, length, length-drop, take, drop, Option, Some, None, Result, Ok, Err, IfOk, refl, ap, sym, ◌∙◌, subst, append_assoc, append-nil, arith}
 use Rattle.std.proofs.lemmas.List.{drop-drop, take_all}
 use Rattle.login_base.specs.declared.memory.NoMemory.{NoMemory}
 use Rattle.bus_value.specs.Faults.{told}
@@ -11,9 +10,10 @@ use Rattle.bus_message.specs.declared.cutter.Cut.{Cut}
 use Rattle.bus_message.specs.declared.cutting.Next.{Next}
 use Rattle.bus_message.specs.declared.cutting.Next.TheVariants as next
 use Rattle.bus_message.specs.declared.cutting.Pieces.{Pieces}
-use Rattle.bus_message.specs.Cutting.{Front, Open, Bad, Whole, front, Cutting, open_at, bad_at, behind, in_stream, cut_from, cut}
-use Rattle.bus_message.specs.Feeding.{Stream, kept, HasFed, IsKept, Shows}
+use Rattle.bus_message.specs.Cutting.{Whole, front, Cutting, cut_from, cut}
+use Rattle.bus_message.specs.Feeding.{Stream, kept, HasFed, Feeds, IsKept, Shows}
 use Rattle.bus_message.specs.Outcomes.{before, ended, cut_at, LeavesOpen, IsCutFrom, Gives}
+use Rattle.bus_message.specs.Laws.{MalformedForGood}
 use Rattle.bus_message.proofs.Zeros.{told_small}
 use Rattle.bus_message.proofs.Cuts.{cut_open, cut_bad, cut_whole, onward, resume, cut-append}
 
@@ -64,7 +64,7 @@ pub told_sum : (place place2 n : ℕ) → place2 ≡ told place → min (place2 
 unfolding told
 told_sum place place2 n e = omega (arith, e)
 
-whole_cut : (text : List ℕ) → cut text ≡ cut_at 0 text
+pub whole_cut : (text : List ℕ) → cut text ≡ cut_at 0 text
 unfolding cut
 whole_cut text = refl
 
@@ -79,39 +79,38 @@ followed old text piece fed running =
     ∙ ap (λ (x : List ℕ). before (cut text).messages (cut_at (cut text).place (x ++ piece))) rest
 
 -- what a malformed stream is with a piece behind it
-stopped : (old : Stream) (text piece : List ℕ) (place : Malformed) → HasFed old text → old.malformed ≡ Some place
-    → cut (text ++ piece) ≡ cut text
-stopped old text piece place fed bad =
-    let some : (cut text).malformed ≡ Some place = sym (ap (λ (s : Stream). s.malformed) fed.state) ∙ bad in
+pub malformed_for_good : MalformedForGood
+malformed_for_good text piece place some =
     whole_cut (text ++ piece) ∙ cut-append 0 text piece ∙ sym (ap (λ (c : Cutting). resume c piece) (whole_cut text))
     ∙ ap (λ (x : Option Malformed). before (cut text).messages (onward x (cut text) piece)) some
     ∙ ap (λ (ms : List Message). record (cut text) { messages = ms }) (append-nil (cut text).messages)
 
-abbrev pub Fed : Stream → Stream → List ℕ → Cut → Type 0
-Fed old new piece answer = (text : List ℕ) → HasFed old text
-    → HasFed new (text ++ piece) × ((cut (text ++ piece)).messages ≡ (cut text).messages ++ answer.messages) × (answer.malformed ≡ (cut (text ++ piece)).malformed)
-
 -- the answer of a stream that is not malformed
-pub fed_open : (old new : Stream) (piece : List ℕ) (answer : Cut) → old.malformed ≡ None
+fed_open : (old new : Stream) (piece : List ℕ) (answer : Cut) → old.malformed ≡ None
     → ((place : ℕ) → old.place ≡ told place → Gives (cut_at place (old.rest ++ piece)) new answer)
-    → Fed old new piece answer
-fed_open old new piece answer running gives = λ text fed.
-    let whole = followed old text piece fed running in
-    let g = gives (cut text).place (ap (λ (s : Stream). s.place) fed.state) in (
-      record { state = g.kept_as ∙ sym (ap kept whole) },
-      ap (λ (c : Cutting). c.messages) whole ∙ ap (λ (ms : List Message). (cut text).messages ++ ms) (sym g.messages),
-      g.malformed ∙ sym (ap (λ (c : Cutting). c.malformed) whole),
-    )
+    → Feeds old piece new answer
+fed_open old new piece answer running gives =
+    let whole : (text : List ℕ) → HasFed old text → cut (text ++ piece) ≡ before (cut text).messages (cut_at (cut text).place (old.rest ++ piece)) =
+    λ text fed. followed old text piece fed running in
+    let g : (text : List ℕ) → HasFed old text → Gives (cut_at (cut text).place (old.rest ++ piece)) new answer =
+    λ text fed. gives (cut text).place (ap (λ (s : Stream). s.place) fed.state) in
+    record {
+      fed = λ text fed. record { state = (g text fed).kept_as ∙ sym (ap kept (whole text fed)) };
+      messages = λ text fed. ap (λ (c : Cutting). c.messages) (whole text fed) ∙ ap (λ (ms : List Message). (cut text).messages ++ ms) (sym (g text fed).messages);
+      malformed = λ text fed. (g text fed).malformed ∙ sym (ap (λ (c : Cutting). c.malformed) (whole text fed));
+    }
 
 -- the answer of one that is
 pub fed_bad : (old : Stream) (piece : List ℕ) (answer : Cut) (place : Malformed) → old.malformed ≡ Some place
-    → answer.messages ≡ [] → answer.malformed ≡ Some place → Fed old old piece answer
-fed_bad old piece answer place bad none same = λ text fed.
-    let whole = stopped old text piece place fed bad in (
-      record { state = fed.state ∙ sym (ap kept whole) },
-      ap (λ (c : Cutting). c.messages) whole ∙ sym (append-nil (cut text).messages) ∙ ap (λ (ms : List Message). (cut text).messages ++ ms) (sym none),
-      same ∙ sym bad ∙ ap (λ (s : Stream). s.malformed) fed.state ∙ sym (ap (λ (c : Cutting). c.malformed) whole),
-    )
+    → answer.messages ≡ [] → answer.malformed ≡ Some place → Feeds old piece old answer
+fed_bad old piece answer place bad none same =
+    let whole : (text : List ℕ) → HasFed old text → cut (text ++ piece) ≡ cut text =
+    λ text fed. malformed_for_good text piece place (sym (ap (λ (s : Stream). s.malformed) fed.state) ∙ bad) in
+    record {
+      fed = λ text fed. record { state = fed.state ∙ sym (ap kept (whole text fed)) };
+      messages = λ text fed. ap (λ (c : Cutting). c.messages) (whole text fed) ∙ sym (append-nil (cut text).messages) ∙ ap (λ (ms : List Message). (cut text).messages ++ ms) (sym none);
+      malformed = λ text fed. same ∙ sym bad ∙ ap (λ (s : Stream). s.malformed) fed.state ∙ sym (ap (λ (c : Cutting). c.malformed) (whole text fed));
+    }
 
 pub new_fed : (stream : Stream) → stream ≡ record { place = 0; rest = []; malformed = None } → HasFed stream []
 unfolding cut cut_from told
@@ -213,16 +212,6 @@ abbrev pub GivesMore : Stream → Stream → List ℕ → Result Cut NoMemory �
 GivesMore old new piece r = IfOk r (λ answer. (place : ℕ) → old.place ≡ told place → Gives (cut_at place (old.rest ++ piece)) new answer)
 
 pub now_fed : (old new : Stream) (piece : List ℕ) (r : Result Cut NoMemory) → old.malformed ≡ None → GivesMore old new piece r
-    → OnOk r ((text : List ℕ) → HasFed old text → HasFed new (text ++ piece))
-now_fed old new piece (Ok answer) running gives = λ text fed. (fed_open old new piece answer running gives text fed).0
+    → IfOk r (λ answer. Feeds old piece new answer)
+now_fed old new piece (Ok answer) running gives = fed_open old new piece answer running gives
 now_fed old new piece (Err e) running gives = tt
-
-pub now_given : (old new : Stream) (piece : List ℕ) (r : Result Cut NoMemory) → old.malformed ≡ None → GivesMore old new piece r
-    → IfOk r (λ answer. (text : List ℕ) → HasFed old text → (cut (text ++ piece)).messages ≡ (cut text).messages ++ answer.messages)
-now_given old new piece (Ok answer) running gives = λ text fed. (fed_open old new piece answer running gives text fed).1
-now_given old new piece (Err e) running gives = tt
-
-pub now_told : (old new : Stream) (piece : List ℕ) (r : Result Cut NoMemory) → old.malformed ≡ None → GivesMore old new piece r
-    → IfOk r (λ answer. (text : List ℕ) → HasFed old text → answer.malformed ≡ (cut (text ++ piece)).malformed)
-now_told old new piece (Ok answer) running gives = λ text fed. (fed_open old new piece answer running gives text fed).2
-now_told old new piece (Err e) running gives = tt

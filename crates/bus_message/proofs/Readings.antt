@@ -10,7 +10,6 @@ use Rattle.bus_names.specs.declared.fault.NameFault.TheVariants.{BadName, BadLab
 use Rattle.bus_names.specs.declared.fault.NameFault.TheVariants as faults
 use Rattle.bus_names.specs.Types.{Shape, signature_text}
 use Rattle.bus_names.specs.Types as types
-use Rattle.bus_names.specs.Signatures.{IsWithin}
 use Rattle.bus_names.specs.Parsing.{signature_of}
 use Rattle.bus_names.specs.Reading as readers
 use Rattle.bus_names.proofs.TypesFaults.{signature_read}
@@ -27,8 +26,8 @@ use Rattle.bus_message.specs.declared.header.Header.{Header}
 use Rattle.bus_message.specs.Faults.{for_cause, Gives}
 use Rattle.bus_message.specs.Headers.{fields_end, body_start}
 use Rattle.bus_message.specs.Reading.{fields_read, body_read}
-use Rattle.bus_message.specs.Names.{Names, IsRefused}
-use Rattle.bus_message.specs.Fields.{list_type, listed, fields_in, found, signature, text_at, types_at, name_at, without_fault}
+use Rattle.bus_message.specs.Names.{Names}
+use Rattle.bus_message.specs.Fields.{list_type, listed, fields_in, found, signature, text_at, types_at, name_at}
 
 -- a name that was read from the text of a field
 pub name_read : (fault : List ℕ → Option ℕ) (v : Option Val) (text : List ℕ) (answer : Result (List ℕ) NameFault) (name : Result (Option (List ℕ)) NoMemory)

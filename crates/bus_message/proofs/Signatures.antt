@@ -1,11 +1,11 @@
 -- The signature in the fields is one of the format.
-use Rattle.std.proofs.Common.{◌≡◌, ℕ, ◌+◌, List, [], ◌∷◌, length, Bool, true, false, cond, eqb, Option, Some, None, refl, ap, subst, sym, ◌∙◌, arith}
+use Rattle.std.proofs.Common.{◌≡◌, ℕ, ◌+◌, List, [], ◌∷◌, length, Bool, true, false, cond, eqb, Option, Some, None, refl, subst, arith}
 use Rattle.bus_names.specs.Types.{Shape}
 use Rattle.bus_names.specs.Signatures.{IsWithin}
 use Rattle.bus_value.specs.declared.basic_value.BasicValue.{BasicValue}
-use Rattle.bus_value.specs.declared.basic_value.BasicValue.TheVariants.{Byte, Bool as Boolean, I16, U16, I32, U32, I64, U64, Double, Str, Path, Sig, Handle}
+use Rattle.bus_value.specs.declared.basic_value.BasicValue.TheVariants.{Sig}
 use Rattle.bus_value.specs.declared.order.Order.{Order}
-use Rattle.bus_value.specs.Values.{Val, Vals, vals, basic, array, struct, dict, variant, none, more, shape}
+use Rattle.bus_value.specs.Values.{Val, Vals, vals, basic, array, struct, dict, variant, none, more}
 use Rattle.bus_value.specs.Spelling.{spelling}
 use Rattle.bus_value.specs.Grammar.{Spells}
 use Rattle.bus_value.proofs.Rules.{computed}

@@ -1,10 +1,9 @@
 -- What is read as a message is spelled so.
-use Rattle.std.proofs.Common.{◌≡◌, ℕ, zero, suc, ◌+◌, ◌-◌, ◌^◌, ◌<◌, ◌≤◌, List, [], ◌∷◌, ◌++◌, length, length-append, length-drop, length-take, take, drop, replicate, get_or, min, Bool, true, false, not, cond, eqb, ltb, Option, Some, None, Result, Ok, Err, refl, ap, sym, ◌∙◌, subst, append_assoc, append-nil, arith}
+use Rattle.std.proofs.Common.{◌≡◌, ℕ, zero, suc, ◌+◌, ◌-◌, ◌<◌, ◌≤◌, List, [], ◌∷◌, ◌++◌, length, length-drop, length-take, take, drop, replicate, get_or, min, Bool, true, false, not, cond, eqb, ltb, Option, Some, None, Result, Ok, Err, refl, ap, sym, ◌∙◌, subst, arith}
 use Rattle.std.proofs.lemmas.List.{take-append-drop, take-append-le, get_or-drop, drop-drop}
 use Rattle.std.proofs.Math.Seq.{take-add}
 use Rattle.std.proofs.lemmas.Bool.Decides.{nat_tests}
 use Rattle.bus_names.specs.Types.{Shape}
-use Rattle.bus_names.specs.Types as types
 use Rattle.bus_value.specs.declared.fault.ValueFault.{ValueFault}
 use Rattle.bus_value.specs.declared.order.Order.{Order}
 use Rattle.bus_value.specs.declared.order.Order.TheVariants.{Little, Big}
@@ -19,20 +18,19 @@ use Rattle.bus_value.proofs.NumberSound.{AreBytes, back_4, bound_4, same_front}
 use Rattle.bus_value.proofs.Rules.{computed}
 use Rattle.bus_value.proofs.GrammarLaws.{all_read_so}
 use Rattle.bus_message.specs.declared.fault.Cause.{Cause}
-use Rattle.bus_message.specs.declared.fault.Cause.TheVariants.{MissingField, BadField, BadBody, FdsNotAgreed}
+use Rattle.bus_message.specs.declared.fault.Cause.TheVariants.{BadField, BadBody}
 use Rattle.bus_message.specs.declared.fault.Fault.{Fault}
 use Rattle.bus_message.specs.declared.header.Header.{Header}
 use Rattle.bus_message.specs.declared.message.Message.{Message}
-use Rattle.bus_message.specs.Faults.{is_at, and_then, for_cause}
-use Rattle.bus_message.specs.Headers.{order_letter, order_of, fields_end, body_start, size, most, stated, accepted, header_by, header_of}
+use Rattle.bus_message.specs.Faults.{and_then, for_cause}
+use Rattle.bus_message.specs.Headers.{order_letter, order_of, fields_end, body_start, size, most, stated, header_by, header_of}
 use Rattle.bus_message.specs.Fields.{field_type, list_type, listed, elements, fields_in, bad_field, has_required, handles, signature}
 use Rattle.bus_message.specs.Checks.{Tells}
-use Rattle.bus_message.specs.Reading.{fields_read, gap, padding_read, headed, unless_bad, fields_kept, body_read, with_fields, message_of}
-use Rattle.bus_message.specs.Spelling.{opening, list_of, behind_list, assembled}
-use Rattle.bus_message.specs.Grammar.{HasNumbers, HasFields, IsSpelled, IsMessage}
+use Rattle.bus_message.specs.Reading.{fields_read, gap, padding_read, headed, unless_bad, fields_kept, body_read, message_of}
+use Rattle.bus_message.specs.Spelling.{opening, list_of}
+use Rattle.bus_message.specs.Grammar.{HasFields, IsSpelled, IsMessage}
 use Rattle.bus_message.specs.Cutting.{Whole, front}
-use Rattle.bus_message.proofs.Cuts.{IsWholeAt, front_whole}
-use Rattle.bus_message.proofs.Wholes.{sixteen}
+use Rattle.bus_message.proofs.Cuts.{front_whole}
 
 pub are_taken : (n : ℕ) (xs : List ℕ) → AreBytes xs → AreBytes (take n xs)
 are_taken zero xs h i = omega arith

@@ -1,32 +1,30 @@
 -- A message that is spelled is read, with any bytes behind it.
-use Rattle.std.proofs.Common.{◌≡◌, ℕ, zero, suc, ◌+◌, ◌-◌, ◌*◌, ◌^◌, ◌<◌, ◌≤◌, List, [], ◌∷◌, ◌++◌, length, length-append, take, drop, replicate, get_or, Bool, true, false, cond, eqb, ltb, Option, Some, None, Result, Ok, Err, refl, ap, sym, ◌∙◌, subst, append_assoc, append-nil, arith}
-use Rattle.std.proofs.lemmas.List.{take-append-le, drop-append-le, length-replicate, take_all}
+use Rattle.std.proofs.Common.{◌≡◌, ℕ, zero, suc, ◌+◌, ◌-◌, ◌^◌, ◌<◌, ◌≤◌, List, [], ◌∷◌, ◌++◌, length, length-append, take, drop, replicate, get_or, true, false, eqb, ltb, Some, Ok, refl, ap, sym, ◌∙◌, append_assoc, append-nil, arith}
+use Rattle.std.proofs.lemmas.List.{length-replicate}
 use Rattle.std.proofs.Math.Seq.{take-append_seam, drop-append_seam}
 use Rattle.std.proofs.lemmas.Bool.Decides.{nat_tests}
-use Rattle.bus_names.specs.Types.{Shape}
 use Rattle.bus_names.specs.Signatures.{IsWithin}
 use Rattle.bus_value.specs.declared.order.Order.{Order}
 use Rattle.bus_value.specs.declared.order.Order.TheVariants.{Little, Big}
-use Rattle.bus_value.specs.Values.{Val, vals, array}
+use Rattle.bus_value.specs.Values.{Val, vals}
 use Rattle.bus_value.specs.Spelling.{pad_size, padding, spellings}
-use Rattle.bus_value.specs.Faults.{zeros, told}
+use Rattle.bus_value.specs.Faults.{zeros}
 use Rattle.bus_value.specs.Reading.{read_all}
 use Rattle.bus_value.specs.Grammar.{Spells}
 use Rattle.bus_value.specs.Numbers.{number_bytes, number}
 use Rattle.bus_value.proofs.NumberLaws.{spelled_4, width_4}
 use Rattle.bus_value.proofs.Rules.{computed}
 use Rattle.bus_value.proofs.GrammarLaws.{read_so}
-use Rattle.bus_message.specs.declared.fault.Cause.TheVariants.{MissingField, BadField, BadBody, FdsNotAgreed}
-use Rattle.bus_message.specs.declared.fault.Fault.{Fault}
+use Rattle.bus_message.specs.declared.fault.Cause.TheVariants.{BadField, BadBody}
 use Rattle.bus_message.specs.declared.header.Header.{Header}
 use Rattle.bus_message.specs.declared.message.Message.{Message}
-use Rattle.bus_message.specs.Faults.{is_at, and_then, for_cause}
+use Rattle.bus_message.specs.Faults.{and_then, for_cause}
 use Rattle.bus_message.specs.Headers.{order_letter, order_of, fields_end, body_start, size, most, stated, accepted, header_by, header_of}
-use Rattle.bus_message.specs.Fields.{field_type, list_type, listed, fields_in, bad_field, has_required, handles, signature}
+use Rattle.bus_message.specs.Fields.{list_type, listed, fields_in, has_required, handles, signature}
 use Rattle.bus_message.specs.Checks.{Tells}
-use Rattle.bus_message.specs.Reading.{fields_read, gap, padding_read, headed, unless_bad, fields_kept, body_read, with_fields, message_of}
+use Rattle.bus_message.specs.Reading.{fields_read, gap, padding_read, headed, fields_kept, body_read, with_fields, message_of}
 use Rattle.bus_message.specs.Spelling.{opening, list_of, behind_list, assembled}
-use Rattle.bus_message.specs.Grammar.{HasNumbers, HasFields, IsSpelled, IsMessage}
+use Rattle.bus_message.specs.Grammar.{HasFields, IsMessage}
 use Rattle.bus_message.specs.Cutting.{Whole, front}
 use Rattle.bus_message.proofs.Cuts.{IsWholeAt, whole_front}
 use Rattle.bus_message.proofs.Signatures.{signature_within}

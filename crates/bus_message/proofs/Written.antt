@@ -1,7 +1,6 @@
 -- The fields that are written are read again.
-use Rattle.std.proofs.Common.{◌≡◌, ℕ, zero, suc, ◌+◌, ◌-◌, ◌^◌, ◌<◌, ◌≤◌, List, [], ◌∷◌, ◌++◌, length, length-append, Bool, true, false, not, ◌&&◌, ◌||◌, cond, eqb, leb, ltb, Option, Some, None, is_some, Result, Ok, Err, IfOk, refl, ap, sym, ◌∙◌, subst, append_assoc, append-nil, arith, lit≤, lit<}
+use Rattle.std.proofs.Common.{◌≡◌, ℕ, ◌+◌, ◌^◌, ◌<◌, ◌≤◌, List, [], ◌∷◌, ◌++◌, length, length-append, Bool, true, false, cond, eqb, leb, Option, Some, None, is_some, Result, Ok, Err, IfOk, refl, ap, sym, ◌∙◌, subst, append_assoc, append-nil, arith, lit<}
 use Rattle.std.specs.Option.{option_map}
-use Rattle.std.proofs.lemmas.Bool.Decides.{nat_tests}
 use Rattle.login_base.specs.declared.memory.NoMemory.{NoMemory}
 use Rattle.bus_names.specs.declared.basic.Basic.{Basic}
 use Rattle.bus_names.specs.Types.{Shape}
@@ -13,15 +12,15 @@ use Rattle.bus_value.specs.declared.basic_value.BasicValue.TheVariants.{Byte, Bo
 use Rattle.bus_value.specs.declared.order.Order.{Order}
 use Rattle.bus_value.specs.BasicValues.{kind_of}
 use Rattle.bus_value.specs.Values.{Val, vals, basic, shapes}
-use Rattle.bus_value.specs.Spelling.{pad_size, spelling, spellings, padding}
-use Rattle.bus_value.specs.Limits.{HasRoom, Fits, AllFit}
+use Rattle.bus_value.specs.Spelling.{spelling, padding}
+use Rattle.bus_value.specs.Limits.{HasRoom, AllFit}
 use Rattle.bus_value.specs.Grammar.{Spells}
 use Rattle.bus_value.specs.Texts.{is_text}
-use Rattle.bus_value.proofs.Typing.{IsLegal, HasType, AllHave, EachHas}
+use Rattle.bus_value.proofs.Typing.{IsLegal, HasType, AllHave}
 use Rattle.bus_value.proofs.RulesHold.{spelled_so}
 use Rattle.bus_message.specs.declared.message.Message.{Message}
 use Rattle.bus_message.specs.Checks.{Tells}
-use Rattle.bus_message.specs.Fields.{field_type, list_type, number, held, found, path_at, text_at, u32_at, types_at, name_at, is_typed, is_bad, bad_field, has_required, signature, handles}
+use Rattle.bus_message.specs.Fields.{field_type, list_type, found, path_at, u32_at, name_at, is_typed, is_bad, bad_field, has_required, signature}
 use Rattle.bus_message.specs.Spelling.{opening, field, field_if, body_types, fields_of, list_of, list_bytes, behind_list, body_bytes, assembled, message_with, message_bytes}
 use Rattle.bus_message.specs.Named.{IsNameIf, IsU32If, HasNames, HasRanges}
 use Rattle.bus_message.specs.Grammar.{HasNumbers, HasFields, IsSpelled}

@@ -1,8 +1,7 @@
 -- A stream that is fed in pieces.
-use Rattle.std.specs.Prelude.{ℕ, ◌≡◌, ◌≤◌, List, [], Option, Some, None, Result, Ok, Err, ⊤}
+use Rattle.std.specs.Prelude.{ℕ, ◌≡◌, ◌≤◌, List, [], ◌∷◌, ◌++◌, Option, Some, None, Result, Ok, Err, ⊤}
 use Rattle.login_base.specs.declared.memory.NoMemory.{NoMemory}
 use Rattle.bus_value.specs.Faults.{told}
-use Rattle.bus_message.specs.declared.fault.Fault.{Fault}
 use Rattle.bus_message.specs.declared.fault.Malformed.{Malformed}
 use Rattle.bus_message.specs.declared.fault.Refusal.{Refusal}
 use Rattle.bus_message.specs.declared.fault.Refusal.TheVariants as refusals
@@ -25,6 +24,18 @@ kept c = record { place = told c.place; rest = c.rest; malformed = c.malformed }
 -- what was fed so far, all pieces joined, is this text
 pub record HasFed (stream : Stream) (text : List ℕ) : Type 0 where
   pub state : stream ≡ kept (cut text)
+
+-- what a piece led to: it was fed behind all that was fed before, and the answer is what it brought about
+pub record Feeds (old : Stream) (piece : List ℕ) (new : Stream) (answer : Cut) : Type 0 where
+  pub fed : (text : List ℕ) → HasFed old text → HasFed new (text ++ piece)
+  pub messages : (text : List ℕ) → HasFed old text → (cut (text ++ piece)).messages ≡ (cut text).messages ++ answer.messages
+  pub malformed : (text : List ℕ) → HasFed old text → answer.malformed ≡ (cut (text ++ piece)).malformed
+
+-- a stream that is new or was fed these pieces, all messages that it gave, and what the last answer said is malformed
+pub data WasFed : Stream → List (List ℕ) → List Message → Option Malformed → Type 0 where
+  new : {stream : Stream} → HasFed stream [] → WasFed stream [] [] None
+  fed : {old new : Stream} {pieces : List (List ℕ)} {piece : List ℕ} {messages : List Message} {malformed : Option Malformed} {answer : Cut}
+      → WasFed old pieces messages malformed → Feeds old piece new answer → WasFed new (pieces ++ piece ∷ []) (messages ++ answer.messages) answer.malformed
 
 -- behind a fault nothing is kept; else no whole message is, and none that shows a fault
 abbrev pub IsKept : Option Malformed → List ℕ → Type 0

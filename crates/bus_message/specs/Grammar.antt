@@ -1,15 +1,12 @@
 -- Which bytes are which message: the D-Bus Specification, "Message Protocol".
-use Rattle.std.specs.Prelude.{ℕ, ◌≡◌, ◌≤◌, ◌<◌, ◌^◌, List, [], ◌∷◌, ◌++◌, length, slice_index, true, None}
-use Rattle.bus_names.specs.Signatures.{IsWithin}
-use Rattle.bus_value.specs.Values.{Val, vals, shapes}
-use Rattle.bus_value.specs.Spelling.{spellings}
-use Rattle.bus_value.specs.Limits.{AllFit}
+use Rattle.std.specs.Prelude.{ℕ, ◌≡◌, ◌≤◌, ◌<◌, ◌^◌, List, [], ◌∷◌, length, slice_index, true, None}
+use Rattle.bus_value.specs.Values.{Val}
 use Rattle.bus_value.specs.Grammar.{Spells}
 use Rattle.bus_message.specs.declared.message.Message.{Message}
 use Rattle.bus_message.specs.Checks.{Tells}
 use Rattle.bus_message.specs.Fields.{list_type, bad_field, has_required, handles, signature}
 use Rattle.bus_message.specs.Headers.{most}
-use Rattle.bus_message.specs.Spelling.{fields_of, list_of, list_bytes, behind_list, assembled}
+use Rattle.bus_message.specs.Spelling.{list_of, behind_list, assembled}
 
 -- each is a byte
 abbrev pub AreBytes : List ℕ → Type 0

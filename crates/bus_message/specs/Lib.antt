@@ -12,3 +12,4 @@ pub mod Spelling
 pub mod Grammar
 pub mod Stream
 pub mod Named
+pub mod Laws

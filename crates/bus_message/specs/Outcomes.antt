@@ -1,11 +1,10 @@
 -- What a piece led to.
-use Rattle.std.specs.Prelude.{ℕ, ◌≡◌, ◌≤◌, ◌+◌, ◌++◌, List, [], length, drop, Option, Some, None, Result, Ok, Err}
-use Rattle.bus_value.specs.Faults.{told}
+use Rattle.std.specs.Prelude.{ℕ, ◌≡◌, ◌≤◌, ◌+◌, ◌++◌, List, length, drop, Option, Some, None}
 use Rattle.bus_message.specs.declared.fault.Fault.{Fault}
 use Rattle.bus_message.specs.declared.message.Message.{Message}
 use Rattle.bus_message.specs.declared.cutting.Pieces.{Pieces}
 use Rattle.bus_message.specs.declared.cutter.Cut.{Cut}
-use Rattle.bus_message.specs.Cutting.{Cutting, Front, Open, Bad, front, open_at, bad_at, cut_from}
+use Rattle.bus_message.specs.Cutting.{Cutting, Open, Bad, front, open_at, bad_at, cut_from}
 use Rattle.bus_message.specs.Feeding.{Stream, kept}
 
 -- messages in front

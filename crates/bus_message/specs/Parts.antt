@@ -1,5 +1,5 @@
 -- Parts of what the fields tell.
-use Rattle.std.specs.Prelude.{ℕ, List}
+use Rattle.std.specs.Prelude.{List}
 use Rattle.bus_names.specs.Reading.{interface_fault, member_fault, bus_name_fault}
 use Rattle.bus_value.specs.Values.{Val}
 use Rattle.bus_message.specs.declared.reading.Target.{Target}

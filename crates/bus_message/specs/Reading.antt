@@ -1,5 +1,5 @@
 -- How a whole message is read: the message, or its first fault.
-use Rattle.std.specs.Prelude.{ℕ, ◌≡◌, ◌+◌, ◌-◌, ◌==◌, List, [], ◌∷◌, take, drop, Option, Some, None, Result, Ok, Err, if◌then◌else◌}
+use Rattle.std.specs.Prelude.{ℕ, ◌+◌, ◌-◌, ◌==◌, List, [], ◌∷◌, take, drop, Option, Some, None, Result, Ok, if◌then◌else◌}
 use Rattle.bus_names.specs.Reading.{interface_fault, member_fault, bus_name_fault}
 use Rattle.bus_value.specs.Values.{Val}
 use Rattle.bus_value.specs.Faults.{zeros}

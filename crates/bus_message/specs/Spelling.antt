@@ -1,7 +1,6 @@
 -- The bytes of a message: the D-Bus Specification, "Message Format".
 use Rattle.std.specs.Prelude.{ℕ, ◌+◌, List, [], ◌∷◌, ◌++◌, length, Option, Some, None}
 use Rattle.std.specs.Option.{option_map}
-use Rattle.bus_names.specs.Types.{Shape}
 use Rattle.bus_value.specs.declared.basic_value.BasicValue.{BasicValue}
 use Rattle.bus_value.specs.declared.basic_value.BasicValue.TheVariants.{Byte, U32, Str, Path, Sig}
 use Rattle.bus_value.specs.declared.order.Order.{Order}
@@ -65,6 +64,10 @@ assembled m list body = opening m (length body) ++ (list ++ (padding (12 + lengt
 
 abbrev pub body_bytes : Message → List Val → List ℕ
 body_bytes m fs = spellings m.order (behind_list (length (list_bytes m.order fs))) (vals m.body)
+
+-- where the body of a message starts
+abbrev pub body_offset : Message → ℕ
+body_offset m = behind_list (length (list_bytes m.order (fields_of m)))
 
 -- the message with these fields
 abbrev pub message_with : Message → List Val → List ℕ

@@ -11,10 +11,10 @@ abbrev pub Begins : List ℕ → List Message → List ℕ → Type 0
 Begins text [] rest = text ≡ rest
 Begins text (m ∷ ms) rest = (bytes : List ℕ) × ((more : List ℕ) × (IsMessage bytes m × ((text ≡ bytes ++ more) × Begins more ms rest)))
 
--- the rest, at its place, is kept where it shows nothing yet; else it shows a fault, which is told
+-- the rest, at its place, is kept where it shows nothing yet; else it shows a fault, which is told, and nothing is kept
 abbrev pub Leaves : Option Malformed → ℕ → List ℕ → List ℕ → Type 0
 Leaves None place kept rest = (front rest ≡ Open) × (kept ≡ rest)
-Leaves (Some told) place kept rest = (e : Fault) × ((front rest ≡ Bad e) × (told ≡ in_stream place e))
+Leaves (Some told) place kept rest = (kept ≡ []) × ((e : Fault) × ((front rest ≡ Bad e) × (told ≡ in_stream place e)))
 
 -- what is cut from a text is what stands at its front, all of it
 pub record IsCut (text : List ℕ) (c : Cutting) : Type 0 where

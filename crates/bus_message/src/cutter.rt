@@ -1,11 +1,8 @@
 // A stream of messages, fed in pieces.
 
-ghost use Rattle.std.specs.Prelude.{◌≡◌, ◌++◌, ◌≤◌, List, ℕ, [], length, drop, None, Some, OnOk, OnErr, IfOk};
+ghost use Rattle.std.specs.Prelude.{◌≡◌, ◌++◌, ◌≤◌, ℕ, [], length, drop, None, Some, OnErr, IfOk};
 ghost use Rattle.bus_value.specs.Faults.{told};
-ghost use Rattle.bus_message.specs.Cutting.{Whole, cut, front};
-ghost use Rattle.bus_message.specs.Grammar.{AreBytes, IsMessage};
-ghost use Rattle.bus_message.specs.Stream.{IsCut};
-ghost use Rattle.bus_message.specs.Feeding.{HasFed, IsEnded, IsKept};
+ghost use Rattle.bus_message.specs.Feeding.{Feeds, HasFed, IsEnded, IsKept};
 ghost use Rattle.bus_message.specs.Outcomes.{IsCutFrom, Gives, before, ended, cut_at};
 
 use crate::cutting::{Pieces, cut_messages};
@@ -113,14 +110,6 @@ impl Cutter {
     /// A stream of which nothing was fed. It takes no memory.
     pub fn new(alloc: Global) -> Cutter
         ensures fed { HasFed result [] }
-        // What is cut from a text is what stands at its front, all of it.
-        ensures cut { (text : List ℕ) → AreBytes text → IsCut text (cut text) }
-        // The bytes of a message are cut as that message, whatever stands behind them.
-        ensures whole { (bytes more : List ℕ) (message : Message) → IsMessage bytes message
-            → front (bytes ++ more) ≡ Whole (length bytes) message }
-        // No message's bytes begin another message's.
-        ensures one { (bytes more : List ℕ) (message other : Message) → IsMessage bytes message
-            → IsMessage (bytes ++ more) other → more ≡ [] }
     {
         Cutter {
             place: 0,
@@ -131,12 +120,8 @@ impl Cutter {
 
     /// Cuts the messages that are whole with the piece. A stream that is malformed takes no memory.
     pub fn feed(&mut self, alloc: Global, piece: &[u8]) -> Result<Cut, NoMemory>
-        // Whatever was fed before, it is now that and the piece.
-        ensures fed { OnOk result ((text : List ℕ) → HasFed self.old text → HasFed self.new (text ++ piece.now)) }
-        ensures messages { IfOk result (λ answer. (text : List ℕ) → HasFed self.old text
-            → (cut (text ++ piece.now)).messages ≡ (cut text).messages ++ answer.messages) }
-        ensures malformed { IfOk result (λ answer. (text : List ℕ) → HasFed self.old text
-            → answer.malformed ≡ (cut (text ++ piece.now)).malformed) }
+        // It goes on as one that is fed all bytes at once.
+        ensures fed { IfOk result (λ answer. Feeds self.old piece.now self.new answer) }
         ensures shown { IfOk result (λ answer. answer.malformed ≡ self.new.malformed) }
         // A stream that is malformed stays so, and gives no message.
         ensures ended { (place : Malformed) → self.old.malformed ≡ Some place → IsEnded result place }

@@ -4,16 +4,15 @@ ghost use Rattle.std.specs.Prelude.{◌≡◌, ◌≤◌, ◌<◌, ◌^◌, ◌+
 ghost use Rattle.std.specs.Option.{option_map};
 ghost use Rattle.bus_names.specs.Reading.{path_fault, interface_fault, member_fault, bus_name_fault};
 ghost use Rattle.bus_names.specs.Signatures.{IsWithin};
-ghost use Rattle.bus_value.specs.Grammar.{Spells};
 ghost use Rattle.bus_value.specs.Limits.{AllFit};
-ghost use Rattle.bus_value.specs.Spelling.{spellings};
+ghost use Rattle.bus_value.specs.Typed.{AreTyped};
 ghost use Rattle.bus_value.specs.Values.{basic, vals, shapes};
 ghost use Rattle.bus_value.specs.declared.basic_value.BasicValue.TheVariants.{Str, Path, U32, Sig};
 ghost use Rattle.bus_message.specs.Fields.{field_type, has_required};
 ghost use Rattle.bus_message.specs.Grammar.{IsSpelled};
 ghost use Rattle.bus_message.specs.Headers.{order_letter};
 ghost use Rattle.bus_message.specs.Named.{HasAnswer, HasNames, HasParties, HasRanges, HasTarget, IsNameIf, IsU32If};
-ghost use Rattle.bus_message.specs.Spelling.{assembled, answer_fields, behind_list, body_bytes, body_types, field, field_if, fields_of, list_bytes, list_of, message_bytes, opening, party_fields, target_fields};
+ghost use Rattle.bus_message.specs.Spelling.{assembled, answer_fields, body_offset, body_types, field, field_if, fields_of, list_of, message_bytes, opening, party_fields, target_fields};
 
 use crate::message::Message;
 use crate::reading::signature_of;
@@ -264,20 +263,17 @@ fn assemble(alloc: Global, message: &Message, list: &[u8], body: &[u8]) -> Resul
     Ok(Bytes::from_vec(out))
 }
 
-/// The bytes of the message, with its fields in ascending order. The condition is that it is within the limits of the
-/// D-Bus Specification, but for its size, and has the fields that its kind requires.
+/// The bytes of the message, with its fields in ascending order. The condition is that it has the fields that its kind
+/// requires, and that fields and body are within the limits of the D-Bus Specification; but the whole may be 2^27 bytes long.
 #[tactic(auto, unfolding(crate::specs::Spelling::message_bytes))]
 pub fn encode(alloc: Global, message: &Message) -> Result<Bytes, NoMemory>
     requires kind { 0 < message.now.kind }
     requires serial { 0 < message.now.serial }
     requires fields { IsTrue (has_required message.now) }
-    requires limits { AllFit message.now.order 12 (vals (list_of (fields_of message.now))) }
+    requires field_limits { AllFit message.now.order 12 (vals (list_of (fields_of message.now))) }
     requires types { IsWithin (shapes (vals message.now.body)) }
-    requires body { let bytes = body_bytes message.now (fields_of message.now) in
-        let start = behind_list (length (list_bytes message.now.order (fields_of message.now))) in
-        Spells message.now.order start (shapes (vals message.now.body)) message.now.body bytes }
-    requires body_limits { let start = behind_list (length (list_bytes message.now.order (fields_of message.now))) in
-        AllFit message.now.order start (vals message.now.body) }
+    requires body { AreTyped 0 (shapes (vals message.now.body)) (vals message.now.body) }
+    requires body_limits { AllFit message.now.order (body_offset message.now) (vals message.now.body) }
     requires size { length (message_bytes message.now) ≤ 2 ^ 27 }
     ensures written { IfOk result (λ bytes. bytes ≡ message_bytes message.now) }
     // these bytes are the message, however long it is

@@ -9,12 +9,17 @@ mod encoding;
 mod fault;
 mod fields;
 mod header;
+mod law;
 mod message;
 mod reading;
 
 pub use cutter::{Cut, Cutter};
 pub use encoding::encode;
 pub use fault::{Cause, Malformed};
+pub use law::{
+    cut_is_front, in_any_pieces, malformed_for_good, message_is_cut, no_continuation, one_cut,
+    one_message, prefix_free,
+};
 pub use message::Message;
 
 #[cfg(test)]

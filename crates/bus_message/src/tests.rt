@@ -2,16 +2,20 @@
 
 ghost use Rattle.std.specs.Prelude.{◌≡◌, [], None, Some};
 
+mod accepted;
 mod clients;
 mod faults;
+mod limits;
 
 use super::*;
-use bus_names::{BusName, Interface};
-use bus_value::Order;
+use accepted::{BY_HAND, GLIB, JEEPNEY};
+use bus_names::{BusName, Interface, Member, ObjectPath};
+use bus_value::{Order, Value};
 use clients::{SENT, Sent};
 use faults::{
     BIG_FIELDS, BIG_REST, BIG_VALUES, HEADERS, LITTLE_FIELDS, LITTLE_REST, LITTLE_VALUES, Row,
 };
+use limits::LIMITS;
 use login_base::{Items, NoMemory};
 use std::alloc::Global;
 use std::slice;
@@ -62,63 +66,149 @@ fn are_shown(alloc: Global, rows: &[Row]) -> Result<bool, NoMemory> {
     Ok(true)
 }
 
-/// Whether a name is this text; none is the empty one.
-fn is_named(name: Option<&[u8]>, text: &[u8]) -> bool {
-    match name {
-        Some(name) => name == text,
+/// Whether a path is this text; none is the empty one.
+fn is_path(path: &Option<ObjectPath>, text: &[u8]) -> bool {
+    match path {
+        Some(path) => path.as_slice() == text,
         None => text.is_empty(),
     }
 }
 
-/// Whether the message says what was sent.
-fn is_sent(message: &Message, sent: &Sent) -> bool {
-    let path = match &message.path {
-        Some(path) => Some(path.as_slice()),
-        None => None,
-    };
-    let interface = match &message.interface {
-        Some(name) => Some(name.as_slice()),
-        None => None,
-    };
-    let member = match &message.member {
-        Some(name) => Some(name.as_slice()),
-        None => None,
-    };
-    let destination = match &message.destination {
-        Some(name) => Some(name.as_slice()),
-        None => None,
-    };
-    message.kind == sent.kind
+/// The same of an interface or an error.
+fn is_interface(name: &Option<Interface>, text: &[u8]) -> bool {
+    match name {
+        Some(name) => name.as_slice() == text,
+        None => text.is_empty(),
+    }
+}
+
+/// The same of a member.
+fn is_member(name: &Option<Member>, text: &[u8]) -> bool {
+    match name {
+        Some(name) => name.as_slice() == text,
+        None => text.is_empty(),
+    }
+}
+
+/// The same of a connection.
+fn is_bus_name(name: &Option<BusName>, text: &[u8]) -> bool {
+    match name {
+        Some(name) => name.as_slice() == text,
+        None => text.is_empty(),
+    }
+}
+
+/// Whether the first bytes say what was sent.
+fn is_header(message: &Message, sent: &Sent) -> bool {
+    (message.order == Order::Big) == sent.bytes.starts_with(b"B")
+        && message.kind == sent.kind
         && message.flags == sent.flags
         && message.serial == sent.serial
-        && is_named(path, sent.path)
-        && is_named(interface, sent.interface)
-        && is_named(member, sent.member)
-        && is_named(destination, sent.destination)
-        && message.body.len() == sent.values
 }
 
-#[test]
-fn a_call_in_every_two_pieces(rt: HostRuntime) -> Result<(), NoMemory> {
-    let alloc = rt.alloc();
-    for at in 0..=GET_SESSION.len() {
-        let mut cutter = Cutter::new(alloc);
-        let first = cutter.feed(alloc, &GET_SESSION[..at])?;
-        let second = cutter.feed(alloc, &GET_SESSION[at..])?;
-        assert!(rt; first.malformed.is_none() && second.malformed.is_none());
-        assert!(rt; first.messages.is_empty() == (at < GET_SESSION.len()));
-        assert!(rt; second.messages.is_empty() == (at == GET_SESSION.len()));
+/// Whether the target is what was sent.
+fn is_target(message: &Message, sent: &Sent) -> bool {
+    is_path(&message.path, sent.path)
+        && is_interface(&message.interface, sent.interface)
+        && is_member(&message.member, sent.member)
+}
+
+/// Whether the other fields are what was sent.
+fn are_fields(message: &Message, sent: &Sent) -> bool {
+    is_interface(&message.error, sent.error)
+        && message.reply_to == sent.reply_to
+        && is_bus_name(&message.destination, sent.destination)
+        && is_bus_name(&message.sender, sent.sender)
+}
+
+/// Whether the values are of these types.
+fn are_typed(alloc: Global, values: &[Value], types: &[u8]) -> Result<bool, NoMemory> {
+    let mut letters = Vec::new(alloc);
+    for value in values {
+        value.push_type(&mut letters)?;
     }
-    Ok(())
+    Ok(letters.as_slice() == types)
 }
 
-/// Whether the text, byte by byte, is one message that is cut with its last byte.
-fn is_one_message(alloc: Global, text: &[u8]) -> Result<bool, NoMemory> {
+/// Whether the message says what was sent.
+fn is_sent(alloc: Global, message: &Message, sent: &Sent) -> Result<bool, NoMemory> {
+    Ok(
+        is_header(message, sent)
+            && is_target(message, sent)
+            && are_fields(message, sent)
+            && are_typed(alloc, message.body.as_slice(), sent.types)?,
+    )
+}
+
+/// Whether the bytes are one message, which says what was sent.
+fn is_whole(alloc: Global, sent: &Sent) -> Result<bool, NoMemory> {
+    let mut cutter = Cutter::new(alloc);
+    let cut = cutter.feed(alloc, sent.bytes)?;
+    match cut.messages.as_slice() {
+        [message] => Ok(cut.malformed.is_none() && is_sent(alloc, message, sent)?),
+        _ => Ok(false),
+    }
+}
+
+/// How many of the messages that end at these places are whole with so many bytes.
+fn count_whole(ends: &[usize], bytes: usize) -> usize {
+    let mut count: usize = 0;
+    for end in ends {
+        if *end <= bytes {
+            count = count.saturating_add(1);
+        }
+    }
+    count
+}
+
+/// Whether a text that is cut at this place gives the messages that end at these places as soon as they are whole.
+fn is_cut_in_two(alloc: Global, text: &[u8], at: usize, ends: &[usize]) -> Result<bool, NoMemory> {
+    let Some((front, back)) = text.split_at_checked(at) else {
+        return Ok(false);
+    };
+    let mut cutter = Cutter::new(alloc);
+    let first = cutter.feed(alloc, front)?;
+    let second = cutter.feed(alloc, back)?;
+    let whole = count_whole(ends, at);
+    Ok(
+        first.malformed.is_none()
+            && second.malformed.is_none()
+            && first.messages.len() == whole
+            && whole.saturating_add(second.messages.len()) == ends.len(),
+    )
+}
+
+/// The same wherever it is cut.
+fn are_cut_in_two(alloc: Global, text: &[u8], ends: &[usize]) -> Result<bool, NoMemory> {
+    for at in 0..=text.len() {
+        if !is_cut_in_two(alloc, text, at, ends)? {
+            return Ok(false);
+        }
+    }
+    Ok(true)
+}
+
+/// Whether the text, byte by byte, gives the messages that end at these places as soon as they are whole.
+fn are_cut_byte_by_byte(alloc: Global, text: &[u8], ends: &[usize]) -> Result<bool, NoMemory> {
     let mut cutter = Cutter::new(alloc);
     for (index, byte) in text.iter().enumerate() {
         let cut = cutter.feed(alloc, slice::from_ref(byte))?;
-        let is_last = index.saturating_add(1) == text.len();
-        if cut.malformed.is_some() || cut.messages.is_empty() == is_last {
+        let is_end = ends.contains(&index.saturating_add(1));
+        if cut.malformed.is_some() || cut.messages.is_empty() == is_end {
+            return Ok(false);
+        }
+    }
+    Ok(true)
+}
+
+/// Whether each is accepted, as a whole, in two pieces and byte by byte.
+fn are_accepted(alloc: Global, messages: &[Sent]) -> Result<bool, NoMemory> {
+    for sent in messages {
+        let ends = [sent.bytes.len()];
+        if !is_whole(alloc, sent)?
+            || !are_cut_in_two(alloc, sent.bytes, &ends)?
+            || !are_cut_byte_by_byte(alloc, sent.bytes, &ends)?
+        {
             return Ok(false);
         }
     }
@@ -126,42 +216,166 @@ fn is_one_message(alloc: Global, text: &[u8]) -> Result<bool, NoMemory> {
 }
 
 #[test]
-fn a_call_byte_by_byte(rt: HostRuntime) -> Result<(), NoMemory> {
+fn messages_of_clients(rt: HostRuntime) -> Result<(), NoMemory> {
     let alloc = rt.alloc();
-    assert!(rt; is_one_message(alloc, GET_SESSION)?);
-    assert!(rt; is_one_message(alloc, GET_SESSION_BIG)?);
+    assert!(rt; are_accepted(alloc, SENT)?);
     Ok(())
 }
 
 #[test]
-fn messages_of_clients(rt: HostRuntime) -> Result<(), NoMemory> {
+fn messages_of_glib(rt: HostRuntime) -> Result<(), NoMemory> {
     let alloc = rt.alloc();
-    let mut cutter = Cutter::new(alloc);
-    for sent in SENT {
-        let cut = cutter.feed(alloc, sent.bytes)?;
-        assert!(rt; cut.malformed.is_none());
-        match cut.messages.as_slice() {
-            [message] => assert!(rt; is_sent(message, sent)),
-            _ => assert!(rt; false),
-        }
+    assert!(rt; are_accepted(alloc, GLIB)?);
+    Ok(())
+}
+
+#[test]
+fn messages_of_jeepney(rt: HostRuntime) -> Result<(), NoMemory> {
+    let alloc = rt.alloc();
+    assert!(rt; are_accepted(alloc, JEEPNEY)?);
+    Ok(())
+}
+
+#[test]
+fn messages_by_hand(rt: HostRuntime) -> Result<(), NoMemory> {
+    let alloc = rt.alloc();
+    assert!(rt; are_accepted(alloc, BY_HAND)?);
+    Ok(())
+}
+
+#[test]
+fn a_call_in_any_pieces(rt: HostRuntime) -> Result<(), NoMemory> {
+    let alloc = rt.alloc();
+    for text in [GET_SESSION, GET_SESSION_BIG] {
+        let ends = [text.len()];
+        assert!(rt; are_cut_in_two(alloc, text, &ends)?);
+        assert!(rt; are_cut_byte_by_byte(alloc, text, &ends)?);
     }
     Ok(())
+}
+
+#[test]
+fn two_calls_in_any_pieces(rt: HostRuntime) -> Result<(), NoMemory> {
+    let alloc = rt.alloc();
+    let mut text = Vec::from_slice(alloc, GET_SESSION)?;
+    text.extend_from_slice(GET_SESSION_BIG)?;
+    let ends = [GET_SESSION.len(), text.len()];
+    assert!(rt; are_cut_in_two(alloc, text.as_slice(), &ends)?);
+    assert!(rt; are_cut_byte_by_byte(alloc, text.as_slice(), &ends)?);
+    Ok(())
+}
+
+/// Whether the messages say what was sent.
+fn are_sent(alloc: Global, messages: &[Message], all: &[Sent]) -> Result<bool, NoMemory> {
+    for (message, sent) in messages.iter().zip(all) {
+        if !is_sent(alloc, message, sent)? {
+            return Ok(false);
+        }
+    }
+    Ok(messages.len() == all.len())
+}
+
+/// Whether the messages are cut from one piece, in order.
+fn are_in_one_piece(alloc: Global, all: &[Sent]) -> Result<bool, NoMemory> {
+    let mut text = Vec::new(alloc);
+    for sent in all {
+        text.extend_from_slice(sent.bytes)?;
+    }
+    let mut cutter = Cutter::new(alloc);
+    let cut = cutter.feed(alloc, text.as_slice())?;
+    Ok(cut.malformed.is_none() && are_sent(alloc, cut.messages.as_slice(), all)?)
 }
 
 #[test]
 fn many_messages_in_one_piece(rt: HostRuntime) -> Result<(), NoMemory> {
     let alloc = rt.alloc();
-    let mut stream = Vec::new(alloc);
-    for sent in SENT {
-        stream.extend_from_slice(sent.bytes)?;
+    for all in [SENT, GLIB, JEEPNEY, BY_HAND] {
+        assert!(rt; are_in_one_piece(alloc, all)?);
     }
+    Ok(())
+}
+
+/// A message of a front, the length of a text, and the text; behind its first four bytes stands a length that is so much more.
+fn with_text(
+    alloc: Global,
+    front: &[u8],
+    more: u32,
+    back: &[u8],
+    length: u32,
+) -> Result<Vec<u8>, NoMemory> {
+    let mut text = Vec::from_slice(alloc, front)?;
+    text.extend_from_slice(&length.saturating_add(more).to_le_bytes())?;
+    text.extend_from_slice(back)?;
+    text.extend_from_slice(&length.to_le_bytes())?;
+    for _ in 0..length {
+        text.push(b'x')?;
+    }
+    text.push(0)?;
+    Ok(text)
+}
+
+/// A return with a text of this length: in all there are 37 bytes more.
+fn with_body(alloc: Global, length: u32) -> Result<Vec<u8>, NoMemory> {
+    with_text(
+        alloc,
+        b"l\x02\0\x01",
+        5,
+        b"\x01\0\0\0\x0f\0\0\0\x05\x01u\0\x07\0\0\0\x08\x01g\0\x01s\0\0",
+        length,
+    )
+}
+
+/// A message with an unknown field, whose text has this length: in all there are 25 bytes more, and up to 7 behind it.
+fn with_field(alloc: Global, length: u32) -> Result<Vec<u8>, NoMemory> {
+    with_text(
+        alloc,
+        b"l\x05\0\x01\0\0\0\0\x01\0\0\0",
+        9,
+        b"\x0a\x01s\0",
+        length,
+    )
+}
+
+/// Whether the text is one message.
+fn is_one(alloc: Global, text: &[u8]) -> Result<bool, NoMemory> {
     let mut cutter = Cutter::new(alloc);
-    let cut = cutter.feed(alloc, stream.as_slice())?;
-    assert!(rt; cut.malformed.is_none());
-    assert!(rt; cut.messages.len() == SENT.len());
-    for (message, sent) in cut.messages.as_slice().iter().zip(SENT) {
-        assert!(rt; is_sent(message, sent));
-    }
+    let cut = cutter.feed(alloc, text)?;
+    Ok(cut.malformed.is_none() && cut.messages.len() == 1)
+}
+
+/// Whether the first 16 bytes of the text show that it is too long.
+fn is_too_long(alloc: Global, text: &[u8]) -> Result<bool, NoMemory> {
+    let mut cutter = Cutter::new(alloc);
+    let Some(front) = text.get(..16) else {
+        return Ok(false);
+    };
+    let cut = cutter.feed(alloc, front)?;
+    Ok(
+        cut.malformed
+            == Some(Malformed {
+                offset: 4,
+                cause: Cause::TooLong,
+            }),
+    )
+}
+
+#[test]
+fn the_longest_body(rt: HostRuntime) -> Result<(), NoMemory> {
+    let alloc = rt.alloc();
+    let longest = with_body(alloc, 1048539)?;
+    assert!(rt; longest.len() == 1048576 && is_one(alloc, longest.as_slice())?);
+    let longer = with_body(alloc, 1048540)?;
+    assert!(rt; is_too_long(alloc, longer.as_slice())?);
+    Ok(())
+}
+
+#[test]
+fn the_longest_fields(rt: HostRuntime) -> Result<(), NoMemory> {
+    let alloc = rt.alloc();
+    let longest = with_field(alloc, 1048551)?;
+    assert!(rt; longest.len() == 1048576 && is_one(alloc, longest.as_slice())?);
+    let longer = with_field(alloc, 1048552)?;
+    assert!(rt; is_too_long(alloc, longer.as_slice())?);
     Ok(())
 }
 
@@ -217,6 +431,13 @@ fn headers(rt: HostRuntime) -> Result<(), NoMemory> {
     for row in HEADERS {
         assert!(rt; is_shown(alloc, row, 16)?);
     }
+    Ok(())
+}
+
+#[test]
+fn names_and_values_at_their_limits(rt: HostRuntime) -> Result<(), NoMemory> {
+    let alloc = rt.alloc();
+    assert!(rt; are_shown(alloc, LIMITS)?);
     Ok(())
 }
 

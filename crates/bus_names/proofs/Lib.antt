@@ -10,4 +10,5 @@ pub mod Letters
 pub mod TypesRead
 pub mod TypesSound
 pub mod TypesFaults
+pub mod Fronts
 pub mod Structs

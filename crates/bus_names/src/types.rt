@@ -1,6 +1,7 @@
 // Types, as trees.
 
-ghost use Rattle.std.specs.Prelude.{◌≡◌, ◌<◌, length, IfOk, OnOk};
+ghost use Rattle.std.specs.Prelude.{◌≡◌, ◌<◌, length, IfOk, OnOk, OnErr};
+ghost use Rattle.std.specs.Io.{StartsWith};
 ghost use Rattle.std.specs.Prelude.{◌++◌, map};
 ghost use Rattle.std.specs.List.{flat_map};
 ghost use Rattle.bus_names.specs.Types.{basic, variant, array, dict, struct_of, text, signature_text};
@@ -125,7 +126,8 @@ impl Type {
 
     /// Puts the type's letters at the end.
     pub fn push_text(&self, out: &mut Vec<u8>) -> Result<(), NoMemory>
-        ensures { OnOk result (out.new.items ≡ out.old.items ++ text self.now) }
+        ensures value { OnOk result (out.new.items ≡ out.old.items ++ text self.now) }
+        ensures kept { OnErr result (StartsWith out.new.items out.old.items) }
     {
         match &self.node {
             Node::Basic(kind) => {

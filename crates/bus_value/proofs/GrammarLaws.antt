@@ -6,7 +6,8 @@ use Rattle.bus_value.specs.declared.order.Order.{Order}
 use Rattle.bus_value.specs.Values.{Val}
 use Rattle.bus_value.specs.Reading.{read_all}
 use Rattle.bus_value.specs.Grammar.{Spells}
-use Rattle.bus_value.specs.Laws.{OneSpelling, OneReading, SpellingLength}
+use Rattle.bus_value.specs.Laws.{OneSpelling, OneReading, SpellingLength, AlwaysEnds}
+use Rattle.bus_value.proofs.Lasting.{all_values_last}
 use Rattle.bus_value.proofs.LengthLaws.{spelled_length}
 use Rattle.bus_value.proofs.Rules.{computed}
 use Rattle.bus_value.proofs.RulesHold.{spelled_so}
@@ -22,6 +23,9 @@ one_reading o start ts vs ws bytes within h k = one_reading_of o start ts vs ws 
 
 pub spelling_length : SpellingLength
 spelling_length o start ts vs bytes h = spelled_length o start vs bytes (computed o start ts vs bytes h).spelled
+
+pub always_ends : AlwaysEnds
+always_ends o start ts bytes within h = all_values_last o start ts bytes within (λ i. h i)
 
 -- what is read is spelled so
 pub all_read_so : (o : Order) (start : ℕ) (ts : List Shape) (bytes : List ℕ) (vs : List Val) → AreBytes bytes → read_all o start ts bytes ≡ Ok vs → Spells o start ts vs bytes

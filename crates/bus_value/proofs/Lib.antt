@@ -19,6 +19,7 @@ pub mod Rules
 pub mod RulesHold
 pub mod Fitting
 pub mod TypesHold
+pub mod Lasting
 pub mod LengthLaws
 pub mod GrammarLaws
 pub mod TypedLaws

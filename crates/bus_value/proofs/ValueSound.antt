@@ -46,7 +46,7 @@ has_shape (struct vs) o d at t h = h.0
 has_shape (dict b u es) o d at t h = h.0
 has_shape (variant v) o d at t h = h.0
 
-bytes_behind : (xs ys bytes : List ℕ) → bytes ≡ xs ++ ys → AreBytes bytes → AreBytes ys
+pub bytes_behind : (xs ys bytes : List ℕ) → bytes ≡ xs ++ ys → AreBytes bytes → AreBytes ys
 bytes_behind xs ys bytes e h i = subst (λ (m : ℕ). m < 256) (ap (λ (zs : List ℕ). get_or zs (length xs + i) 0) e ∙ get_or-append-add xs ys i 0) (h (length xs + i))
 
 all_sound : (f : Reading Val) (o : Order) (d : ℕ) (t : Shape) → IsSound o d t f → (most at : ℕ) (bytes : List ℕ) (xs : List Val) → length bytes ≤ most → AreBytes bytes → all_of most f at bytes ≡ Ok xs →
@@ -187,7 +187,7 @@ array_sound {A = A} o around align at f bytes xs at2 rest h e =
       behind = omega (arith, there, w, lp, lq, l1, l2, l3, ln);
     }
 
-one_type : (d at : ℕ) (ts : List Shape) (t : Shape) → variant_type d at ts ≡ Ok t → (ts ≡ t ∷ []) × (d + 1 + nesting t ≤ 64)
+pub one_type : (d at : ℕ) (ts : List Shape) (t : Shape) → variant_type d at ts ≡ Ok t → (ts ≡ t ∷ []) × (d + 1 + nesting t ≤ 64)
 one_type d at [] t e = cc
 one_type d at (u ∷ []) t e = by (leb (d + 1 + nesting u) 64) refl e
   where
@@ -241,12 +241,12 @@ variant_sound o around d at f bytes v at2 rest s h e =
     })
 
 -- what a dict entry is read from
-record PairFound (o : Order) (d at : ℕ) (b : Basic) (t : Shape) (bytes : List ℕ) (a : BasicValue) (v : Val) (at2 : ℕ) (rest : List ℕ) : Type 0 where
-  kind : b ≡ kind_of a
-  legal : IsLegal a
-  typed : HasType o d (value_at o at a) t v
-  same : bytes ≡ pair_bytes o at a (spelling o (value_at o at a) v) ++ rest
-  behind : at2 ≡ at + length (pair_bytes o at a (spelling o (value_at o at a) v))
+pub record PairFound (o : Order) (d at : ℕ) (b : Basic) (t : Shape) (bytes : List ℕ) (a : BasicValue) (v : Val) (at2 : ℕ) (rest : List ℕ) : Type 0 where
+  pub kind : b ≡ kind_of a
+  pub legal : IsLegal a
+  pub typed : HasType o d (value_at o at a) t v
+  pub same : bytes ≡ pair_bytes o at a (spelling o (value_at o at a) v) ++ rest
+  pub behind : at2 ≡ at + length (pair_bytes o at a (spelling o (value_at o at a) v))
 
 pair_sound : (o : Order) (around : Option ℕ) (d : ℕ) (b : Basic) (t : Shape) (f : Reading Val) → IsSound o d t f → (at : ℕ) (bytes : List ℕ) (p : BasicValue × Val) (at2 : ℕ) (rest : List ℕ) → AreBytes bytes →
     read_pair o around b f at bytes ≡ Ok (p, (at2, rest)) → PairFound o d at b t bytes p.0 p.1 at2 rest
@@ -310,13 +310,13 @@ no_entry : (o : Order) (d : ℕ) (around : Option ℕ) (b : Basic) (t : Shape) (
 unfolding read_entry
 no_entry o d around b t at bytes p at2 rest e = cc
 
-struct_parts : (left : ℕ) (o : Order) (d : ℕ) (around : Option ℕ) (t : Shape) (ts : Shapes) (at : ℕ) (bytes : List ℕ) →
+pub struct_parts : (left : ℕ) (o : Order) (d : ℕ) (around : Option ℕ) (t : Shape) (ts : Shapes) (at : ℕ) (bytes : List ℕ) →
     read (suc left) o d around (types.struct t ts) at bytes ≡ made (λ vs. struct (vals vs)) (padded around 8 (in_turn (read left o (d + 1) around) (t ∷ listed ts)) at bytes)
 unfolding read
 struct_parts left o d around t ts at bytes = refl
 
 mutual
-  value_sound : (left : ℕ) (o : Order) (d : ℕ) (around : Option ℕ) (t : Shape) → IsSound o d t (read left o d around t)
+  pub value_sound : (left : ℕ) (o : Order) (d : ℕ) (around : Option ℕ) (t : Shape) → IsSound o d t (read left o d around t)
   value_sound zero o d around t at bytes v at2 rest h e = absurd (no_level o d around t at bytes v at2 rest e)
   value_sound (suc left) o d around (types.basic b) at bytes v at2 rest h e =
       let w = made_ends basic (read_basic o around b at bytes) v at2 rest (sym ((types_read left o d around at bytes).0 b) ∙ e) in
@@ -366,7 +366,7 @@ mutual
         behind = let m = k.behind in omega (arith, m, l0, l1);
       })
 
-  entry_sound : (left : ℕ) (o : Order) (d : ℕ) (around : Option ℕ) (b : Basic) (t : Shape) (at : ℕ) (bytes : List ℕ) (p : BasicValue × Val) (at2 : ℕ) (rest : List ℕ) → AreBytes bytes →
+  pub entry_sound : (left : ℕ) (o : Order) (d : ℕ) (around : Option ℕ) (b : Basic) (t : Shape) (at : ℕ) (bytes : List ℕ) (p : BasicValue × Val) (at2 : ℕ) (rest : List ℕ) → AreBytes bytes →
       read_entry left o (d + 1) around b t at bytes ≡ Ok (p, (at2, rest)) → PairFound o (d + 2) at b t bytes p.0 p.1 at2 rest
   entry_sound zero o d around b t at bytes p at2 rest h e = absurd (no_entry o (d + 1) around b t at bytes p at2 rest e)
   entry_sound (suc left) o d around b t at bytes p at2 rest h e =

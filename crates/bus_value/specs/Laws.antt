@@ -1,11 +1,13 @@
 -- Laws of the grammar.
-use Rattle.std.specs.Prelude.{ℕ, ◌≡◌, ◌+◌, List, length}
+use Rattle.std.specs.Prelude.{ℕ, ◌≡◌, ◌+◌, ◌<◌, ◌^◌, List, length, slice_index, Err}
 use Rattle.bus_names.specs.Types.{Shape}
 use Rattle.bus_names.specs.Signatures.{IsWithin}
+use Rattle.bus_value.specs.declared.fault.ValueFault.TheVariants.{NoMemory}
 use Rattle.bus_value.specs.declared.order.Order.{Order}
 use Rattle.bus_value.specs.Values.{Val, vals}
 use Rattle.bus_value.specs.Lengths.{values_end}
 use Rattle.bus_value.specs.Grammar.{Spells}
+use Rattle.bus_value.specs.Reading.{read_all}
 use Rattle.bus_value.specs.Limits.{AllFit}
 use Rattle.bus_value.specs.Typed.{AreTyped}
 
@@ -26,3 +28,7 @@ abbrev pub HasSpelling : Type 0
 HasSpelling =
     (o : Order) (start : ℕ) (ts : List Shape) (vs : List Val) →
     ((bytes : List ℕ) → Spells o start ts vs bytes → AreTyped 0 ts (vals vs) × AllFit o start (vals vs)) × (AreTyped 0 ts (vals vs) → AllFit o start (vals vs) → (bytes : List ℕ) × Spells o start ts vs bytes)
+
+-- what a reading counts down never runs out: it ends with the values or with a fault of the bytes
+abbrev pub AlwaysEnds : Type 0
+AlwaysEnds = (o : Order) (start : ℕ) (ts : List Shape) (bytes : List ℕ) → IsWithin ts → ((i : ℕ) → slice_index bytes i < 2 ^ 8) → read_all o start ts bytes ≡ Err NoMemory → ⊥

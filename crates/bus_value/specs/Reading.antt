@@ -61,10 +61,11 @@ read_elements o around align f at bytes =
 unfoldable pub read_array : {A : Type 0} → Order → Option ℕ → ℕ → (Option ℕ → ℕ → List ℕ → Result (List A) ValueFault) → Reading (List A)
 read_array o around align f at bytes = padded around 4 (read_elements o around align f) at bytes
 
--- one after another up to the end of the bytes; the first number is one that they are not above
+-- One after another up to the end of the bytes. The first number is one that they are not above; below it no bytes are
+-- left, since each has one at least.
 unfoldable pub all_of : {A : Type 0} → ℕ → Reading A → ℕ → List ℕ → Result (List A) ValueFault
 all_of most f at [] = Ok []
-all_of zero f at (b ∷ bs) = Ok []
+all_of zero f at (b ∷ bs) = Err NoMemory
 all_of (suc most) f at (b ∷ bs) = and_then (f at (b ∷ bs)) (λ r. and_then (all_of most f r.1.0 r.1.1) (λ xs. Ok (r.0 ∷ xs)))
 
 abbrev pub to_end : {A : Type 0} → Reading A → ℕ → List ℕ → Result (List A) ValueFault

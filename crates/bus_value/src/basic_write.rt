@@ -1,6 +1,7 @@
 // How values of basic types are written.
 
-ghost use Rattle.std.specs.Prelude.{◌≡◌, ◌+◌, ◌++◌, ◌<◌, ◌^◌, OnOk, length};
+ghost use Rattle.std.specs.Prelude.{◌≡◌, ◌+◌, ◌++◌, ◌<◌, ◌^◌, OnOk, OnErr, length};
+ghost use Rattle.std.specs.Io.{StartsWith};
 ghost use Rattle.bus_value.specs.Alignment.{alignment, IsAlignment};
 ghost use Rattle.bus_value.specs.Spelling.{text_bytes, signature_bytes, basic_bytes, basic_spelling};
 ghost use Rattle.bus_value.specs.Limits.{HasRoom};
@@ -29,7 +30,8 @@ pub fn alignment(kind: Basic) -> usize
 /// Puts a length, a text and a zero byte at the end.
 fn push_text(out: &mut Vec<u8>, order: Order, text: &[u8]) -> Result<(), NoMemory>
     requires { length text.now < 2 ^ 32 }
-    ensures { OnOk result (out.new.items ≡ out.old.items ++ text_bytes order text.now) }
+    ensures value { OnOk result (out.new.items ≡ out.old.items ++ text_bytes order text.now) }
+    ensures kept { OnErr result (StartsWith out.new.items out.old.items) }
 {
     push_u32(out, order, text.len() as u32)?;
     out.extend_from_slice(text)?;
@@ -39,7 +41,8 @@ fn push_text(out: &mut Vec<u8>, order: Order, text: &[u8]) -> Result<(), NoMemor
 
 /// Puts the length of a signature, its letters and a zero byte at the end.
 pub fn push_signature(alloc: Global, out: &mut Vec<u8>, types: &Signature) -> Result<(), NoMemory>
-    ensures { OnOk result (out.new.items ≡ out.old.items ++ signature_bytes types.now) }
+    ensures value { OnOk result (out.new.items ≡ out.old.items ++ signature_bytes types.now) }
+    ensures kept { OnErr result (StartsWith out.new.items out.old.items) }
 {
     let text = types.text(alloc)?;
     out.push(text.len() as u8)?;
@@ -56,7 +59,8 @@ fn push_bytes(
     value: &BasicValue,
 ) -> Result<(), NoMemory>
     requires { HasRoom value.now }
-    ensures { OnOk result (out.new.items ≡ out.old.items ++ basic_bytes order value.now) }
+    ensures value { OnOk result (out.new.items ≡ out.old.items ++ basic_bytes order value.now) }
+    ensures kept { OnErr result (StartsWith out.new.items out.old.items) }
 {
     match value {
         BasicValue::Byte(number) => {
@@ -89,7 +93,8 @@ pub fn push_basic(
     value: &BasicValue,
 ) -> Result<(), NoMemory>
     requires { HasRoom value.now }
-    ensures { OnOk result (out.new.items ≡ out.old.items ++ basic_spelling order (start + length out.old.items) value.now) }
+    ensures value { OnOk result (out.new.items ≡ out.old.items ++ basic_spelling order (start + length out.old.items) value.now) }
+    ensures kept { OnErr result (StartsWith out.new.items out.old.items) }
 {
     push_padding(out, start, alignment(value.kind()))?;
     push_bytes(alloc, out, order, value)

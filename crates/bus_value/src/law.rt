@@ -1,6 +1,6 @@
 // Laws of the grammar.
 
-ghost use Rattle.bus_value.specs.Laws.{OneSpelling, OneReading, SpellingLength, HasSpelling};
+ghost use Rattle.bus_value.specs.Laws.{OneSpelling, OneReading, SpellingLength, HasSpelling, AlwaysEnds};
 
 /// Values have one spelling at one place.
 pub fn one_spelling()
@@ -20,4 +20,9 @@ pub fn spelling_length()
 /// Values have a spelling exactly where they are of their types and within the limits.
 pub fn has_spelling()
     ensures { HasSpelling }
+{}
+
+/// A reading is defined to end with the values or with a fault of the bytes, and never with want of memory.
+pub fn always_ends()
+    ensures { AlwaysEnds }
 {}

@@ -15,7 +15,7 @@ mod writing;
 
 pub use basic_value::BasicValue;
 pub use fault::ValueFault;
-pub use law::{has_spelling, one_reading, one_spelling, spelling_length};
+pub use law::{always_ends, has_spelling, one_reading, one_spelling, spelling_length};
 pub use numbers::{pad_size, push_padding, push_u32, read_u32};
 pub use order::Order;
 pub use reading::read_values;

@@ -1,6 +1,7 @@
 // Numbers and padding as bytes.
 
-ghost use Rattle.std.specs.Prelude.{◌≡◌, ◌≤◌, ◌<◌, ◌+◌, ◌-◌, ◌^◌, ◌++◌, ◌∷◌, [], OnOk, IfOk, take, drop, length, vec_len, replicate, ◌⊎◌};
+ghost use Rattle.std.specs.Prelude.{◌≡◌, ◌≤◌, ◌<◌, ◌+◌, ◌-◌, ◌^◌, ◌++◌, ◌∷◌, [], OnOk, OnErr, IfOk, take, drop, length, vec_len, replicate, ◌⊎◌};
+ghost use Rattle.std.specs.Io.{StartsWith};
 ghost use Rattle.bus_value.specs.Numbers.{number_bytes, number};
 ghost use Rattle.bus_value.specs.Spelling.{pad_size, padding, array_front};
 ghost use Rattle.bus_value.specs.Alignment.{IsAlignment};
@@ -22,7 +23,8 @@ pub fn pad_size(start: usize, count: usize, align: usize) -> usize
 /// Puts the padding up to the next boundary at the end.
 pub fn push_padding(out: &mut Vec<u8>, start: usize, align: usize) -> Result<(), NoMemory>
     requires { IsAlignment align }
-    ensures { OnOk result (out.new.items ≡ out.old.items ++ padding (start + length out.old.items) align) }
+    ensures value { OnOk result (out.new.items ≡ out.old.items ++ padding (start + length out.old.items) align) }
+    ensures kept { OnErr result (out.new.items ≡ out.old.items) }
 {
     let count = pad_size(start, out.len(), align);
     let zeros = [0; 8];
@@ -32,7 +34,8 @@ pub fn push_padding(out: &mut Vec<u8>, start: usize, align: usize) -> Result<(),
 
 /// Puts a number of two bytes at the end.
 pub fn push_u16(out: &mut Vec<u8>, order: Order, number: u16) -> Result<(), NoMemory>
-    ensures { OnOk result (out.new.items ≡ out.old.items ++ number_bytes order 2 number) }
+    ensures value { OnOk result (out.new.items ≡ out.old.items ++ number_bytes order 2 number) }
+    ensures kept { OnErr result (out.new.items ≡ out.old.items) }
 {
     let mut bytes = [0; 2];
     match order {
@@ -57,7 +60,8 @@ fn u32_bytes(order: Order, number: u32) -> [u8; 4]
 
 /// Puts a number of four bytes at the end.
 pub fn push_u32(out: &mut Vec<u8>, order: Order, number: u32) -> Result<(), NoMemory>
-    ensures { OnOk result (out.new.items ≡ out.old.items ++ number_bytes order 4 number) }
+    ensures value { OnOk result (out.new.items ≡ out.old.items ++ number_bytes order 4 number) }
+    ensures kept { OnErr result (out.new.items ≡ out.old.items) }
 {
     out.extend_from_slice(&u32_bytes(order, number))?;
     Ok(())
@@ -65,7 +69,8 @@ pub fn push_u32(out: &mut Vec<u8>, order: Order, number: u32) -> Result<(), NoMe
 
 /// Puts a number of eight bytes at the end.
 pub fn push_u64(out: &mut Vec<u8>, order: Order, number: u64) -> Result<(), NoMemory>
-    ensures { OnOk result (out.new.items ≡ out.old.items ++ number_bytes order 8 number) }
+    ensures value { OnOk result (out.new.items ≡ out.old.items ++ number_bytes order 8 number) }
+    ensures kept { OnErr result (out.new.items ≡ out.old.items) }
 {
     let mut bytes = [0; 8];
     match order {
@@ -95,6 +100,7 @@ pub fn begin_array(
     requires { IsAlignment align }
     ensures bytes { OnOk result (out.new.items ≡ out.old.items ++ array_front order (start + length out.old.items) align 0) }
     ensures place { IfOk result (λ at. at ≡ length out.old.items + pad_size (start + length out.old.items) 4) }
+    ensures kept { OnErr result (StartsWith out.new.items out.old.items) }
 {
     push_padding(out, start, 4)?;
     let at = out.len();

@@ -1,6 +1,7 @@
 // How value lists are read.
 
-ghost use Rattle.std.specs.Prelude.{◌≡◌, List, Ok, IfOk};
+ghost use Rattle.std.specs.Prelude.{◌≡◌, List, Ok, Err, IfOk};
+ghost use Rattle.bus_value.specs.declared.fault.ValueFault.TheVariants.{NoMemory};
 ghost use Rattle.bus_value.specs.Answers.{Gives};
 ghost use Rattle.bus_value.specs.Grammar.{Spells};
 ghost use Rattle.bus_value.specs.Reading.{read_all};
@@ -25,6 +26,8 @@ pub fn read_values(
     bytes: &[u8],
 ) -> Result<Items<Value>, ValueFault>
     ensures value { Gives result (read_all order start types.now bytes.now) }
+    // which is never want of memory
+    ensures ends { read_all order start types.now bytes.now ≡ Err NoMemory → ⊥ }
     // what is read is spelled so
     ensures sound { (vs : List Val) → read_all order start types.now bytes.now ≡ Ok vs → Spells order start types.now vs bytes.now }
     // what is read can be written again

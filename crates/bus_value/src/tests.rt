@@ -5,12 +5,15 @@ ghost use Rattle.bus_names.specs.Types as shapes;
 ghost use Rattle.bus_value.specs.Values.{vals, basic, array, variant, none, more, dict, entry, no_entries};
 ghost use Rattle.bus_value.specs.Limits.{AllFit, HasRoom};
 
+mod accepted;
 mod basic;
+mod both_orders;
 mod containers;
 mod fault_places;
 mod faults;
 
 use super::*;
+use accepted::Spelled;
 use basic::{NUMBERS, STRUCTS, TEXTS};
 use bus_names::{Basic, NameFault, ObjectPath, Signature, Type};
 use containers::CONTAINERS;
@@ -133,6 +136,41 @@ fn is_text(alloc: Global, values: &[Value], text: &[u8]) -> Result<bool, NoMemor
         },
         _ => Ok(false),
     }
+}
+
+/// Whether each of these is read, and written again.
+fn are_written_again(alloc: Global, cases: &[Spelled]) -> Result<bool, ValueFault> {
+    for case in cases {
+        let (signature, order, start, bytes) = *case;
+        if !is_written_again(alloc, order, start, signature, bytes)? {
+            return Ok(false);
+        }
+    }
+    Ok(true)
+}
+
+#[test]
+fn values_in_each_place_are_written_again(rt: HostRuntime) -> Result<(), ValueFault> {
+    assert!(rt; are_written_again(rt.alloc(), &accepted::VALUES_A)?);
+    Ok(())
+}
+
+#[test]
+fn texts_in_each_place_are_written_again(rt: HostRuntime) -> Result<(), ValueFault> {
+    assert!(rt; are_written_again(rt.alloc(), &accepted::VALUES_B)?);
+    Ok(())
+}
+
+#[test]
+fn containers_in_each_place_are_written_again(rt: HostRuntime) -> Result<(), ValueFault> {
+    assert!(rt; are_written_again(rt.alloc(), &accepted::VALUES_C)?);
+    Ok(())
+}
+
+#[test]
+fn values_at_the_limits_are_written_again(rt: HostRuntime) -> Result<(), ValueFault> {
+    assert!(rt; are_written_again(rt.alloc(), &accepted::LIMITS)?);
+    Ok(())
 }
 
 #[test]

@@ -1,7 +1,7 @@
 // Messages that programs of a Debian 12 sent to a peer that recorded them: busctl of systemd 252, dbus-send of
 // libdbus 1.14, gdbus of GLib 2.74. What they say is what the programs were asked to send.
 
-/// A message, and what it says. A name that is not there is empty.
+/// A message, and what it says. A name that is not there is the empty text.
 pub struct Sent {
     pub bytes: &'static [u8],
     pub kind: u8,
@@ -10,9 +10,12 @@ pub struct Sent {
     pub path: &'static [u8],
     pub interface: &'static [u8],
     pub member: &'static [u8],
+    pub error: &'static [u8],
+    pub reply_to: Option<u32>,
     pub destination: &'static [u8],
-    /// How many values the body has.
-    pub values: usize,
+    pub sender: &'static [u8],
+    /// The types of the values in the body.
+    pub types: &'static [u8],
 }
 
 pub const SENT: &[Sent] = &[
@@ -25,8 +28,11 @@ pub const SENT: &[Sent] = &[
         path: b"/org/freedesktop/DBus",
         interface: b"org.freedesktop.DBus",
         member: b"Hello",
+        error: b"",
+        reply_to: None,
         destination: b"org.freedesktop.DBus",
-        values: 0,
+        sender: b"",
+        types: b"",
     },
     // busctl
     Sent {
@@ -37,8 +43,11 @@ pub const SENT: &[Sent] = &[
         path: b"/org/freedesktop/login1",
         interface: b"org.freedesktop.login1.Manager",
         member: b"GetSession",
+        error: b"",
+        reply_to: None,
         destination: b"org.freedesktop.login1",
-        values: 1,
+        sender: b"",
+        types: b"s",
     },
     // busctl
     Sent {
@@ -49,8 +58,11 @@ pub const SENT: &[Sent] = &[
         path: b"/a/b",
         interface: b"org.example.I",
         member: b"M",
+        error: b"",
+        reply_to: None,
         destination: b"org.example.A",
-        values: 3,
+        sender: b"",
+        types: b"asu(yb)",
     },
     // dbus-send
     Sent {
@@ -61,8 +73,11 @@ pub const SENT: &[Sent] = &[
         path: b"/org/freedesktop/DBus",
         interface: b"org.freedesktop.DBus",
         member: b"Hello",
+        error: b"",
+        reply_to: None,
         destination: b"org.freedesktop.DBus",
-        values: 0,
+        sender: b"",
+        types: b"",
     },
     // dbus-send
     Sent {
@@ -73,8 +88,11 @@ pub const SENT: &[Sent] = &[
         path: b"/org/freedesktop/login1",
         interface: b"org.freedesktop.login1.Manager",
         member: b"GetSession",
+        error: b"",
+        reply_to: None,
         destination: b"org.freedesktop.login1",
-        values: 1,
+        sender: b"",
+        types: b"s",
     },
     // dbus-send
     Sent {
@@ -85,8 +103,11 @@ pub const SENT: &[Sent] = &[
         path: b"/a/b",
         interface: b"org.example.I",
         member: b"Changed",
+        error: b"",
+        reply_to: None,
         destination: b"",
-        values: 3,
+        sender: b"",
+        types: b"ia{su}v",
     },
     // gdbus
     Sent {
@@ -97,8 +118,11 @@ pub const SENT: &[Sent] = &[
         path: b"/org/freedesktop/DBus",
         interface: b"org.freedesktop.DBus",
         member: b"Hello",
+        error: b"",
+        reply_to: None,
         destination: b"org.freedesktop.DBus",
-        values: 0,
+        sender: b"",
+        types: b"",
     },
     // gdbus
     Sent {
@@ -109,8 +133,11 @@ pub const SENT: &[Sent] = &[
         path: b"/org/freedesktop/login1",
         interface: b"org.freedesktop.DBus.Introspectable",
         member: b"Introspect",
+        error: b"",
+        reply_to: None,
         destination: b"org.freedesktop.login1",
-        values: 0,
+        sender: b"",
+        types: b"",
     },
     // gdbus
     Sent {
@@ -121,8 +148,11 @@ pub const SENT: &[Sent] = &[
         path: b"/org/freedesktop/login1",
         interface: b"org.freedesktop.login1.Manager",
         member: b"GetSession",
+        error: b"",
+        reply_to: None,
         destination: b"org.freedesktop.login1",
-        values: 1,
+        sender: b"",
+        types: b"s",
     },
     // gdbus
     Sent {
@@ -133,7 +163,10 @@ pub const SENT: &[Sent] = &[
         path: b"/a/b",
         interface: b"org.example.I",
         member: b"Changed",
+        error: b"",
+        reply_to: None,
         destination: b"",
-        values: 2,
+        sender: b"",
+        types: b"uas",
     },
 ];

@@ -590,7 +590,7 @@ pub(super) const PARTS: [Fault; 36] = [
 ];
 
 /// Lengths over the limit, bytes behind the last value, and variants of no type, of several or nested too deep.
-pub(super) const LIMITS: [Fault; 37] = [
+pub(super) const LIMITS: [Fault; 36] = [
     (b"a{yy}", Little, 0, b"\x01\0\0\x04", BadLength(0)),
     (b"a(yy)", Big, 4, b"\x04\0\0\x01", BadLength(4)),
     (b"(yau)", Little, 0, b"\x01\0\0\0\x01\0\0\x04", BadLength(4)),
@@ -635,7 +635,6 @@ pub(super) const LIMITS: [Fault; 37] = [
     (b"v", Big, 0, b"\x01v\0\0\0", BadVariant(3)),
     (b"v", Big, 0, b"\x01v\0\x02uu\0", BadVariant(3)),
     (b"av", Big, 0, b"\0\0\0\x02\0\0", BadVariant(4)),
-    (b"v", Little, 0, b"\x01z\0", BadText(0)),
     (b"v", Little, 0, b"\x01a\0", BadText(0)),
     (b"v", Little, 0, b"\x01yy", BadText(0)),
     (b"av", Little, 0, b"\x03\0\0\0\x01z\0", BadText(4)),

@@ -1,6 +1,7 @@
 // How values are written.
 
-ghost use Rattle.std.specs.Prelude.{◌≡◌, ◌+◌, ◌++◌, ◌∷◌, [], OnOk, length};
+ghost use Rattle.std.specs.Prelude.{◌≡◌, ◌+◌, ◌++◌, ◌∷◌, [], OnOk, OnErr, length};
+ghost use Rattle.std.specs.Io.{StartsWith};
 ghost use Rattle.bus_names.specs.Types.{text};
 ghost use Rattle.bus_value.specs.Values.{shape, vals, entries};
 ghost use Rattle.bus_value.specs.Alignment.{boundary, IsAlignment};
@@ -33,7 +34,8 @@ pub fn boundary(kind: &Type) -> usize
 impl Value {
     /// Puts the letters of the value's type at the end.
     pub fn push_type(&self, out: &mut Vec<u8>) -> Result<(), NoMemory>
-        ensures { OnOk result (out.new.items ≡ out.old.items ++ text (shape self.now)) }
+        ensures value { OnOk result (out.new.items ≡ out.old.items ++ text (shape self.now)) }
+        ensures kept { OnErr result (StartsWith out.new.items out.old.items) }
     {
         match &self.node {
             Node::Basic(value) => {
@@ -68,7 +70,8 @@ impl Value {
     /// Puts the signature of the value's type at the end.
     fn push_signature(&self, alloc: Global, out: &mut Vec<u8>) -> Result<(), NoMemory>
         requires { IsWithin (shape self.now ∷ []) }
-        ensures { OnOk result (out.new.items ≡ out.old.items ++ signature_bytes (shape self.now ∷ [])) }
+        ensures value { OnOk result (out.new.items ≡ out.old.items ++ signature_bytes (shape self.now ∷ [])) }
+        ensures kept { OnErr result (StartsWith out.new.items out.old.items) }
     {
         let mut letters = Vec::new(alloc);
         self.push_type(&mut letters)?;
@@ -87,7 +90,8 @@ impl Value {
         order: Order,
     ) -> Result<(), NoMemory>
         requires { Fits order (start + length out.old.items) self.now }
-        ensures { OnOk result (out.new.items ≡ out.old.items ++ spelling order (start + length out.old.items) self.now) }
+        ensures value { OnOk result (out.new.items ≡ out.old.items ++ spelling order (start + length out.old.items) self.now) }
+        ensures kept { OnErr result (StartsWith out.new.items out.old.items) }
     {
         match &self.node {
             Node::Basic(value) => push_basic(alloc, out, start, order, value),

@@ -8,4 +8,4 @@ push-requires c =
 
 pub loop-field-preserved : goal.loop-field-preserved
 loop-field-preserved c =
-    first_pushed c.args.order 16 c.loop-field.out.items c.push.new.out.items c.loop-field.field-index c.args.fields.now c.field-item.result c.loop-field.invariant c.loop-field-test.true c.field-item.is c.in_ok-push.ensures
+    first_pushed c.args.order 16 c.loop-field.out.items c.push.new.out.items c.loop-field.field-index c.args.fields.now c.field-item.result c.loop-field.invariant c.loop-field-test.true c.field-item.is c.in_ok-push.ensures.value

@@ -1,6 +1,4 @@
 use Rattle.std.proofs.Common.{rules}
-use Rattle.std.specs.Option.{is_some}
-use Rattle.bus_message.specs.Fields.{is_typed}
 use Rattle.bus_message.proofs.FirstNumbers.{reads_1, reads_2, reads_3, reads_4, reads_5, reads_6, reads_7, reads_8, reads_9, reads_none}
 use Rattle.bus_message.proofs.checks.reads.Goals as goal
 

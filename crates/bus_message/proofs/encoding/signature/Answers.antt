@@ -1,10 +1,9 @@
-use Rattle.std.proofs.Common.{◌∙◌, ap, arith}
 use Rattle.bus_message.proofs.Letters.{letters_pushed, letters_read, letters_same}
 use Rattle.bus_message.proofs.encoding.signature.Goals as goal
 
 pub loop-value-preserved : goal.loop-value-preserved
 loop-value-preserved c =
-    letters_pushed c.loop-value.letters.items c.push_type.new.out.items c.loop-value.value-index c.args.values.now c.value-item.result c.loop-value.invariant c.loop-value-test.true c.value-item.is c.in_ok-push_type.ensures
+    letters_pushed c.loop-value.letters.items c.push_type.new.out.items c.loop-value.value-index c.args.values.now c.value-item.result c.loop-value.invariant c.loop-value-test.true c.value-item.is c.in_ok-push_type.ensures.value
 
 pub signature_of-requires : goal.signature_of-requires
 signature_of-requires c =

@@ -1,4 +1,3 @@
-use Rattle.std.proofs.Common.{refl}
 use Rattle.bus_message.proofs.FieldLaws.{array_fields}
 use Rattle.bus_message.proofs.fields.fields_in.Goals as goal
 

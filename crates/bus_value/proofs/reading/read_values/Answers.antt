@@ -6,6 +6,7 @@ use Rattle.bus_value.specs.Nesting.{nesting_all}
 use Rattle.bus_value.specs.Faults.{told}
 use Rattle.bus_value.proofs.Nesting.{nesting_within}
 use Rattle.bus_value.proofs.Containers.{onward}
+use Rattle.bus_value.proofs.Lasting.{all_values_last}
 use Rattle.bus_value.proofs.Fitting.{each_fits}
 use Rattle.bus_value.specs.Values.{vals}
 use Rattle.bus_value.proofs.ValueSound.{all_values_sound}
@@ -25,7 +26,7 @@ returns-in_err-values c =
     let r = c.new-reader.result in
     let k = onward (in_turn (read (levels r.depth) r.order r.depth r.array) c.types.result.now (r.start + 0) (drop 0 c.args.bytes.now)) (read_all c.args.order c.args.start c.args.types.now c.args.bytes.now) e
     (λ z. all_fails c.args.order c.args.start c.args.types.now c.args.bytes.now e (placed c.new-reader.result (record { alloc = c.args.alloc; order = c.args.order; start = c.args.start; depth = 0; array = None }) c.types.result.now c.args.types.now c.args.bytes.now (Err e) c.new-reader.ensures c.types.ensures.value z)) c.in_err-values.ensures.value in
-    record { value = search (rules, k); fits = search rules; sound = λ vs e. all_read_so c.args.order c.args.start c.args.types.now c.args.bytes.now vs (λ i. let k = c.type_inv.bytes i in omega (arith, k)) e; complete = λ vs s. read_so c.args.order c.args.start c.args.types.now vs c.args.bytes.now c.types.ensures.limits s; unique = λ vs ws s u. one_reading c.args.order c.args.start c.args.types.now vs ws c.args.bytes.now c.types.ensures.limits s u }
+    record { value = search (rules, k); fits = search rules; ends = all_values_last c.args.order c.args.start c.args.types.now c.args.bytes.now c.types.ensures.limits (λ i. let k = c.type_inv.bytes i in omega (arith, k)); sound = λ vs e. all_read_so c.args.order c.args.start c.args.types.now c.args.bytes.now vs (λ i. let k = c.type_inv.bytes i in omega (arith, k)) e; complete = λ vs s. read_so c.args.order c.args.start c.args.types.now vs c.args.bytes.now c.types.ensures.limits s; unique = λ vs ws s u. one_reading c.args.order c.args.start c.args.types.now vs ws c.args.bytes.now c.types.ensures.limits s u }
 
 pub returns-then-end-bytes : goal.returns-then-end-bytes
 returns-then-end-bytes c =
@@ -35,7 +36,7 @@ returns-then-end-bytes c =
     let first = placed c.new-reader.result (record { alloc = c.args.alloc; order = c.args.order; start = c.args.start; depth = 0; array = None }) c.types.result.now c.args.types.now c.args.bytes.now (Ok (vs, (c.new-reader.result.start + end, drop end c.args.bytes.now))) c.new-reader.ensures c.types.ensures.value c.in_ok-values.ensures.value.0
     ∙ ap (λ (n : ℕ). Ok (vs, (n + end, drop end c.args.bytes.now))) start in
     let at : told (c.new-reader.result.start + end) ≡ c.told.result = sym c.told.ensures in
-    record { value = inr (all_left c.args.order c.args.start c.args.types.now c.args.bytes.now vs end first c.if-end-bytes.true ∙ ap (λ (n : ℕ). Err (BadLength (told (n + end)))) (sym start) ∙ ap (λ (n : ℕ). Err (BadLength n)) at); fits = tt; sound = λ vs e. all_read_so c.args.order c.args.start c.args.types.now c.args.bytes.now vs (λ i. let k = c.type_inv.bytes i in omega (arith, k)) e; complete = λ vs s. read_so c.args.order c.args.start c.args.types.now vs c.args.bytes.now c.types.ensures.limits s; unique = λ vs ws s u. one_reading c.args.order c.args.start c.args.types.now vs ws c.args.bytes.now c.types.ensures.limits s u }
+    record { value = inr (all_left c.args.order c.args.start c.args.types.now c.args.bytes.now vs end first c.if-end-bytes.true ∙ ap (λ (n : ℕ). Err (BadLength (told (n + end)))) (sym start) ∙ ap (λ (n : ℕ). Err (BadLength n)) at); fits = tt; ends = all_values_last c.args.order c.args.start c.args.types.now c.args.bytes.now c.types.ensures.limits (λ i. let k = c.type_inv.bytes i in omega (arith, k)); sound = λ vs e. all_read_so c.args.order c.args.start c.args.types.now c.args.bytes.now vs (λ i. let k = c.type_inv.bytes i in omega (arith, k)) e; complete = λ vs s. read_so c.args.order c.args.start c.args.types.now vs c.args.bytes.now c.types.ensures.limits s; unique = λ vs ws s u. one_reading c.args.order c.args.start c.args.types.now vs ws c.args.bytes.now c.types.ensures.limits s u }
 
 pub returns : goal.returns
 returns c =
@@ -45,4 +46,4 @@ returns c =
     let first = placed c.new-reader.result (record { alloc = c.args.alloc; order = c.args.order; start = c.args.start; depth = 0; array = None }) c.types.result.now c.args.types.now c.args.bytes.now (Ok (vs, (c.new-reader.result.start + end, drop end c.args.bytes.now))) c.new-reader.ensures c.types.ensures.value c.in_ok-values.ensures.value.0
     ∙ ap (λ (n : ℕ). Ok (vs, (n + end, drop end c.args.bytes.now))) start in
     let whole = all_read c.args.order c.args.start c.args.types.now c.args.bytes.now vs end first c.if-end-bytes.false in
-    record { value = whole; fits = each_fits (vals vs) c.args.order 0 c.args.start ((all_values_sound c.args.order c.args.start c.args.types.now c.args.bytes.now vs (λ i. let k = c.type_inv.bytes i in omega (arith, k)) whole).legal); sound = λ vs e. all_read_so c.args.order c.args.start c.args.types.now c.args.bytes.now vs (λ i. let k = c.type_inv.bytes i in omega (arith, k)) e; complete = λ vs s. read_so c.args.order c.args.start c.args.types.now vs c.args.bytes.now c.types.ensures.limits s; unique = λ vs ws s u. one_reading c.args.order c.args.start c.args.types.now vs ws c.args.bytes.now c.types.ensures.limits s u }
+    record { value = whole; fits = each_fits (vals vs) c.args.order 0 c.args.start ((all_values_sound c.args.order c.args.start c.args.types.now c.args.bytes.now vs (λ i. let k = c.type_inv.bytes i in omega (arith, k)) whole).legal); ends = all_values_last c.args.order c.args.start c.args.types.now c.args.bytes.now c.types.ensures.limits (λ i. let k = c.type_inv.bytes i in omega (arith, k)); sound = λ vs e. all_read_so c.args.order c.args.start c.args.types.now c.args.bytes.now vs (λ i. let k = c.type_inv.bytes i in omega (arith, k)) e; complete = λ vs s. read_so c.args.order c.args.start c.args.types.now vs c.args.bytes.now c.types.ensures.limits s; unique = λ vs ws s u. one_reading c.args.order c.args.start c.args.types.now vs ws c.args.bytes.now c.types.ensures.limits s u }

@@ -16,7 +16,7 @@ push-requires c =
 pub loop-value-preserved : goal.loop-value-preserved
 loop-value-preserved c =
     first_pushed c.args.order c.args.start c.loop-value.out.items c.push.new.out.items c.loop-value.value-index c.as_slice-value-items.result.now c.value-item.result
-    c.loop-value.invariant c.loop-value-test.true c.value-item.is c.in_ok-push.ensures
+    c.loop-value.invariant c.loop-value-test.true c.value-item.is c.in_ok-push.ensures.value
 
 pub returns : goal.returns
 returns c =

@@ -1,17 +1,9 @@
-use Rattle.bus_auth.proofs.Pieces.{heard_next, replies_next, state_next, told_next}
+use Rattle.bus_auth.proofs.Pieces.{told_next}
+use Rattle.bus_auth.proofs.Histories.{hears}
 use Rattle.bus_auth.proofs.auth.Auth.feed.Goals as goal
 
 pub returns-clause-heard : goal.returns-clause-heard
-returns-clause-heard c =
-    heard_next c.args.self.now c.hear.new.self c.args.piece.now c.hear.result c.requires c.hear.ensures.step
-
-pub returns-clause-replies : goal.returns-clause-replies
-returns-clause-replies c =
-    replies_next c.args.self.now c.hear.new.self c.args.piece.now c.hear.result c.requires c.hear.ensures.step
-
-pub returns-clause-state : goal.returns-clause-state
-returns-clause-state c =
-    state_next c.args.self.now c.hear.new.self c.args.piece.now c.hear.result c.requires c.hear.ensures.step
+returns-clause-heard c = hears c.args.self.now c.hear.new.self c.args.piece.now c.hear.result c.requires c.hear.ensures.step
 
 pub returns-clause-shown : goal.returns-clause-shown
 returns-clause-shown c = told_next c.args.self.now c.hear.new.self _ c.hear.result c.hear.ensures.step

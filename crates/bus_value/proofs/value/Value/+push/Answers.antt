@@ -6,6 +6,7 @@ use Rattle.bus_value.specs.Alignment.{boundary}
 use Rattle.bus_value.specs.Spelling.{first_element, pad_size, array_front}
 use Rattle.bus_value.specs.Numbers.{number_bytes}
 use Rattle.bus_value.specs.Limits.{Fits, AllFit, EntriesFit}
+use Rattle.bus_names.proofs.Fronts.{kept_once, kept_behind, on_err}
 use Rattle.bus_value.proofs.Rows.{value_fits, value_pushed, behind_padding, behind_front, entry_fits, entry_pushed, value_place, array_written, dict_written, item_smaller, pair_smaller}
 use Rattle.bus_value.proofs.value.Value.+push.Goals as goal
 
@@ -26,7 +27,7 @@ push-requires t c =
 pub loop-element-preserved : goal.loop-element-preserved
 loop-element-preserved t c =
     value_pushed c.args.order c.args.start c.begin_array.new.out.items c.loop-element.out.items c.push.new.out.items c.loop-element.element-index c.deref-element-items.result.now c.element-item.result
-    c.loop-element.invariant c.loop-element-test.true c.element-item.is c.in_ok-push-in-Array.ensures
+    c.loop-element.invariant c.loop-element-test.true c.element-item.is c.in_ok-push-in-Array.ensures.value
 
 pub push-requires-in-loop-field : goal.push-requires-in-loop-field
 push-requires-in-loop-field t c =
@@ -37,13 +38,13 @@ push-requires-in-loop-field t c =
     let all : AllFit o (p + pad_size p 8) (vals c.deref-field-items.result.now) = subst (λ (vs : List Val). AllFit o (p + pad_size p 8) (vals vs)) (sym c.deref-field-items.ensures.value) fit in (
       let less = item_smaller c.in-Struct.fields.items c.deref-field-items.result.now c.loop-field.field-index c.field-item.result c.args.self.now c.loop-field-test.true c.field-item.is c.deref-field-items.ensures.value (ap parts whole) in omega (arith, less),
       value_fits o c.args.start (p + pad_size p 8) c.push_padding.new.out.items c.loop-field.out.items c.loop-field.field-index c.deref-field-items.result.now c.field-item.result
-          (behind_padding c.args.start p 8 c.args.out.now.items c.push_padding.new.out.items refl c.in_ok-push_padding-in-Struct.ensures) c.loop-field.invariant c.loop-field-test.true c.field-item.is all,
+          (behind_padding c.args.start p 8 c.args.out.now.items c.push_padding.new.out.items refl c.in_ok-push_padding-in-Struct.ensures.value) c.loop-field.invariant c.loop-field-test.true c.field-item.is all,
     )
 
 pub loop-field-preserved : goal.loop-field-preserved
 loop-field-preserved t c =
     value_pushed c.args.order c.args.start c.push_padding.new.out.items c.loop-field.out.items c.push-in-loop-field.new.out.items c.loop-field.field-index c.deref-field-items.result.now c.field-item.result
-    c.loop-field.invariant c.loop-field-test.true c.field-item.is c.in_ok-push-in-Struct.ensures
+    c.loop-field.invariant c.loop-field-test.true c.field-item.is c.in_ok-push-in-Struct.ensures.value
 
 pub push_basic-requires-in-loop-key : goal.push_basic-requires-in-loop-key
 push_basic-requires-in-loop-key t c =
@@ -67,16 +68,16 @@ push-requires-in-loop-key t c =
     (behind_front o c.args.start p 8 c.args.out.now.items c.begin_array-in-Dict.new.out.items refl c.in_ok-at-in-Dict.ensures.bytes) c.loop-key.invariant c.loop-key-test.true c.loop-key-item.is all in (
       let less = pair_smaller c.in-Dict.pairs.items c.deref-key-items.result.now c.loop-key.key-index c.loop-key-item.result c.args.self.now c.loop-key-test.true c.loop-key-item.is c.deref-key-items.ensures.value (ap parts whole) in omega (arith, less),
       subst (λ (m : ℕ). Fits o m c.loop-key-item.result.1)
-          (sym (value_place o c.args.start c.loop-key.out.items c.push_padding-in-loop-key.new.out.items c.push_basic-in-loop-key.new.out.items c.loop-key-item.result.0 c.in_ok-push_padding-in-Dict.ensures c.in_ok-push_basic-in-Dict.ensures)) h.1,
+          (sym (value_place o c.args.start c.loop-key.out.items c.push_padding-in-loop-key.new.out.items c.push_basic-in-loop-key.new.out.items c.loop-key-item.result.0 c.in_ok-push_padding-in-Dict.ensures.value c.in_ok-push_basic-in-Dict.ensures.value)) h.1,
     )
 
 pub loop-key-preserved : goal.loop-key-preserved
 loop-key-preserved t c =
     entry_pushed c.args.order c.args.start c.begin_array-in-Dict.new.out.items c.loop-key.out.items c.push_padding-in-loop-key.new.out.items c.push_basic-in-loop-key.new.out.items c.push-in-loop-key.new.out.items
-    c.loop-key.key-index c.deref-key-items.result.now c.loop-key-item.result c.loop-key.invariant c.loop-key-test.true c.loop-key-item.is c.in_ok-push_padding-in-Dict.ensures c.in_ok-push_basic-in-Dict.ensures c.in_ok-push-in-Dict.ensures
+    c.loop-key.key-index c.deref-key-items.result.now c.loop-key-item.result c.loop-key.invariant c.loop-key-test.true c.loop-key-item.is c.in_ok-push_padding-in-Dict.ensures.value c.in_ok-push_basic-in-Dict.ensures.value c.in_ok-push-in-Dict.ensures.value
 
-pub returns-after-loop-element : goal.returns-after-loop-element
-returns-after-loop-element t c =
+pub returns-after-loop-element-clause-value : goal.returns-after-loop-element-clause-value
+returns-after-loop-element-clause-value t c =
     let o = c.args.order in
     let p : ℕ = c.args.start + length c.args.out.now.items in
     let kind = c.in-Array.kind in
@@ -89,8 +90,8 @@ returns-after-loop-element t c =
     array_written o c.args.start at c.loop-element.element-index kind c.args.out.now.items c.begin_array.new.out.items c.loop-element.out.items c.end_array.new.out.items c.in-Array.elements.items c.deref-element-items.result.now c.args.self.now
     front c.loop-element.invariant c.in_ok-at-in-Array.ensures.place closed c.loop-element-test.false c.deref-element-items.ensures.value whole
 
-pub returns-after-loop-key : goal.returns-after-loop-key
-returns-after-loop-key t c =
+pub returns-after-loop-key-clause-value : goal.returns-after-loop-key-clause-value
+returns-after-loop-key-clause-value t c =
     let o = c.args.order in
     let whole : dict c.in-Dict.field-0 c.in-Dict.field-1 (entries c.in-Dict.pairs.items) ≡ c.args.self.now = ap value_of (sym c.in-Dict.is) ∙ c.self.view_is in
     let long : c.len-first-in-Dict.result ≡ length c.begin_array-in-Dict.new.out.items = search rules in
@@ -99,3 +100,25 @@ returns-after-loop-key t c =
     c.end_array-in-Dict.ensures ∙ ap (λ (n : ℕ). take at c.loop-key.out.items ++ (number_bytes o 4 (length c.loop-key.out.items - n) ++ drop (at + 4) c.loop-key.out.items)) long in
     dict_written o c.args.start at c.loop-key.key-index c.in-Dict.field-0 c.in-Dict.field-1 c.args.out.now.items c.begin_array-in-Dict.new.out.items c.loop-key.out.items c.end_array-in-Dict.new.out.items c.in-Dict.pairs.items c.deref-key-items.result.now c.args.self.now
     c.in_ok-at-in-Dict.ensures.bytes c.loop-key.invariant c.in_ok-at-in-Dict.ensures.place closed c.loop-key-test.false c.deref-key-items.ensures.value whole
+
+pub returns-in_err-push-in-Array-clause-kept : goal.returns-in_err-push-in-Array-clause-kept
+returns-in_err-push-in-Array-clause-kept t c =
+    on_err c.from_residual-in_err-push-in-Array.result
+    (kept_behind c.args.out.now.items c.begin_array.new.out.items c.loop-element.out.items c.push.new.out.items _ _ c.in_ok-at-in-Array.ensures.bytes c.loop-element.invariant c.in_err-push-in-Array.ensures.kept)
+
+pub returns-in_err-push-in-Struct-clause-kept : goal.returns-in_err-push-in-Struct-clause-kept
+returns-in_err-push-in-Struct-clause-kept t c =
+    on_err c.from_residual-in_err-push-in-Struct.result
+    (kept_behind c.args.out.now.items c.push_padding.new.out.items c.loop-field.out.items c.push-in-loop-field.new.out.items _ _ c.in_ok-push_padding-in-Struct.ensures.value c.loop-field.invariant c.in_err-push-in-Struct.ensures.kept)
+
+pub returns-in_err-push_basic-in-Dict-clause-kept : goal.returns-in_err-push_basic-in-Dict-clause-kept
+returns-in_err-push_basic-in-Dict-clause-kept t c =
+    let padded = kept_once c.loop-key.out.items c.push_padding-in-loop-key.new.out.items c.push_basic-in-loop-key.new.out.items _ c.in_ok-push_padding-in-Dict.ensures.value c.in_err-push_basic-in-Dict.ensures.kept in
+    on_err c.from_residual-in_err-push_basic-in-Dict.result
+    (kept_behind c.args.out.now.items c.begin_array-in-Dict.new.out.items c.loop-key.out.items c.push_basic-in-loop-key.new.out.items _ _ c.in_ok-at-in-Dict.ensures.bytes c.loop-key.invariant padded)
+
+pub returns-in_err-push-in-Dict-clause-kept : goal.returns-in_err-push-in-Dict-clause-kept
+returns-in_err-push-in-Dict-clause-kept t c =
+    let keyed = kept_behind c.loop-key.out.items c.push_padding-in-loop-key.new.out.items c.push_basic-in-loop-key.new.out.items c.push-in-loop-key.new.out.items _ _ c.in_ok-push_padding-in-Dict.ensures.value c.in_ok-push_basic-in-Dict.ensures.value c.in_err-push-in-Dict.ensures.kept in
+    on_err c.from_residual-in_err-push-in-Dict.result
+    (kept_behind c.args.out.now.items c.begin_array-in-Dict.new.out.items c.loop-key.out.items c.push-in-loop-key.new.out.items _ _ c.in_ok-at-in-Dict.ensures.bytes c.loop-key.invariant keyed)
