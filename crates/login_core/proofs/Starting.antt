@@ -5,6 +5,7 @@ use Rattle.login_model.specs.Full.{taken_by}
 use Rattle.login_model.specs.Legal.{IsLegal, trail_of}
 use Rattle.login_model.specs.Need.{need}
 use Rattle.login_model.specs.Names.{names}
+use Rattle.login_model.specs.Setups.{IsSetup}
 use Rattle.login_model.specs.Stopping.{stop_from}
 use Rattle.login_model.specs.Trail.{Trail, value}
 use Rattle.login_model.specs.Where.{connections, locks, open_sessions, sessions}
@@ -33,9 +34,9 @@ no-texts x a b = record {
   gone = record { kept = λ s e. absurd (false-true e); made = λ s e. b s };
 }
 
-pub core-new : (U : Setup) (m : Machine) (x : Texts) → m.journal.items ≡ [] → m.marks.items ≡ [] → 1 ≤ m.journal.entries → ((s : SessId) → copies_in x.closing.items s ≡ None) → ((s : SessId) → copies_in x.gone.items s ≡ None)
+pub core-new : (U : Setup) (m : Machine) (x : Texts) → IsSetup U → m.journal.items ≡ [] → m.marks.items ≡ [] → 1 ≤ m.journal.entries → ((s : SessId) → copies_in x.closing.items s ≡ None) → ((s : SessId) → copies_in x.gone.items s ≡ None)
     → IsCore U m x None
-core-new U m x j k n a b =
+core-new U m x u j k n a b =
     let P : List Entry → Type 0 = IsLegal U in
     let t : trail_of m.journal.items ≡ [] = ap trail_of j in
     let c = ap (λ (u : Trail). length (connections u)) t ∙ no-connections in
@@ -44,6 +45,7 @@ core-new U m x j k n a b =
     let l = ap length j in
     let Q : Trail → Type 0 = HaveTexts x in
     record {
+      set_up = u;
       legal = subst P (sym j) tt;
       no_marks = k;
       stop_is = ap (stop_from 1) (sym j);

@@ -187,6 +187,7 @@ core-closed U m n x y a b stop next e v ms s w j k l r o h =
     let C = kept.few_entries in
     let D = kept.few_marks in
     record {
+      set_up = s.core.set_up;
       legal = subst P (sym j) (legal-closed U es e v b ms s.core.legal w);
       no_marks = k;
       stop_is = o ∙ ap (λ (p : Option ℕ). stop_next p e (length es + 1)) s.core.stop_is ∙ sym (stop-closed es d) ∙ ap (stop_from 1) (sym j);

@@ -2,6 +2,7 @@
 use Rattle.std.specs.Prelude.{ℕ, ◌≡◌, ◌+◌, ◌≤◌, [], length, Option, Some, None}
 use Rattle.login_model.specs.Legal.{IsLegal, trail_of}
 use Rattle.login_model.specs.Need.{need}
+use Rattle.login_model.specs.Setups.{IsSetup}
 use Rattle.login_model.specs.Stopping.{stop_from}
 use Rattle.login_model.specs.Where.{connections}
 use Rattle.login_model.specs.declared.setup.Setup.{Setup}
@@ -14,10 +15,11 @@ abbrev pub stop_need : Option ℕ → ℕ
 stop_need None = 1
 stop_need (Some n) = 0
 
--- The journal is legal, and no entry is under way. There is room for the end of each connection and for the
+-- The setup is one, the journal is legal under it, and no entry is under way. There is room for the end of each connection and for the
 -- stop: their entries, their marks, the texts of the sessions that close; and with them the journal stays
 -- within its limits.
 pub record IsCore (U : Setup) (m : Machine) (texts : Texts) (stop : Option ℕ) : Type 0 where
+  pub set_up : IsSetup U
   pub legal : IsLegal U m.journal.items
   pub no_marks : m.marks.items ≡ []
   pub stop_is : stop ≡ stop_from 1 m.journal.items

@@ -7,6 +7,7 @@ ghost use Rattle.login_model.specs.Built.{is_built};
 ghost use Rattle.login_model.specs.Full.{connected_after, full, mark_count, marks_needed};
 ghost use Rattle.login_model.specs.Legal.{IsLegal, IsPlaced, IsAsked, answered, trail_of};
 ghost use Rattle.login_model.specs.Policy.{verdict};
+ghost use Rattle.login_model.specs.Setups.{IsSetup};
 ghost use Rattle.login_model.specs.Stopping.{is_stop, stopped};
 ghost use Rattle.login_model.specs.Where.{is_connected};
 ghost use Rattle.login_model.specs.declared.event.Event.TheVariants.{Disconnect};
@@ -95,6 +96,7 @@ impl Model for Core {
 impl Core {
     /// The machine of a setup, before the first event. It takes the room of the stop's entry.
     pub fn new(alloc: Global, setup: Setup) -> Result<Core, NoMemory>
+        requires { IsSetup setup }
         ensures setup { IfOk result (λ core. core.setup ≡ setup) }
         ensures journal { IfOk result (λ core. core.journal ≡ []) }
     {
@@ -250,7 +252,8 @@ impl Core {
 
     /// The setup that the core was made with.
     pub fn setup(&self) -> &Setup
-        ensures { result.now ≡ self.now.setup }
+        ensures value { result.now ≡ self.now.setup }
+        ensures set_up { IsSetup self.now.setup }
     {
         &self.setup
     }

@@ -1,5 +1,5 @@
 -- Words say nothing exactly where they have a fault.
-use Rattle.std.proofs.Common.{◌≡◌, ◌≢◌, ℕ, ◌≤◌, ◌<◌, ◌-◌, List, [], ◌∷◌, ◌++◌, refl, sym, ◌∙◌, ap, subst, codes, Bool, true, false, not, ◌&&◌, ◌==◌, cond, leb, arith, Option, Some, None, Result, Err, length, length-append}
+use Rattle.std.proofs.Common.{◌≡◌, ◌≢◌, ◌⊎◌, inl, inr, ℕ, ◌≤◌, ◌<◌, ◌-◌, List, [], ◌∷◌, ◌++◌, refl, sym, ◌∙◌, ap, subst, codes, Bool, true, false, not, ◌&&◌, ◌==◌, cond, leb, arith, Option, Some, None, Result, Err, length, length-append}
 use Rattle.std.specs.Option.{option_and_then, option_map, option_or}
 use Rattle.std.specs.Str.{bytes_eq, is_utf8}
 use Rattle.std.specs.List.{list_all, list_any, last_or, slice_split}
@@ -594,3 +594,27 @@ cause_of_words bytes text b words found fault e f short one w g r h = fault_of_w
 -- and it is none of a line that is not built
 pub found_unbuilt : (words : List (List ℕ)) (found : LineFault) → Finds (words_fault words) (Some found) → refused found ≡ refused NotBuilt → ⊥
 found_unbuilt words found g r = words_unbuilt words (found_is (words_fault words) found NotBuilt g r (λ e. cc))
+
+-- a fault that there is was found, or there was no memory
+found_so : (o : Option LineFault) (found fault : LineFault) → Finds o (Some found) → o ≡ Some fault → (refused found ≡ refused fault) ⊎ (refused found ≡ refused NoMemory)
+found_so o NoMemory fault f h = inr refl
+found_so o UnknownWord fault f h = inl cc
+found_so o BadNumber fault f h = inl cc
+found_so o BadHex fault f h = inl cc
+found_so o MissingWord fault f h = inl cc
+found_so o ExtraWord fault f h = inl cc
+found_so o TooLong fault f h = inl cc
+found_so o BadName fault f h = inl cc
+found_so o Ended fault f h = inl cc
+found_so o NotBuilt fault f h = inl cc
+
+-- the fault of a line is the one that is found of its words
+pub refused_words : (bytes text : List ℕ) (b : ℕ) (words : List (List ℕ)) (found fault : LineFault) → bytes ≡ text ++ b ∷ [] → b ≡ 10 → length text ≤ 16384 → list_any (λ b. b == 10) text ≡ false → words ≡ slice_split (λ b. b == 32) text
+    → Finds (words_fault words) (Some found) → line_fault bytes ≡ Some fault → (refused found ≡ refused fault) ⊎ (refused found ≡ refused NoMemory)
+refused_words bytes text b words found fault e f short one w g h = found_so (words_fault words) found fault g (ap words_fault w ∙ (sym (fault_of_words bytes text b e f short one) ∙ h))
+
+-- a line with one fault has no other
+pub refused_so : (bytes : List ℕ) (own fault : LineFault) → line_fault bytes ≡ Some own → line_fault bytes ≡ Some fault → (refused own ≡ refused fault) ⊎ (refused own ≡ refused NoMemory)
+refused_so bytes own fault e h =
+    let both : Some own ≡ Some fault = sym e ∙ h in
+    inl cc

@@ -15,7 +15,7 @@ use Rattle.recording.specs.Grammar.{InGrammar, OneGrammar}
 use Rattle.recording.specs.Meaning.{meant, built, IsReadAs}
 use Rattle.recording.specs.Readings.{line_of}
 use Rattle.recording.proofs.Causes.{fault_of, faultless, more_than_line, fault_of_words, too_long_before, too_long_whole, has_ended, nothing_ended}
-use Rattle.recording.proofs.ReadBytes.{text_bytes, no_feed, no_feed_test}
+use Rattle.recording.proofs.ReadBytes.{IsRead, text_bytes, no_feed, no_feed_test}
 use Rattle.recording.proofs.Spellings.{line_of-text, text_spells, text_written, written_no_feed, built_by_words, unbuilt_by_words}
 
 -- a text that is a line of the grammar, with its line feed
@@ -126,6 +126,9 @@ built_faultless bytes fault e line r = spelled_faultless bytes fault e r.written
 
 pub unbuilt_faultless : (bytes : List ℕ) (fault : LineFault) → line_fault bytes ≡ Some fault → IsUnbuilt bytes → ⊥
 unbuilt_faultless bytes fault e u = spelled_faultless bytes fault e u.line u.spells u.written
+
+pub read_faultless : (bytes : List ℕ) (fault : LineFault) → line_fault bytes ≡ Some fault → (line : Line) → IsRead bytes line → ⊥
+read_faultless bytes fault e line r = spelled_faultless bytes fault e line r.spells r.written
 
 -- a line whose words say nothing is neither
 misfit : (bytes text : List ℕ) → bytes ≡ text ++ 10 ∷ [] → line_of (slice_split (λ b. eqb b 32) text) ≡ None → (line : Line) → Spells line bytes → IsWritten line → ⊥

@@ -269,6 +269,7 @@ pub fn read_line(alloc: Global, bytes: &[u8]) -> Result<Line, LineFault>
     ensures not_built { result ≡ Err LineFault.NotBuilt → IsUnbuilt bytes.now }
     ensures unbuilt { IsUnbuilt bytes.now → (result ≡ Err LineFault.NotBuilt) ⊎ (result ≡ Err LineFault.NoMemory) }
     ensures cause { (fault : LineFault) → result ≡ Err fault → fault ≢ LineFault.NoMemory → fault ≢ LineFault.NotBuilt → line_fault bytes.now ≡ Some fault }
+    ensures refused { (fault : LineFault) → line_fault bytes.now ≡ Some fault → (result ≡ Err fault) ⊎ (result ≡ Err LineFault.NoMemory) }
 {
     let Some((last, text)) = bytes.split_last() else {
         return Err(LineFault::Ended);

@@ -9,7 +9,9 @@ pub mod Ends
 pub mod Setups
 pub mod Finishes
 pub mod Placed
+pub mod Numbers
 pub mod Events
 pub mod Decimals
 pub mod SpelledLines
 pub mod Laws
+pub mod Conditions

@@ -1,6 +1,7 @@
 -- What the reading of a preamble answers.
 use Rattle.std.specs.Prelude.{ℕ, ◌≡◌, List, [], ◌∷◌, ◌++◌, length, Option, Result, Ok, Err, IfSome}
 use Rattle.login_edge.specs.Faults.{Rose}
+use Rattle.login_model.specs.Setups.{IsSetup}
 use Rattle.login_model.specs.declared.setup.Setup.{Setup}
 use Rattle.recording.specs.declared.line.Line.{Line}
 use Rattle.recording.specs.declared.line.Line.TheVariants.{Header, Go as GoLine}
@@ -54,3 +55,8 @@ BehindHeader before after left r = (all : Option (List ℕ)) → WereRead all (H
 abbrev pub SetupCause : ℕ → ℕ → SetupEnd → Type 0
 SetupCause before now setup.ReadFault = Rose before now
 SetupCause before now _ = now ≡ before
+
+-- a setup that was read meets the conditions of one
+abbrev pub SetsUp : SetupEnd → Type 0
+SetsUp (setup.Ready s count) = IsSetup s
+SetsUp _ = Unit {0}

@@ -6,6 +6,7 @@ mod cause;
 mod law;
 mod placing;
 mod play;
+mod player;
 mod preamble;
 mod replaying;
 mod reporting;

@@ -8,7 +8,7 @@ ghost use Rattle.recording.specs.Reading.{left_to};
 ghost use Rattle.recording.specs.declared.line.Line.TheVariants.{Guid, User};
 ghost use Rattle.replay.specs.PreambleLines.{guid_or_default};
 ghost use Rattle.replay.specs.Front.{fresh, takes_at};
-ghost use Rattle.replay.specs.Preamble.{Takes, TakesLine, SetupGives, BehindHeader, SetupCause};
+ghost use Rattle.replay.specs.Preamble.{Takes, TakesLine, SetupGives, BehindHeader, SetupCause, SetsUp};
 
 use crate::ahead::{Ahead, read_ahead};
 use crate::cause::Cause;
@@ -170,6 +170,7 @@ fn is_header(line: &Line) -> bool
 /// Reads the lines of a recording through `go`.
 pub fn read_setup<S: Source>(alloc: Global, lines: &mut LineReader, source: &mut S) -> SetupEnd
     ensures gives { SetupGives (left_to lines.old (S.left source.old)) (left_to lines.new (S.left source.new)) (S.left source.new) result }
+    ensures set_up { SetsUp result }
     ensures cause { SetupCause (S.faults source.old) (S.faults source.new) result }
 {
     match read_ahead(alloc, lines, source) {

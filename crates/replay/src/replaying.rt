@@ -1,6 +1,7 @@
 // A recording is read line by line, and its transcript written.
 
 ghost use Rattle.std.specs.Prelude.{ℕ, List, Option, ◌≤◌, ◌≡◌, ◌<◌, [], length, IfOk, string_bytes};
+ghost use Rattle.login_model.specs.Setups.{IsSetup};
 ghost use Rattle.recording.specs.Reading.{left_to};
 ghost use Rattle.recording.specs.Print.{transcript_end};
 ghost use Rattle.replay.specs.Writing.{Writes, WriteCause};
@@ -16,9 +17,9 @@ ghost use Rattle.replay.specs.Turns.{PlaysTurn, TakesTurn, Turns, ReadTurns, Wri
 use crate::ahead::{Ahead, read_ahead};
 use crate::cause::Cause;
 use crate::play::{Played, play_event};
+use crate::player::Player;
 use crate::preamble::{SetupEnd, read_setup};
 use crate::reporting::{RefusalLine, report};
-use login_core::Core;
 use login_edge::{Sink, Source, write_all};
 use login_model::{Count, Event, Setup};
 use recording::{Line, LineReader, WriteEnd};
@@ -46,11 +47,11 @@ fn end_text(alloc: Global, count: usize) -> Result<String, AllocError>
 }
 
 /// Writes the last line of a transcript, after the entries of the journal.
-fn write_end<K: Sink>(alloc: Global, core: &Core, sink: &mut K) -> Result<(), WriteEnd>
-    ensures gives { Writes (K.held sink.old) (K.held sink.new) (transcript_end (length core.now.journal)) result }
+fn write_end<K: Sink>(alloc: Global, player: &Player, sink: &mut K) -> Result<(), WriteEnd>
+    ensures gives { Writes (K.held sink.old) (K.held sink.new) (transcript_end (length player.now.journal)) result }
     ensures cause { WriteCause (K.faults sink.old) (K.faults sink.new) result }
 {
-    let text = match end_text(alloc, core.journal().len()) {
+    let text = match end_text(alloc, player.core().journal().len()) {
         Ok(text) => text,
         Err(_) => return Err(WriteEnd::NoMemory),
     };
@@ -82,16 +83,16 @@ fn finish<S: Source, K: Sink>(
     alloc: Global,
     lines: &mut LineReader,
     source: &mut S,
-    core: &Core,
+    player: &Player,
     number: u32,
     sink: &mut K,
 ) -> ReplayEnd
     requires within { number ≤ most_lines }
-    ensures gives { GoesOn ended core.now number (left_to lines.old (S.left source.old)) (S.left source.new) (K.held sink.old) (K.held sink.new) result }
+    ensures gives { GoesOn ended player.now number (left_to lines.old (S.left source.old)) (S.left source.new) (K.held sink.old) (K.held sink.new) result }
     ensures read { ReadRises (S.faults source.old) (S.faults source.new) result }
     ensures write { WriteRises (K.faults sink.old) (K.faults sink.new) result }
 {
-    match write_end(alloc, core, sink) {
+    match write_end(alloc, player, sink) {
         Ok(()) => {}
         Err(WriteEnd::WriteFault) => return ReplayEnd::WriteFault,
         Err(WriteEnd::NoMemory) => return ReplayEnd::NoMemory,
@@ -142,18 +143,18 @@ enum Turn {
 /// Plays an event, which is the line with the number behind this one.
 fn play_turn<K: Sink>(
     alloc: Global,
-    core: &mut Core,
+    player: &mut Player,
     event: Event,
     number: u32,
     sink: &mut K,
 ) -> Turn
     requires line { IsEventLine event }
     requires within { number < most_lines }
-    ensures gives { PlaysTurn core.old core.new event number (K.held sink.old) (K.held sink.new) result }
+    ensures gives { PlaysTurn player.old player.new event number (K.held sink.old) (K.held sink.new) result }
     ensures read { IsReadless result }
     ensures write { WriteTurns (K.faults sink.old) (K.faults sink.new) result }
 {
-    match play_event(alloc, core, event, sink) {
+    match play_event(alloc, player, event, sink) {
         Played::Done => Turn::Next,
         Played::Refused => Turn::Over(ReplayEnd::Script(number + 1, Cause::WrongPlace)),
         Played::Full(count) => Turn::Over(ReplayEnd::Full(count)),
@@ -163,15 +164,21 @@ fn play_turn<K: Sink>(
 }
 
 /// Does what a line says that was read behind `go`, with the number behind this one.
-fn take_line<K: Sink>(alloc: Global, core: &mut Core, line: Line, number: u32, sink: &mut K) -> Turn
+fn take_line<K: Sink>(
+    alloc: Global,
+    player: &mut Player,
+    line: Line,
+    number: u32,
+    sink: &mut K,
+) -> Turn
     requires line { IsLine line }
     requires within { number < most_lines }
-    ensures gives { TakesTurn core.old core.new line number (K.held sink.old) (K.held sink.new) result }
+    ensures gives { TakesTurn player.old player.new line number (K.held sink.old) (K.held sink.new) result }
     ensures read { IsReadless result }
     ensures write { WriteTurns (K.faults sink.old) (K.faults sink.new) result }
 {
     match behind_go(line) {
-        Behind::Event(event) => play_turn(alloc, core, event, number, sink),
+        Behind::Event(event) => play_turn(alloc, player, event, number, sink),
         Behind::End => Turn::Closed,
         Behind::Other => Turn::Over(ReplayEnd::Script(number + 1, Cause::WrongPlace)),
     }
@@ -182,17 +189,17 @@ fn play_line<S: Source, K: Sink>(
     alloc: Global,
     lines: &mut LineReader,
     source: &mut S,
-    core: &mut Core,
+    player: &mut Player,
     number: u32,
     sink: &mut K,
 ) -> Turn
     requires within { number < most_lines }
-    ensures gives { Turns core.old core.new number (left_to lines.old (S.left source.old)) (left_to lines.new (S.left source.new)) (S.left source.new) (K.held sink.old) (K.held sink.new) result }
+    ensures gives { Turns player.old player.new number (left_to lines.old (S.left source.old)) (left_to lines.new (S.left source.new)) (S.left source.new) (K.held sink.old) (K.held sink.new) result }
     ensures read { ReadTurns (S.faults source.old) (S.faults source.new) result }
     ensures write { WriteTurns (K.faults sink.old) (K.faults sink.new) result }
 {
     match read_ahead(alloc, lines, source) {
-        Ahead::Line(line) => take_line(alloc, core, line, number, sink),
+        Ahead::Line(line) => take_line(alloc, player, line, number, sink),
         Ahead::Refused(cause) => Turn::Over(ReplayEnd::Script(number + 1, cause)),
         Ahead::End => Turn::Over(ReplayEnd::Script(number + 1, Cause::Ended)),
         Ahead::ReadFault => Turn::Over(ReplayEnd::ReadFault),
@@ -224,19 +231,19 @@ fn play_events<S: Source, K: Sink>(
     alloc: Global,
     lines: &mut LineReader,
     source: &mut S,
-    core: &mut Core,
+    player: &mut Player,
     first: u32,
     sink: &mut K,
 ) -> ReplayEnd
     requires few { first ≤ most_lines }
-    ensures gives { GoesOn going core.old first (left_to lines.old (S.left source.old)) (S.left source.new) (K.held sink.old) (K.held sink.new) result }
+    ensures gives { GoesOn going player.old first (left_to lines.old (S.left source.old)) (S.left source.new) (K.held sink.old) (K.held sink.new) result }
     ensures read { ReadRises (S.faults source.old) (S.faults source.new) result }
     ensures write { WriteRises (K.faults sink.old) (K.faults sink.new) result }
 {
     for number in first..MOST_LINES {
-        match play_line(alloc, lines, source, core, number, sink) {
+        match play_line(alloc, lines, source, player, number, sink) {
             Turn::Next => {}
-            Turn::Closed => return finish(alloc, lines, source, core, number + 1, sink),
+            Turn::Closed => return finish(alloc, lines, source, player, number + 1, sink),
             Turn::Over(end) => return end,
         }
     }
@@ -245,22 +252,22 @@ fn play_events<S: Source, K: Sink>(
 
 /// Writes the first line of a transcript, and plays the events of a core without any, before which so
 /// many lines were read.
-fn play_core<S: Source, K: Sink>(
+fn play_all<S: Source, K: Sink>(
     alloc: Global,
     lines: &mut LineReader,
     source: &mut S,
-    core: &mut Core,
+    player: &mut Player,
     first: u32,
     sink: &mut K,
 ) -> ReplayEnd
     requires few { first ≤ most_lines }
-    requires nothing { core.old.journal ≡ [] }
-    ensures gives { (all : Option (List ℕ)) → WasSetUp all core.old.setup first (left_to lines.old (S.left source.old)) → ReplayGives all (S.left source.new) (K.held sink.old) (K.held sink.new) result }
+    requires nothing { player.old.journal ≡ [] }
+    ensures gives { (all : Option (List ℕ)) → WasSetUp all player.old.setup first (left_to lines.old (S.left source.old)) → ReplayGives all (S.left source.new) (K.held sink.old) (K.held sink.new) result }
     ensures read { ReadRises (S.faults source.old) (S.faults source.new) result }
     ensures write { WriteRises (K.faults sink.old) (K.faults sink.new) result }
 {
     match write_all(sink, b"login-transcript 1\n") {
-        login_edge::WriteEnd::Done => play_events(alloc, lines, source, core, first, sink),
+        login_edge::WriteEnd::Done => play_events(alloc, lines, source, player, first, sink),
         login_edge::WriteEnd::Fault => ReplayEnd::WriteFault,
     }
 }
@@ -274,15 +281,16 @@ fn play_setup<S: Source, K: Sink>(
     first: u32,
     sink: &mut K,
 ) -> ReplayEnd
+    requires set_up { IsSetup setup }
     requires few { first ≤ most_lines }
     ensures gives { (all : Option (List ℕ)) → WasSetUp all setup first (left_to lines.old (S.left source.old)) → ReplayGives all (S.left source.new) (K.held sink.old) (K.held sink.new) result }
     ensures read { ReadRises (S.faults source.old) (S.faults source.new) result }
     ensures write { WriteRises (K.faults sink.old) (K.faults sink.new) result }
 {
-    match Core::new(alloc, setup) {
-        Ok(mut core) => {
-            let end = play_core(alloc, lines, source, &mut core, first, sink);
-            drop(core);
+    match Player::new(alloc, setup) {
+        Ok(mut player) => {
+            let end = play_all(alloc, lines, source, &mut player, first, sink);
+            drop(player);
             end
         }
         Err(_) => ReplayEnd::NoMemory,

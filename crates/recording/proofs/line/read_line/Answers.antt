@@ -2,9 +2,9 @@ use Rattle.std.proofs.Common.{◌≡◌, ◌≤◌, ◌++◌, ◌∷◌, [], ap,
 use Rattle.recording.specs.declared.line.LineFault.TheVariants.{TooLong, Ended, ExtraWord}
 use Rattle.recording.specs.Causes.{line_fault}
 use Rattle.recording.specs.Readings.{line_of}
-use Rattle.recording.proofs.Causes.{too_long_before, too_long_whole, has_ended, nothing_ended, more_than_line, cause_of_words, found_unbuilt}
+use Rattle.recording.proofs.Causes.{too_long_before, too_long_whole, has_ended, nothing_ended, more_than_line, cause_of_words, found_unbuilt, refused_words, refused_so}
 use Rattle.recording.proofs.ReadBytes.{each_byte, read_so, read_found, read_fits, read_unbuilt}
-use Rattle.recording.proofs.Grammar.{read_again, unbuilt_again, built_faultless, unbuilt_faultless, misfit_unread, misfit_unbuilt}
+use Rattle.recording.proofs.Grammar.{read_again, unbuilt_again, built_faultless, unbuilt_faultless, read_faultless, misfit_unread, misfit_unbuilt}
 use Rattle.recording.proofs.line.read_line.Goals.{then-text-gt-LONGEST-via-then-text-gt-LONGEST, then-text-gt-LONGEST-via-else-text-gt-LONGEST+then-bytes-gt-LONGEST}
 use Rattle.recording.proofs.line.read_line.Goals.{Joined-then-text-gt-LONGEST}
 use Rattle.recording.proofs.line.read_line.Goals as goal
@@ -106,3 +106,28 @@ pub returns-in-Ok-read_words-clause-unbuilt : goal.returns-in-Ok-read_words-clau
 returns-in-Ok-read_words-clause-unbuilt c = unbuilt_again c.args.bytes.now c.in-Some.text.now c.in-Ok-read_words.line c.built.result
     (c.in-Some.ensures.cases.0 ∙ ap (λ (b : ℕ). c.in-Some.text.now ++ b ∷ []) c.if-not-is_whole-2.false)
     (sym (ap line_of (ap (map (λ word. word.now)) c.deref.ensures.value ∙ c.in-Ok.ensures)) ∙ c.in-Ok-read_words.ensures) c.built.ensures
+
+pub returns-in_default-clause-refused : goal.returns-in_default-clause-refused
+returns-in_default-clause-refused c fault h = refused_so c.args.bytes.now Ended fault (nothing_ended c.args.bytes.now c.in_default.ensures.cases) h
+
+pub returns-then-text-gt-LONGEST-clause-refused : goal.returns-then-text-gt-LONGEST-clause-refused
+returns-then-text-gt-LONGEST-clause-refused c fault h = refused_so c.args.bytes.now TooLong fault (is_too_long c) h
+
+pub returns-then-not-is_whole-2-clause-refused : goal.returns-then-not-is_whole-2-clause-refused
+returns-then-not-is_whole-2-clause-refused c fault h =
+    let short : length c.args.bytes.now ≤ 16384 = elim c.if-bytes-gt-LONGEST.either [ inl x ↦ x.1 | inr x ↦ absurd (c.if-not-is_whole-2.true x) ] in
+    refused_so c.args.bytes.now Ended fault (has_ended c.args.bytes.now c.in-Some.text.now c.in-Some.last.now c.in-Some.ensures.cases.0 c.if-not-is_whole-2.true short) h
+
+pub returns-then-has_feed-clause-refused : goal.returns-then-has_feed-clause-refused
+returns-then-has_feed-clause-refused c fault h =
+    refused_so c.args.bytes.now ExtraWord fault (more_than_line c.args.bytes.now c.in-Some.text.now c.in-Some.last.now c.in-Some.ensures.cases.0 c.if-not-is_whole-2.false c.if-text-gt-LONGEST.false (sym c.has_feed.ensures ∙ c.if-has_feed.true)) h
+
+pub returns-in-Err-Misfit-clause-refused : goal.returns-in-Err-Misfit-clause-refused
+returns-in-Err-Misfit-clause-refused c fault h =
+    refused_words c.args.bytes.now c.in-Some.text.now c.in-Some.last.now (map (λ word. word.now) c.deref-in-Err-Misfit.result.now) c.refusal.result fault c.in-Some.ensures.cases.0 c.if-not-is_whole-2.false c.if-text-gt-LONGEST.false (sym c.has_feed.ensures ∙ c.if-has_feed.false)
+    (ap (map (λ word. word.now)) c.deref-in-Err-Misfit.ensures.value ∙ c.in-Ok.ensures) c.refusal.ensures h
+
+pub returns-in-Ok-read_words-clause-refused : goal.returns-in-Ok-read_words-clause-refused
+returns-in-Ok-read_words-clause-refused c fault h = absurd (read_faultless c.args.bytes.now fault h c.in-Ok-read_words.line (read_so c.args.bytes.now c.in-Some.text.now c.in-Ok-read_words.line
+    (c.in-Some.ensures.cases.0 ∙ ap (λ (b : ℕ). c.in-Some.text.now ++ b ∷ []) c.if-not-is_whole-2.false) c.if-text-gt-LONGEST.false (sym c.has_feed.ensures ∙ c.if-has_feed.false) (each_byte c.args.bytes.now c.type_inv.bytes)
+    (sym (ap line_of (ap (map (λ word. word.now)) c.deref.ensures.value ∙ c.in-Ok.ensures)) ∙ c.in-Ok-read_words.ensures)))

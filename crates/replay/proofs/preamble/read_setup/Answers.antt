@@ -2,6 +2,7 @@ use Rattle.std.proofs.Common.{rules, arith}
 use Rattle.replay.specs.declared.cause.Cause.TheVariants.{WrongPlace, Ended}
 use Rattle.replay.proofs.Ends.{stops_wrong, stops_none, stops_early, cause_wrong, cause_none, cause_early, fresh_front}
 use Rattle.replay.proofs.Written.{is_line}
+use Rattle.replay.proofs.Conditions.{sets_up}
 use Rattle.replay.proofs.Setups.{fresh_refused, fresh_broken, fresh_fronted, header_read}
 use Rattle.replay.proofs.preamble.read_setup.Goals as goal
 
@@ -25,3 +26,8 @@ returns-in-ReadFault-clause-gives g c = fresh_broken _ _ c.in-ReadFault.ensures.
 
 pub returns-in-NoMemory-clause-gives : goal.returns-in-NoMemory-clause-gives
 returns-in-NoMemory-clause-gives g c = fresh_fronted _ _ c.in-NoMemory.ensures.gives
+
+pub returns-then-is_first-clause-set_up : goal.returns-then-is_first-clause-set_up
+returns-then-is_first-clause-set_up g c =
+    let l = c.in-Line.line in
+    sets_up _ _ _ _ (c.read_lines.ensures.gives _ (header_read _ _ l c.in-Line.ensures.gives (is_line _ l _ c.in-Line.ensures.gives) (search rules)))

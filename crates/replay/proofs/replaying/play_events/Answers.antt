@@ -24,4 +24,4 @@ returns-in-Over-clause-gives g c = λ all start w. c.in-Over.ensures.gives all s
 pub returns-clause-gives : goal.returns-clause-gives
 returns-clause-gives g c = λ all start w.
     let full : c.loop-number.number ≡ most_lines = omega arith in
-    c.read_past.ensures.gives c.loop-number.core all start _ (subst (λ (n : ℕ). SoFar going c.loop-number.core n all (left_to c.loop-number.lines (g.S.Source.left c.loop-number.source)) start (g.K.Sink.held c.loop-number.sink)) full (c.loop-number.invariant.so_far all start w))
+    c.read_past.ensures.gives c.loop-number.player all start _ (subst (λ (n : ℕ). SoFar going c.loop-number.player n all (left_to c.loop-number.lines (g.S.Source.left c.loop-number.source)) start (g.K.Sink.held c.loop-number.sink)) full (c.loop-number.invariant.so_far all start w))

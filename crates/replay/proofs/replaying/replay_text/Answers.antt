@@ -5,4 +5,4 @@ pub returns-in-Err-clause-gives : goal.returns-in-Err-clause-gives
 returns-in-Err-clause-gives g c = nothing_done _ _
 
 pub play_setup-requires : goal.play_setup-requires
-play_setup-requires g c = record { few = few_set_up _ c.in-Ready.setup c.in-Ready.first _ c.in-Ready.ensures.gives }
+play_setup-requires g c = record { set_up = c.in-Ready.ensures.set_up; few = few_set_up _ c.in-Ready.setup c.in-Ready.first _ c.in-Ready.ensures.gives }

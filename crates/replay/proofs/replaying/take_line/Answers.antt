@@ -11,15 +11,15 @@ pub play_turn-requires-clause-line : goal.play_turn-requires-clause-line
 play_turn-requires-clause-line g c = subst IsLine c.in-Event.ensures c.requires.line
 
 pub returns-in-Event-clause-gives : goal.returns-in-Event-clause-gives
-returns-in-Event-clause-gives g c = subst (λ (l : Line). TakesTurn c.args.core.now c.play_turn.new.core l c.args.number (g.K.Sink.held c.args.sink.now) (g.K.Sink.held c.play_turn.new.sink) c.play_turn.result)
+returns-in-Event-clause-gives g c = subst (λ (l : Line). TakesTurn c.args.player.now c.play_turn.new.player l c.args.number (g.K.Sink.held c.args.sink.now) (g.K.Sink.held c.play_turn.new.sink) c.play_turn.result)
     (sym c.in-Event.ensures) c.play_turn.ensures.gives
 
 pub returns-in-End-clause-gives : goal.returns-in-End-clause-gives
-returns-in-End-clause-gives g c = λ before after source r part all start s. so_far_ended c.args.core.now c.args.number all before after start _ c.args.line s r c.in-End.ensures
+returns-in-End-clause-gives g c = λ before after source r part all start s. so_far_ended c.args.player.now c.args.number all before after start _ c.args.line s r c.in-End.ensures
 
 pub returns-in-Other-clause-gives : goal.returns-in-Other-clause-gives
 returns-in-Other-clause-gives g c = λ before after source r part all start s.
-    let core = c.args.core.now in
+    let core = c.args.player.now in
     let f = going_front s.preamble core.journal in
     let no = c.in-Other.ensures s.preamble core.journal in
     events_refused core c.args.number all before start _ WrongPlace s (omega (arith, c.requires.within))

@@ -1,0 +1,107 @@
+-- The setup that a preamble says meets the conditions of one.
+use Rattle.std.proofs.Common.{◌≡◌, ◌≢◌, ◌≤◌, ◌<◌, ◌+◌, ◌&&◌, ◌==◌, Bool, true, false, ℕ, List, [], ◌∷◌, ◌++◌, length, length-append, refl, arith, ap, sym, ◌∙◌, subst, append_assoc, append-nil, Option, Some, None}
+use Rattle.std.proofs.lemmas.Bool.Decides.{nat_tests}
+use Rattle.std.specs.List.{AllByRecursion, list_all}
+use Rattle.login_model.specs.Setups.{IsSetup, IsGuid, IsUserRow, IsNewUser, AreDistinct, default_guid, is_hex_byte}
+use Rattle.login_model.specs.declared.setup.Setup.{Setup}
+use Rattle.login_model.specs.declared.setup.UserRow.{UserRow}
+use Rattle.recording.specs.Hex.{is_guid}
+use Rattle.recording.specs.Lines.{IsLine}
+use Rattle.recording.specs.declared.line.Line.{Line}
+use Rattle.recording.specs.declared.line.Line.TheVariants.{Header, Guid, User, Conf, Action, Go, Event, Link, In, Hangup, End}
+use Rattle.replay.specs.PreambleLines.{guid_in, users_in, guid_or_default, setup_of, MayFollow, IsPreambleAfter, IsPreamble}
+use Rattle.replay.specs.Preamble.{WasSetUp, SetupGives, SetsUp}
+use Rattle.replay.specs.declared.preamble.SetupEnd.{SetupEnd}
+use Rattle.replay.specs.declared.preamble.SetupEnd.TheVariants as setup
+use Rattle.replay.proofs.Preambles.{guid_guid, users_guid, guid_user, users_user}
+
+both : (a b : Bool) → (a && b) ≡ true → (a ≡ true) × (b ≡ true)
+both true true e = (refl, refl)
+both true false e = cc
+both false b e = cc
+
+-- the users that lines give are as a setup's
+record AreUsers (rows : List UserRow) : Type 0 where
+  pub users : AllByRecursion IsUserRow rows
+  pub distinct : AreDistinct rows
+  pub most : length rows ≤ 1024
+
+rows_more : (rows : List UserRow) (row : UserRow) → AllByRecursion IsUserRow rows → IsUserRow row → AllByRecursion IsUserRow (rows ++ row ∷ [])
+rows_more [] row h r = (r, tt)
+rows_more (x ∷ rows) row h r = (h.0, rows_more rows row h.1 r)
+
+new_more : (uid : ℕ) (rows : List UserRow) (row : UserRow) → IsNewUser uid rows → row.uid.0 ≢ uid → IsNewUser uid (rows ++ row ∷ [])
+new_more uid [] row h n = (n, tt)
+new_more uid (x ∷ rows) row h n = (h.0, new_more uid rows row h.1 n)
+
+distinct_more : (rows : List UserRow) (row : UserRow) → AreDistinct rows → IsNewUser row.uid.0 rows → AreDistinct (rows ++ row ∷ [])
+distinct_more [] row h n = (tt, tt)
+distinct_more (x ∷ rows) row h n = (new_more x.uid.0 rows row h.0 (λ e. n.0 (sym e)), distinct_more rows row h.1 n.1)
+
+users_more : (rows : List UserRow) (row : UserRow) → AreUsers rows → IsUserRow row → IsNewUser row.uid.0 rows → length rows < 1024 → AreUsers (rows ++ row ∷ [])
+users_more rows row h r n few = record {
+  users = rows_more rows row h.users r;
+  distinct = distinct_more rows row h.distinct n;
+  most = omega (arith, length-append rows (row ∷ []));
+}
+
+guid_is : (guid : List ℕ) → is_guid guid ≡ true → IsGuid guid
+guid_is guid h =
+    let p = both (length guid == 32) (list_all is_hex_byte guid) h in
+    record { digits = p.1; long = same (length guid) p.0 }
+  where
+    same : (n : ℕ) → (n == 32) ≡ true → n ≡ 32
+    same n e = grind (arith, nat_tests)
+
+-- what lines say is as a setup's
+record AreFit (lines : List Line) : Type 0 where
+  pub guid : IsGuid (guid_or_default (guid_in lines))
+  pub users : AreUsers (users_in lines)
+
+guid_fits : (before : List Line) (guid : List ℕ) → AreFit before → is_guid guid ≡ true → guid_in before ≡ None → AreFit (before ++ Guid guid ∷ [])
+guid_fits before guid h g none = record {
+  guid = subst (λ (o : Option (List ℕ)). IsGuid (guid_or_default o)) (sym (guid_guid before guid none)) (guid_is guid g);
+  users = subst AreUsers (sym (users_guid before guid)) h.users;
+}
+
+user_fits : (before : List Line) (row : UserRow) → AreFit before → IsUserRow row → IsNewUser row.uid.0 (users_in before) → length (users_in before) < 1024 → AreFit (before ++ User row ∷ [])
+user_fits before row h r n few = record {
+  guid = subst (λ (o : Option (List ℕ)). IsGuid (guid_or_default o)) (sym (guid_user before row)) h.guid;
+  users = subst AreUsers (sym (users_user before row)) (users_more (users_in before) row h.users r n few);
+}
+
+line_fits : (before : List Line) (l : Line) → AreFit before → IsLine l → MayFollow before l → AreFit (before ++ l ∷ [])
+line_fits before (Guid guid) h f m = guid_fits before guid h f m
+line_fits before (User row) h f m = user_fits before row h (record { not_root = f.0; named = f.3 }) m.0 m.1
+line_fits before (Header version) h f m = absurd m
+line_fits before (Conf text) h f m = absurd m
+line_fits before (Action text) h f m = absurd m
+line_fits before Go h f m = absurd m
+line_fits before (Event e) h f m = absurd m
+line_fits before (Link c u) h f m = absurd m
+line_fits before (In c bytes) h f m = absurd m
+line_fits before (Hangup c) h f m = absurd m
+line_fits before End h f m = absurd m
+
+lines_fit : (before ls : List Line) → AreFit before → IsPreambleAfter before ls → AreFit (before ++ ls)
+lines_fit before [] h p = subst AreFit (sym (append-nil before)) h
+lines_fit before (l ∷ ls) h p = subst AreFit (append_assoc before (l ∷ []) ls) (lines_fit (before ++ l ∷ []) ls (line_fits before l h p.0 p.1) p.2)
+
+nothing_fits : AreFit []
+nothing_fits = record { guid = record { digits = refl; long = refl }; users = record { users = tt; distinct = tt; most = omega arith } }
+
+preamble_is_setup : (ls : List Line) → IsPreamble ls → IsSetup (setup_of ls)
+unfolding setup_of
+preamble_is_setup ls p =
+    let h = lines_fit [] ls nothing_fits p in
+    record { guid = h.guid; users = h.users.users; distinct = h.users.distinct; most = h.users.most; conf = refl; table = refl }
+
+was_setup : (before : Option (List ℕ)) (s : Setup) (count : ℕ) (left : Option (List ℕ)) → WasSetUp before s count left → IsSetup s
+was_setup before s count left h = subst IsSetup (sym h.setup_is) (preamble_is_setup h.preamble h.is_preamble)
+
+-- a setup that was read meets the conditions of one
+pub sets_up : (before after left : Option (List ℕ)) (r : SetupEnd) → SetupGives before after left r → SetsUp r
+sets_up before after left (setup.Ready s count) h = was_setup before s count after h
+sets_up before after left (setup.Script number cause) h = tt
+sets_up before after left setup.ReadFault h = tt
+sets_up before after left setup.NoMemory h = tt
