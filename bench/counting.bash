@@ -32,3 +32,9 @@ instructions() {
     valgrind --tool=callgrind --callgrind-out-file=/dev/null "$program" "$@" 2>"$work/counted"
     sed -n 's/.*Collected : \([0-9]*\).*/\1/p' "$work/counted"
 }
+
+# The bytes of memory that the program asks for with these words.
+asked() {
+    valgrind --tool=memcheck "$program" "$@" 2>"$work/asked"
+    sed -n 's/.*total heap usage:.* \([0-9,]*\) bytes allocated/\1/p' "$work/asked" | tr -d ,
+}
