@@ -7,7 +7,9 @@ use crate::Order::{self, Big, Little};
 pub(super) type Spelled = (&'static [u8], Order, usize, &'static [u8]);
 
 /// Arrays without elements, booleans and numbers in each place.
-pub(super) const VALUES_A: [Spelled; 38] = [
+pub(super) const VALUES_A: [Spelled; 40] = [
+    (b"yu", Little, 0, b"\x01\0\0\0\x02\0\0\0"),
+    (b"yu", Big, 0, b"\x01\0\0\0\0\0\0\x02"),
     (b"ay", Little, 0, b"\0\0\0\0"),
     (b"ay", Big, 0, b"\0\0\0\0"),
     (b"aq", Little, 0, b"\0\0\0\0"),
