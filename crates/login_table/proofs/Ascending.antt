@@ -1,5 +1,5 @@
 -- Rows whose keys ascend: what is under a key, and what a setting makes of them.
-use Rattle.std.proofs.Common.{◌≡◌, ℕ, zero, suc, nat_lt, ◌<◌, ◌≤◌, Bool, true, false, cond, not, Option, Some, List, [], ◌∷◌, ◌++◌, length, get_or, take, drop, set, refl, ap, sym, ◌∙◌, subst, arith, inl, inr}
+use Rattle.std.proofs.Common.{◌≡◌, ℕ, zero, suc, nat_lt, ◌<◌, ◌≤◌, Bool, true, false, cond, not, Option, Some, None, List, [], ◌∷◌, ◌++◌, length, get_or, take, drop, set, refl, ap, sym, ◌∙◌, subst, arith, inl, inr}
 use Rattle.std.proofs.lemmas.List.{get_or_read}
 use Rattle.std.specs.List.Sorted.{IsPartitionedBy, IsPartitionPoint}
 use Rattle.login_model.specs.declared.fact.Key.{Key}
@@ -11,10 +11,20 @@ use Rattle.login_model.specs.Trail.{Trail, value}
 use Rattle.login_model.specs.Names.{is_above}
 use Rattle.login_model.proofs.Keys.{same_key-true, test}
 use Rattle.login_table.specs.KeyOrder.{key_lt, place}
-use Rattle.login_table.specs.Rows.{as_trail, AscendFrom, IsFront}
+use Rattle.login_table.specs.Rows.{as_trail, Ascend, AscendFrom, IsFront}
 use Rattle.login_table.specs.declared.rows.Row.{Row}
 use Rattle.login_table.proofs.Standing.{value-set, value-start}
 use Rattle.login_table.proofs.KeyOrder.{key_order, kind-below, no-test, below-apart, above-apart, above}
+
+-- ascending rows, opened
+pub opened : (xs : List Row) → Ascend xs → AscendFrom None xs
+unfolding Ascend
+opened xs a = a
+
+-- and closed again
+pub closed : (xs : List Row) → AscendFrom None xs → Ascend xs
+unfolding Ascend
+closed xs a = a
 
 -- all rows behind a key are above it
 behind : (k : Key) (xs : List Row) → AscendFrom (Some k) xs → (j : ℕ) (d : Row) → j < length xs → key_lt k (get_or xs j d).key ≡ true

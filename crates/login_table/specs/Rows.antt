@@ -23,6 +23,10 @@ abbrev pub AscendFrom : Option Key → List Row → Type 0
 AscendFrom above [] = Unit {0}
 AscendFrom above (x ∷ xs) = (is_above key_lt above x.key ≡ true) × AscendFrom (Some x.key) xs
 
+-- the key of each row is above those of the rows before it
+unfoldable pub Ascend : List Row → Type 0
+Ascend rows = AscendFrom None rows
+
 -- so many rows pass from the front on, and the next one does not
 abbrev pub IsFront : (Row → Bool) → ℕ → List Row → Type 0
 IsFront p zero [] = Unit {0}

@@ -6,7 +6,7 @@ ghost use Rattle.login_model.specs.Names.{IsNext, is_above};
 ghost use Rattle.login_model.specs.declared.fact.Key.{Key as AnyKey};
 ghost use Rattle.login_model.specs.declared.mark.Mark.TheVariants.{Set};
 ghost use Rattle.login_table.specs.KeyOrder.{key_lt, place};
-ghost use Rattle.login_table.specs.Rows.{AscendFrom, IsFront, is_passed, name_there, first_there};
+ghost use Rattle.login_table.specs.Rows.{Ascend, IsFront, is_passed, name_there, first_there};
 ghost use Rattle.login_table.specs.declared.rows.Row.{Row as AnyRow};
 
 use crate::key_order::{is_key_below, kind_place};
@@ -32,18 +32,18 @@ pub struct Rows {
 
 impl Model for Rows {
     ghost use Rattle.std.specs.Prelude.{◌-◌, None, vec_len, vec_capacity};
-    ghost use Rattle.login_table.specs.Rows.{AscendFrom, RowList, as_trail};
+    ghost use Rattle.login_table.specs.Rows.{Ascend, RowList, as_trail};
 
     ghost Value = { RowList };
 
     ghost view = { λ r. record { trail = as_trail r.rows.items; spare = vec_capacity r.rows - vec_len r.rows } };
 
-    ghost invariant = { λ r. AscendFrom None r.rows.items };
+    ghost invariant = { λ r. Ascend r.rows.items };
 }
 
 /// How many rows are below a key.
 fn place(rows: &[Row], key: &Key) -> usize
-    requires { AscendFrom None rows.now }
+    requires { Ascend rows.now }
     ensures front { IsFront (λ (x : AnyRow). key_lt x.key key.now) result rows.now }
     ensures bound { result ≤ length rows.now }
 {
@@ -56,7 +56,7 @@ fn place(rows: &[Row], key: &Key) -> usize
 
 /// How many rows are not above a key.
 fn place_behind(rows: &[Row], key: &Key) -> usize
-    requires { AscendFrom None rows.now }
+    requires { Ascend rows.now }
     ensures front { IsFront (λ (x : AnyRow). not (key_lt key.now x.key)) result rows.now }
     ensures bound { result ≤ length rows.now }
 {
@@ -69,7 +69,7 @@ fn place_behind(rows: &[Row], key: &Key) -> usize
 
 /// How many rows are of kinds in front of that one.
 fn place_of_kind(rows: &[Row], kind: u8) -> usize
-    requires { AscendFrom None rows.now }
+    requires { Ascend rows.now }
     ensures front { IsFront (λ (x : AnyRow). nat_lt (place x.key) kind) result rows.now }
     ensures bound { result ≤ length rows.now }
 {
@@ -82,7 +82,7 @@ fn place_of_kind(rows: &[Row], kind: u8) -> usize
 
 /// How many rows are in front of the names above that one.
 fn place_above<N: Name>(rows: &[Row], above: Option<N>) -> usize
-    requires { AscendFrom None rows.now }
+    requires { Ascend rows.now }
     ensures front { IsFront (is_passed N.key_of N.kind above) result rows.now }
     ensures bound { result ≤ length rows.now }
 {
@@ -110,7 +110,7 @@ fn name_there<N: Name>(row: &Row) -> Option<N>
 
 /// The first name that rows say is there. It goes no further than the rows of its kind.
 fn first_there<N: Name>(rows: &[Row]) -> Option<N>
-    requires { AscendFrom None rows.now }
+    requires { Ascend rows.now }
     ensures { result ≡ first_there N.name_in N.is_fact rows.now }
 {
     for row in rows {

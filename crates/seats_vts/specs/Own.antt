@@ -1,4 +1,4 @@
--- Which keys are about seats and virtual terminals.
+-- The keys of the table of seats and virtual terminals.
 use Rattle.std.specs.Prelude.{Bool, true, false}
 use Rattle.login_model.specs.declared.fact.Key.{Key}
 use Rattle.login_model.specs.declared.fact.Key.TheVariants.{Seat, Act, Vt, Getty, Pending}

@@ -2,7 +2,7 @@
 //! Objects").
 #![tactic(auto)]
 
-ghost use Rattle.std.specs.Prelude.{◌≡◌, ◌+◌, ◌<◌, ◌≤◌, [], ◌∷◌, OnOk, MatchOption, None, Some};
+ghost use Rattle.std.specs.Prelude.{◌≡◌, ◌+◌, ◌<◌, ◌≤◌, [], ◌∷◌, OnOk, MatchOption, None, Some, false};
 ghost use Rattle.login_model.specs.Trail.{Trail};
 ghost use Rattle.login_model.specs.Names.{IsNext, seat_lt};
 ghost use Rattle.login_model.specs.Where.{is_seat};
@@ -16,7 +16,7 @@ use login_table::Rows;
 use std::alloc::Global;
 use std::marker::Model;
 
-/// Whether a key is about a seat or a virtual terminal.
+/// Whether a key is one of the table of seats and virtual terminals.
 pub fn is_seat_key(key: &Key) -> bool
     ensures { result ≡ is_seat_key key.now }
 {
@@ -26,8 +26,8 @@ pub fn is_seat_key(key: &Key) -> bool
     }
 }
 
-/// Which seats are there, which session is active on one, the current and the pending virtual terminal
-/// of seat0, and where a getty is asked for.
+/// Which seats are there, which session was made active on one without terminals, the current and the
+/// pending virtual terminal of seat0, and where a getty is asked for.
 #[derive(Drop)]
 pub struct SeatsVts {
     rows: Rows,
@@ -75,6 +75,7 @@ impl SeatsVts {
     pub fn apply(&mut self, key: Key, fact: Fact)
         requires { 0 < self.old.spare }
         ensures stands { (t : Trail) → Stands is_seat_key self.old.trail t → Stands is_seat_key self.new.trail (Set key fact ∷ t) }
+        ensures other { is_seat_key key ≡ false → self.new ≡ self.old }
         ensures spare { self.old.spare ≤ self.new.spare + 1 }
     {
         if is_seat_key(&key) {
@@ -89,3 +90,6 @@ impl SeatsVts {
         self.rows.next(above)
     }
 }
+
+#[cfg(test)]
+mod tests;

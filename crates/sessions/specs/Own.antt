@@ -1,4 +1,4 @@
--- Which keys are about sessions.
+-- The keys of the table of sessions.
 use Rattle.std.specs.Prelude.{Bool, true, false}
 use Rattle.login_model.specs.declared.fact.Key.{Key}
 use Rattle.login_model.specs.declared.fact.Key.TheVariants.{Sess, Idle, Locked, Sig}

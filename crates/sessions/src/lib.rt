@@ -2,7 +2,7 @@
 //! Objects").
 #![tactic(auto)]
 
-ghost use Rattle.std.specs.Prelude.{◌≡◌, ◌+◌, ◌<◌, ◌≤◌, [], ◌∷◌, OnOk, MatchOption, None, Some};
+ghost use Rattle.std.specs.Prelude.{◌≡◌, ◌+◌, ◌<◌, ◌≤◌, [], ◌∷◌, OnOk, MatchOption, None, Some, false};
 ghost use Rattle.login_model.specs.Trail.{Trail};
 ghost use Rattle.login_model.specs.Names.{IsNext, session_lt};
 ghost use Rattle.login_model.specs.Where.{is_session};
@@ -16,7 +16,7 @@ use login_table::Rows;
 use std::alloc::Global;
 use std::marker::Model;
 
-/// Whether a key is about a session: what one is, a hint, or the last signal.
+/// Whether a key is one of the table of sessions: what one is, a hint, or the last signal.
 pub fn is_session_key(key: &Key) -> bool
     ensures { result ≡ is_session_key key.now }
 {
@@ -74,6 +74,7 @@ impl Sessions {
     pub fn apply(&mut self, key: Key, fact: Fact)
         requires { 0 < self.old.spare }
         ensures stands { (t : Trail) → Stands is_session_key self.old.trail t → Stands is_session_key self.new.trail (Set key fact ∷ t) }
+        ensures other { is_session_key key ≡ false → self.new ≡ self.old }
         ensures spare { self.old.spare ≤ self.new.spare + 1 }
     {
         if is_session_key(&key) {
@@ -88,3 +89,6 @@ impl Sessions {
         self.rows.next(above)
     }
 }
+
+#[cfg(test)]
+mod tests;

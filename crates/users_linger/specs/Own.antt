@@ -1,4 +1,4 @@
--- Which keys are about users.
+-- The keys of the table of users.
 use Rattle.std.specs.Prelude.{Bool, true, false}
 use Rattle.login_model.specs.declared.fact.Key.{Key}
 use Rattle.login_model.specs.declared.fact.Key.TheVariants.{User, Linger}

@@ -1,7 +1,7 @@
 //! Which users are known, and which of them linger (sd-login(3), loginctl(1) `enable-linger`).
 #![tactic(auto)]
 
-ghost use Rattle.std.specs.Prelude.{◌≡◌, ◌+◌, ◌<◌, ◌≤◌, [], ◌∷◌, OnOk, MatchOption, None, Some};
+ghost use Rattle.std.specs.Prelude.{◌≡◌, ◌+◌, ◌<◌, ◌≤◌, [], ◌∷◌, OnOk, MatchOption, None, Some, false};
 ghost use Rattle.login_model.specs.Trail.{Trail};
 ghost use Rattle.login_model.specs.Names.{IsNext, user_lt};
 ghost use Rattle.login_model.specs.Where.{is_user};
@@ -15,7 +15,7 @@ use login_table::Rows;
 use std::alloc::Global;
 use std::marker::Model;
 
-/// Whether a key is about a user: whether one is known, or lingers.
+/// Whether a key is one of the table of users: whether one is known, or lingers.
 pub fn is_user_key(key: &Key) -> bool
     ensures { result ≡ is_user_key key.now }
 {
@@ -73,6 +73,7 @@ impl UsersLinger {
     pub fn apply(&mut self, key: Key, fact: Fact)
         requires { 0 < self.old.spare }
         ensures stands { (t : Trail) → Stands is_user_key self.old.trail t → Stands is_user_key self.new.trail (Set key fact ∷ t) }
+        ensures other { is_user_key key ≡ false → self.new ≡ self.old }
         ensures spare { self.old.spare ≤ self.new.spare + 1 }
     {
         if is_user_key(&key) {

@@ -1,6 +1,7 @@
 use Rattle.std.proofs.Common.{◌≡◌, ◌<◌, ◌∙◌, ℕ, nat_lt, true, sym, arith}
 use Rattle.std.proofs.lemmas.Bool.Decides.{nat_tests}
 use Rattle.login_table.specs.KeyOrder.{place}
+use Rattle.login_table.proofs.Ascending.{opened}
 use Rattle.login_table.proofs.NextRow.{beyond-at}
 use Rattle.login_table.proofs.rows.first_there.Goals as goal
 
@@ -11,6 +12,6 @@ pub returns-then-kind_place-kind : goal.returns-then-kind_place-kind
 returns-then-kind_place-kind g c =
     let n = g.N.Name in
     let x = c.row-item.result in
-    sym (beyond-at n.name_in n.key_of n.is_fact n.first g.met.N.Name.keys n.kind g.met.N.Name.of_kind c.args.rows.now c.loop-row.row-index x c.requires c.loop-row-test.true c.row-item.is
+    sym (beyond-at n.name_in n.key_of n.is_fact n.first g.met.N.Name.keys n.kind g.met.N.Name.of_kind c.args.rows.now c.loop-row.row-index x (opened c.args.rows.now c.requires) c.loop-row-test.true c.row-item.is
     (above n.kind c.kind.result (place x.key) c.kind_place.result c.kind.ensures c.kind_place.ensures c.if-kind_place-kind.true))
     ∙ c.loop-row.invariant

@@ -1,0 +1,22 @@
+// What no clause can show: that there is room.
+
+use super::*;
+use login_base::NoMemory;
+use login_model::{Fact, Key, seat0};
+
+#[test]
+fn the_first_seat_is_there_from_the_start(rt: HostRuntime) -> Result<(), NoMemory> {
+    let mut seats = SeatsVts::new(rt.alloc());
+    seats.room(1)?;
+    seats.apply(Key::Vt, Fact::Number(2));
+    match seats.look(&Key::Vt) {
+        Some(fact) => assert!(rt; matches!(fact, Fact::Number(2))),
+        None => assert!(rt; false),
+    }
+    match seats.next_seat(None) {
+        Some(seat) => assert!(rt; seat.as_slice() == b"seat0".as_slice()),
+        None => assert!(rt; false),
+    }
+    assert!(rt; seats.next_seat(Some(seat0())).is_none());
+    Ok(())
+}

@@ -1,0 +1,19 @@
+// What no clause can show: that there is room.
+
+use super::*;
+use login_base::NoMemory;
+use login_model::{Fact, Key};
+
+#[test]
+fn hints_are_told(rt: HostRuntime) -> Result<(), NoMemory> {
+    let mut sessions = Sessions::new(rt.alloc());
+    sessions.room(1)?;
+    sessions.apply(Key::Idle(SessId(1)), Fact::Flag(true));
+    match sessions.look(&Key::Idle(SessId(1))) {
+        Some(fact) => assert!(rt; matches!(fact, Fact::Flag(true))),
+        None => assert!(rt; false),
+    }
+    assert!(rt; sessions.next_session(None).is_none());
+    assert!(rt; sessions.look(&Key::Vt).is_none());
+    Ok(())
+}
