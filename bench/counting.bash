@@ -29,7 +29,7 @@ build() {
 
 # The instructions of the program with these words, which it must answer with status 0.
 instructions() {
-    valgrind --tool=callgrind --callgrind-out-file=/dev/null "$program" "$@" 2>"$work/counted"
+    valgrind --tool=callgrind --callgrind-out-file=/dev/null "$program" "$@" >/dev/null 2>"$work/counted"
     sed -n 's/.*Collected : \([0-9]*\).*/\1/p' "$work/counted"
 }
 

@@ -29,6 +29,7 @@ HasSpelling =
     (o : Order) (start : ℕ) (ts : List Shape) (vs : List Val) →
     ((bytes : List ℕ) → Spells o start ts vs bytes → AreTyped 0 ts (vals vs) × AllFit o start (vals vs)) × (AreTyped 0 ts (vals vs) → AllFit o start (vals vs) → (bytes : List ℕ) × Spells o start ts vs bytes)
 
--- what a reading counts down never runs out: it ends with the values or with a fault of the bytes
+-- what a reading of the types of a signature counts down never runs out: it ends with the values or with a
+-- fault of the bytes
 abbrev pub AlwaysEnds : Type 0
 AlwaysEnds = (o : Order) (start : ℕ) (ts : List Shape) (bytes : List ℕ) → IsWithin ts → ((i : ℕ) → slice_index bytes i < 2 ^ 8) → read_all o start ts bytes ≡ Err NoMemory → ⊥

@@ -22,7 +22,8 @@ pub fn has_spelling()
     ensures { HasSpelling }
 {}
 
-/// A reading is defined to end with the values or with a fault of the bytes, and never with want of memory.
+/// A reading of the types of a signature is defined to end with the values or with a fault of the bytes, and
+/// never with want of memory.
 pub fn always_ends()
     ensures { AlwaysEnds }
 {}

@@ -26,7 +26,7 @@ pub fn read_values(
     bytes: &[u8],
 ) -> Result<Items<Value>, ValueFault>
     ensures value { Gives result (read_all order start types.now bytes.now) }
-    // which is never want of memory
+    // the definition never ends with want of memory; the call may
     ensures ends { read_all order start types.now bytes.now ≡ Err NoMemory → ⊥ }
     // what is read is spelled so
     ensures sound { (vs : List Val) → read_all order start types.now bytes.now ≡ Ok vs → Spells order start types.now vs bytes.now }

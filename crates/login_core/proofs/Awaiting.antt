@@ -1,6 +1,8 @@
--- A pause that is awaited is that of some setting.
-use Rattle.std.proofs.Common.{◌≡◌, ◌||◌, Bool, true, false, List, [], ◌∷◌, refl, ap, sym, ◌∙◌}
+-- A pause that is awaited is that of some row.
+use Rattle.std.proofs.Common.{◌≡◌, ◌||◌, Bool, true, false, List, [], ◌∷◌, refl, ap, sym, ◌∙◌, inl, inr}
 use Rattle.std.specs.List.{list_any}
+use Rattle.login_base.specs.declared.ids.SessId.{SessId}
+use Rattle.login_base.specs.declared.ids.DevNo.{DevNo}
 use Rattle.login_model.specs.declared.fact.Key.{Key}
 use Rattle.login_model.specs.declared.fact.Key.TheVariants.{Awaited}
 use Rattle.login_model.specs.declared.fact.Fact.{Fact}
@@ -8,12 +10,15 @@ use Rattle.login_model.specs.declared.mark.Mark.TheVariants.{Set, Say}
 use Rattle.login_model.specs.declared.mark.Whom.{Whom}
 use Rattle.login_model.specs.declared.mark.Notice.{Notice}
 use Rattle.login_model.specs.Where.{is_set}
-use Rattle.login_model.specs.Trail.{Trail}
+use Rattle.login_model.specs.Trail.{Trail, value}
 use Rattle.login_model.specs.Devices.{is_awaited_among, is_awaiting}
-use Rattle.login_core.specs.declared.facts.Setting.{Setting}
-use Rattle.login_core.specs.Facts.{set_after, settings}
+use Rattle.login_model.proofs.Keys.{test}
+use Rattle.login_model.proofs.Loops.{awaiting-none}
+use Rattle.login_table.specs.Stands.{Stands}
+use Rattle.login_table.specs.Rows.{as_trail}
+use Rattle.login_table.specs.declared.rows.Row.{Row}
+use Rattle.login_core.specs.Facts.{is_other_key}
 use Rattle.login_core.specs.Awaiting.{is_awaited_key}
-use Rattle.login_core.proofs.Standing.{settings-none, settings-set, settings-say, value-settings}
 
 among-none : (t : Trail) → is_awaited_among t [] ≡ false
 unfolding is_awaited_among
@@ -24,49 +29,56 @@ unfolding is_awaited_among
 among-set t (Awaited s d) x u = refl
 among-set t _ x u = refl
 
-or-move : (a b c : Bool) → (a || (b || c)) ≡ ((b || a) || c)
-or-move true true c = refl
-or-move true false c = refl
-or-move false true c = refl
-or-move false false c = refl
-
-or-none : (a : Bool) → (a || false) ≡ a
-or-none true = refl
-or-none false = refl
-
-abbrev is_awaited : Trail → Setting → Bool
-is_awaited t x = is_awaited_key t x.key
-
-among-all : (t : Trail) (xs : List Setting) (u : Trail) → is_awaited_among t (set_after u xs) ≡ (list_any (is_awaited t) xs || is_awaited_among t u)
-among-all t [] u = refl
-among-all t (x ∷ xs) u =
-    among-all t xs (Set x.key x.fact ∷ u)
-    ∙ ap (λ (b : Bool). list_any (is_awaited t) xs || b) (among-set t x.key x.fact u)
-    ∙ or-move (list_any (is_awaited t) xs) (is_awaited t x) (is_awaited_among t u)
-
-pub any-awaited : (t : Trail) (xs : List Setting) → t ≡ set_after [] xs → list_any (λ (x : Setting). is_awaited_key t x.key) xs ≡ is_awaiting t
-any-awaited t xs e =
-    sym (ap (is_awaited_among t) e ∙ among-all t xs [] ∙ ap (λ (b : Bool). list_any (is_awaited t) xs || b) (among-none t) ∙ or-none (list_any (is_awaited t) xs))
-
--- the settings among marks tell it as well
 among-say : (t : Trail) (w : Whom) (n : Notice) (u : Trail) → is_awaited_among t (Say w n ∷ u) ≡ is_awaited_among t u
 unfolding is_awaited_among
 among-say t w n u = refl
 
-key-settings : (t : Trail) (k : Key) → is_awaited_key (settings t) k ≡ is_awaited_key t k
-key-settings t (Awaited s d) = ap is_set (value-settings (Awaited s d) t)
-key-settings t _ = refl
+abbrev is_awaited : Trail → Row → Bool
+is_awaited t x = is_awaited_key t x.key
 
-among-settings : (t u : Trail) → is_awaited_among (settings t) (settings u) ≡ is_awaited_among t u
-among-settings t [] = ap (is_awaited_among (settings t)) settings-none ∙ among-none (settings t) ∙ sym (among-none t)
-among-settings t (Set k x ∷ u) =
-    ap (is_awaited_among (settings t)) (settings-set k x u)
-    ∙ among-set (settings t) k x (settings u)
-    ∙ ap (λ (b : Bool). b || is_awaited_among (settings t) (settings u)) (key-settings t k)
-    ∙ ap (λ (b : Bool). is_awaited_key t k || b) (among-settings t u)
-    ∙ sym (among-set t k x u)
-among-settings t (Say w n ∷ u) =
-    ap (is_awaited_among (settings t)) (settings-say w n u) ∙ among-settings t u ∙ sym (among-say t w n u)
+among-rows : (t : Trail) (xs : List Row) → is_awaited_among t (as_trail xs) ≡ list_any (is_awaited t) xs
+among-rows t [] = among-none t
+among-rows t (x ∷ xs) = among-set t x.key x.fact (as_trail xs) ∙ ap (λ (b : Bool). is_awaited t x || b) (among-rows t xs)
 
-pub awaiting-standing : (f t : Trail) → f ≡ settings t → is_awaiting f ≡ is_awaiting t
-awaiting-standing f t e = ap (λ (u : Trail). is_awaiting u) e ∙ among-settings t t
+pub any-awaited : (t : Trail) (xs : List Row) → as_trail xs ≡ t → list_any (λ (x : Row). is_awaited_key t x.key) xs ≡ is_awaiting t
+any-awaited t xs e = sym (ap (is_awaited_among t) (sym e) ∙ among-rows t xs)
+
+-- a pause that is awaited
+record Some (t : Trail) : Type 0 where
+  session : SessId
+  device : DevNo
+  is : is_set (value t (Awaited session device)) ≡ true
+
+in-key : (t : Trail) (k : Key) → is_awaited_key t k ≡ true → Some t
+in-key t (Awaited s d) e = record { session = s; device = d; is = e }
+in-key t _ e = absurd (let z : false ≡ true = e in cc)
+
+or-right : (a b : Bool) → (a || b) ≡ true → a ≡ false → b ≡ true
+or-right a b e h = sym (ap (λ (x : Bool). x || b) h) ∙ e
+
+in-trail : (t u : Trail) → is_awaited_among t u ≡ true → Some t
+in-trail t [] e = absurd (let z : false ≡ true = sym (among-none t) ∙ e in cc)
+in-trail t (Set k x ∷ u) e =
+    elim (test (is_awaited_key t k)) [
+      | inl y ↦ in-key t k y
+      | inr n ↦ in-trail t u (or-right (is_awaited_key t k) (is_awaited_among t u) (sym (among-set t k x u) ∙ e) n)
+    ]
+in-trail t (Say w n ∷ u) e = in-trail t u (sym (among-say t w n u) ∙ e)
+
+is-some : (t : Trail) (b : Bool) → is_awaiting t ≡ b → Some t → b ≡ true
+is-some t true e p = refl
+is-some t false e p = absurd (awaiting-none t p.session p.device e p.is)
+
+moved : (u t : Trail) → ((s : SessId) (d : DevNo) → value u (Awaited s d) ≡ value t (Awaited s d)) → is_awaiting u ≡ true → is_awaiting t ≡ true
+moved u t e h = let p = in-trail u u h in is-some t (is_awaiting t) refl (record { session = p.session; device = p.device; is = ap is_set (sym (e p.session p.device)) ∙ p.is })
+
+both-ways : (a b : Bool) → (a ≡ true → b ≡ true) → (b ≡ true → a ≡ true) → a ≡ b
+both-ways true b f g = sym (f refl)
+both-ways false true f g = g refl
+both-ways false false f g = refl
+
+pub awaiting-standing : (rows t : Trail) → Stands is_other_key rows t → is_awaiting rows ≡ is_awaiting t
+awaiting-standing rows t s =
+    both-ways (is_awaiting rows) (is_awaiting t)
+    (moved rows t (λ r d. s (Awaited r d) refl))
+    (moved t rows (λ r d. sym (s (Awaited r d) refl)))

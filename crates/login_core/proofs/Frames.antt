@@ -10,7 +10,7 @@ use Rattle.login_model.specs.declared.mark.Mark.TheVariants.{Set, Say}
 use Rattle.login_model.specs.Same.{same_key, same_fact}
 use Rattle.login_model.specs.Trail.{Trail, value, put}
 use Rattle.login_model.specs.Procedure.{each, tell_controller}
-use Rattle.login_core.proofs.Searching.{value-set}
+use Rattle.login_table.proofs.Standing.{value-set}
 
 -- the facts of keys that are not touched are as before
 pub record Keeps (touched : Key → Bool) (t u : Trail) : Type 0 where

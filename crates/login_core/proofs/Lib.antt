@@ -1,7 +1,6 @@
-pub mod Searching
 pub mod Counting
-pub mod LeastName
 pub mod Standing
+pub mod Placed
 pub mod Told
 pub mod Frames
 pub mod Going

@@ -9,7 +9,7 @@ use Rattle.login_model.proofs.NameLaws.{number_order}
 use Rattle.login_model.proofs.InOrder.{IsIn, Ascending}
 use Rattle.login_core.specs.declared.turning.Way.{Way}
 use Rattle.login_core.specs.declared.turning.Way.TheVariants.{Next, Previous}
-use Rattle.login_core.specs.Name.{is_lower}
+use Rattle.login_table.specs.Nearest.{is_lower}
 use Rattle.login_core.specs.Places.{is_before, behind, nearer_place}
 
 -- places in their order, either way

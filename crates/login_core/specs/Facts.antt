@@ -1,28 +1,48 @@
--- The facts as a list of settings.
-use Rattle.std.specs.Prelude.{ℕ, ◌≡◌, if◌then◌else◌, List, [], ◌∷◌}
+-- The facts in their tables.
+use denote.Struct.Props.{props}
+use Rattle.std.specs.Prelude.{ℕ, ◌≡◌, ◌≤◌, ◌||◌, not, Bool, if◌then◌else◌, List, [], ◌∷◌}
 use Rattle.login_model.specs.declared.fact.Key.{Key}
 use Rattle.login_model.specs.declared.fact.Key.TheVariants.{Sess, Owner}
 use Rattle.login_model.specs.declared.fact.Fact.{Fact}
-use Rattle.login_model.specs.declared.mark.Mark.TheVariants.{Set, Say}
 use Rattle.login_model.specs.Trail.{Trail}
 use Rattle.login_model.specs.Fresh.{fresh_session, fresh_handle, is_open_fact, is_owned_fact}
-use Rattle.login_core.specs.declared.facts.Setting.{Setting}
+use Rattle.login_table.specs.Stands.{Stands}
+use Rattle.users_linger.specs.Own.{is_user_key}
+use Rattle.sessions.specs.Own.{is_session_key}
+use Rattle.seats_vts.specs.Own.{is_seat_key}
 
--- the settings as marks, the newest first, before which those of the trail came
-abbrev pub set_after : Trail → List Setting → Trail
-set_after t [] = t
-set_after t (x ∷ xs) = set_after (Set x.key x.fact ∷ t) xs
+-- the keys that no table has yet
+abbrev pub is_other_key : Key → Bool
+is_other_key k = not (is_user_key k || is_session_key k || is_seat_key k)
 
--- what facts are seen as: their settings as marks, the newest first, and how many more go in without memory
-pub record FactList : Type 0 where
-  pub trail : Trail
+-- what facts are seen as: what each table has, as settings; the numbers of the next session and the next
+-- handle; and how many more settings go in without memory
+pub record Tables : Type 0 where
+  pub users : Trail
+  pub sessions : Trail
+  pub seats : Trail
+  pub others : Trail
+  pub session : ℕ
+  pub handle : ℕ
   pub spare : ℕ
 
--- the settings among marks, without the notices
-unfoldable pub settings : Trail → Trail
-settings [] = []
-settings (Set k x ∷ t) = Set k x ∷ settings t
-settings (Say w n ∷ t) = settings t
+-- each table stands for the marks, and the numbers are those that they leave
+pub record TablesStand (f : Tables) (t : Trail) : Type 0 where
+  pub users : Stands is_user_key f.users t
+  pub sessions : Stands is_session_key f.sessions t
+  pub seats : Stands is_seat_key f.seats t
+  pub others : Stands is_other_key f.others t
+  pub session : f.session ≡ fresh_session t
+  pub handle : f.handle ≡ fresh_handle t
+
+-- the facts are those that the marks leave
+unfoldable pub StandFor : Tables → Trail → Type 0
+StandFor f t = TablesStand f t
+
+-- it is a fact, and no more
+pub StandFor-prop : (f : Tables) (t : Trail) → IsProp (StandFor f t)
+unfolding StandFor
+StandFor-prop f t = hlevel props
 
 -- how many sessions a setting opens
 abbrev pub opens : Key → Fact → ℕ
@@ -33,8 +53,3 @@ opens _ x = 0
 abbrev pub gives : Key → Fact → ℕ
 gives (Owner h) x = if is_owned_fact x then 1 else 0
 gives _ x = 0
-
--- the counters are the numbers that were not given out
-pub record Counts (sessions handles : ℕ) (t : Trail) : Type 0 where
-  pub sessions_are : sessions ≡ fresh_session t
-  pub handles_are : handles ≡ fresh_handle t

@@ -1,8 +1,6 @@
 pub mod Texts
-pub mod Name
 pub mod Chosen
 pub mod Facts
-pub mod Nearest
 pub mod Told
 pub mod Kept
 pub mod Handles

@@ -9,13 +9,13 @@ ghost use Rattle.login_model.specs.Names.{IsNext};
 ghost use Rattle.login_model.specs.Where.{is_open, is_user_in};
 ghost use Rattle.login_model.specs.Policy.{controls, is_controller_fact};
 ghost use Rattle.login_model.specs.Direct.{is_held_by};
-ghost use Rattle.login_core.specs.Name.{is_there};
+ghost use Rattle.login_table.specs.Listed.{is_there};
 ghost use Rattle.login_core.specs.Chosen.{is_chosen};
 
 use crate::machine::Machine;
 use login_base::{ConnId, LockNo, SessId, Uid};
 use login_model::{Fact, Key, Look, is_open_fact};
-use login_table::Name;
+use login_table::{Listed, Name};
 
 /// A test of names of one kind.
 pub trait Test<N: Name> {
@@ -107,14 +107,14 @@ impl Machine {
     ghost use Rattle.login_core.specs.Board.{trail};
 
     /// The least name of a kind above that one that is there.
-    fn next<N: Name>(&self, above: Option<N>) -> Option<N>
+    fn next<N: Listed>(&self, above: Option<N>) -> Option<N>
         ensures { IsNext N.lt (is_there N.key_of N.is_fact (trail self.now)) above result }
     {
-        self.facts.next(above)
+        N::next(self, above)
     }
 
     /// The least name of a kind above that one that is there and meets a test.
-    pub fn next_that<N: Name, T: Test<N>>(&self, test: &T, above: Option<N>) -> Option<N>
+    pub fn next_that<N: Listed, T: Test<N>>(&self, test: &T, above: Option<N>) -> Option<N>
         ensures { IsNext N.lt (is_chosen (is_there N.key_of N.is_fact (trail self.now)) (T.meets test.now (trail self.now))) above result }
     {
         let mut from = above;

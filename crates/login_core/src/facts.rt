@@ -1,64 +1,57 @@
-// The facts, as a list of settings.
+// The facts, in their tables.
 
-ghost use Rattle.std.specs.Prelude.{◌≡◌, ◌+◌, ◌<◌, ◌≤◌, ◌^◌, [], ◌∷◌, OnOk};
-ghost use Rattle.login_model.specs.Trail.{value};
-ghost use Rattle.login_model.specs.Fresh.{fresh_session, fresh_handle, next_session, next_handle};
-ghost use Rattle.login_model.specs.Names.{IsNext, is_above, device_lt};
+ghost use Rattle.std.specs.Prelude.{◌≡◌, ◌+◌, ◌<◌, ◌≤◌, ◌^◌, [], ◌∷◌, OnOk, nat_lt};
+ghost use Rattle.login_model.specs.Trail.{Trail, value};
+ghost use Rattle.login_model.specs.Fresh.{next_session, next_handle};
+ghost use Rattle.login_model.specs.Names.{IsNext, session_lt, user_lt, conn_lt, seat_lt, device_lt, lock_lt};
+ghost use Rattle.login_model.specs.Where.{is_session, is_user, is_connected, is_seat, is_device, is_lock};
 ghost use Rattle.login_model.specs.Devices.{taken_in, is_taken, is_awaiting};
+ghost use Rattle.login_model.specs.declared.mark.Mark.TheVariants.{Set};
+ghost use Rattle.login_table.specs.Nearest.{nearer};
+ghost use Rattle.login_table.specs.declared.rows.Row.{Row as RowValue};
 ghost use Rattle.std.specs.List.{list_any};
 ghost use Rattle.login_core.specs.Awaiting.{is_awaited_key};
-ghost use Rattle.login_core.specs.declared.facts.Setting.{Setting as SettingValue};
-ghost use Rattle.login_core.specs.Name.{is_there, is_lower, nearer};
-ghost use Rattle.login_core.specs.Facts.{set_after, opens, gives};
+ghost use Rattle.login_core.specs.Facts.{StandFor, opens, gives};
 
-use login_base::{DevNo, HandleNo, NoMemory, Reserved, SessId};
-use login_model::{
-    Fact, Key, StartFacts, is_handle_fact, is_open_fact, is_owned_fact, is_same_key, is_set,
-};
-use login_table::Name;
+use login_base::{ConnId, DevNo, HandleNo, LockNo, NoMemory, SeatName, SessId, Uid};
+use login_model::{Fact, Key, is_handle_fact, is_open_fact, is_owned_fact, is_set};
+use login_table::{Row, Rows, is_above, is_lower};
+use seats_vts::{SeatsVts, is_seat_key};
+use sessions::{Sessions, is_session_key};
 use std::alloc::Global;
 use std::marker::Model;
+use users_linger::{UsersLinger, is_user_key};
 
-/// One setting of a fact.
-#[derive(Debug, Drop)]
-pub struct Setting {
-    pub key: Key,
-    pub fact: Fact,
-}
-
-/// The settings so far, the oldest first, and the numbers of the next session and the next handle.
-#[derive(Debug, Drop)]
+/// The facts, and the numbers of the next session and the next handle. They stand for the marks whose
+/// settings were put in.
+#[derive(Drop)]
 pub struct Facts {
-    settings: Reserved<Setting>,
-    start: StartFacts,
-    sessions: u32,
-    handles: u32,
+    users: UsersLinger,
+    sessions: Sessions,
+    seats: SeatsVts,
+    others: Rows,
+    session: u32,
+    handle: u32,
+    spare: usize,
 }
 
 impl Model for Facts {
-    ghost use Rattle.std.specs.Prelude.{[]};
-    ghost use Rattle.login_core.specs.Facts.{FactList, set_after, Counts};
+    ghost use Rattle.std.specs.Prelude.{◌≤◌};
+    ghost use Rattle.login_core.specs.Facts.{Tables};
 
-    ghost Value = { FactList };
+    ghost Value = { Tables };
 
-    ghost view = { λ f. record { trail = set_after [] f.settings.items; spare = f.settings.spare } };
+    ghost view = { λ f. record {
+      users = f.users.trail;
+      sessions = f.sessions.trail;
+      seats = f.seats.trail;
+      others = f.others.trail;
+      session = f.session;
+      handle = f.handle;
+      spare = f.spare;
+    } };
 
-    ghost invariant = { λ f. Counts f.sessions f.handles (set_after [] f.settings.items) };
-}
-
-/// The fact of the last setting of a key among these, or the fact before the first.
-fn last_fact<'a>(settings: &'a [Setting], start: &'a StartFacts, key: &Key) -> &'a Fact
-    ensures { result.now ≡ value (set_after [] settings.now) key.now }
-{
-    let mut left = settings.len();
-    while left > 0 {
-        left -= 1;
-        let setting = &settings[left];
-        if is_same_key(&setting.key, key) {
-            return &setting.fact;
-        }
-    }
-    start.fact(key)
+    ghost invariant = { λ f. (f.spare ≤ f.users.spare) × (f.spare ≤ f.sessions.spare) × (f.spare ≤ f.seats.spare) × (f.spare ≤ f.others.spare) };
 }
 
 /// How many sessions a setting opens.
@@ -81,24 +74,6 @@ fn given(key: &Key, fact: &Fact) -> u32
     }
 }
 
-fn is_above<N: Name>(above: Option<N>, name: N) -> bool
-    ensures { result ≡ is_above N.lt above name }
-{
-    match above {
-        Some(other) => other.is_below(name),
-        None => true,
-    }
-}
-
-fn is_lower<N: Name>(name: N, best: Option<N>) -> bool
-    ensures { result ≡ is_lower N.lt name best }
-{
-    match best {
-        Some(other) => name.is_below(other),
-        None => true,
-    }
-}
-
 /// The device of a key about what a session has taken.
 fn taken_in(session: SessId, key: &Key) -> Option<DevNo>
     ensures { result ≡ taken_in session key.now }
@@ -115,151 +90,197 @@ fn taken_in(session: SessId, key: &Key) -> Option<DevNo>
     }
 }
 
-impl Facts {
-    ghost use Rattle.login_core.specs.Nearest.{nearest};
-    ghost use Rattle.login_model.specs.declared.mark.Mark.TheVariants.{Set};
+/// The lower of the best device so far and another, if that is above and the session has taken it.
+fn nearer_taken(
+    others: &Rows,
+    session: SessId,
+    above: Option<DevNo>,
+    device: Option<DevNo>,
+    best: Option<DevNo>,
+) -> Option<DevNo>
+    ensures { result ≡ nearer device_lt (is_taken others.now.trail session) above device best }
+{
+    match device {
+        Some(device) => {
+            if is_above(above, device)
+                && is_lower(device, best)
+                && is_handle_fact(others.fact(&Key::Taken(session, device)))
+            {
+                Some(device)
+            } else {
+                best
+            }
+        }
+        None => best,
+    }
+}
 
-    /// No setting yet. It takes no memory.
+/// The least device above that one that a session has taken.
+fn next_taken(others: &Rows, session: SessId, above: Option<DevNo>) -> Option<DevNo>
+    ensures { IsNext device_lt (is_taken others.now.trail session) above result }
+{
+    let mut best = None;
+    for row in others.as_slice() {
+        best = nearer_taken(others, session, above, taken_in(session, &row.key), best);
+    }
+    best
+}
+
+/// Whether a key is about a pause that has still to be acknowledged.
+fn is_awaited(others: &Rows, key: &Key) -> bool
+    ensures { result ≡ is_awaited_key others.now.trail key.now }
+{
+    match key {
+        Key::Awaited(_, _) => is_set(others.fact(key)),
+        _ => false,
+    }
+}
+
+fn is_any_awaited(others: &Rows, rows: &[Row]) -> bool
+    ensures { result ≡ list_any (λ (x : RowValue). is_awaited_key others.now.trail x.key) rows.now }
+{
+    rows.iter().any(|row| is_awaited(others, &row.key))
+}
+
+#[tactic(auto, unfolding(crate::specs::Facts::StandFor))]
+impl Facts {
+    /// The facts of no marks. It takes no memory.
     pub fn new(alloc: Global) -> Facts
-        ensures { result.trail ≡ [] }
+        ensures { StandFor result [] }
     {
         Facts {
-            settings: Reserved::new(alloc),
-            start: StartFacts::new(),
-            sessions: 1,
-            handles: 1,
+            users: UsersLinger::new(alloc),
+            sessions: Sessions::new(alloc),
+            seats: SeatsVts::new(alloc),
+            others: Rows::new(alloc),
+            session: 1,
+            handle: 1,
+            spare: 0,
         }
     }
 
     /// Makes room for so many more settings.
     pub fn reserve(&mut self, more: usize) -> Result<(), NoMemory>
         ensures ok { OnOk result (more ≤ self.new.spare) }
-        ensures trail { self.new.trail ≡ self.old.trail }
+        ensures stands { (t : Trail) → StandFor self.old t → StandFor self.new t }
         ensures spare { self.old.spare ≤ self.new.spare }
     {
-        self.settings.reserve(more)
+        if more <= self.spare {
+            return Ok(());
+        }
+        self.users.room(more)?;
+        self.sessions.room(more)?;
+        self.seats.room(more)?;
+        self.others.reserve(more)?;
+        self.spare = more;
+        Ok(())
     }
 
-    /// The fact of the last setting of a key, or the fact before the first.
+    /// The fact of the last setting of a key, or the fact at the start.
     pub fn fact(&self, key: &Key) -> &Fact
-        ensures { result.now ≡ value self.now.trail key.now }
+        ensures { (t : Trail) → StandFor self.now t → result.now ≡ value t key.now }
     {
-        last_fact(self.settings.as_slice(), &self.start, key)
+        if let Some(fact) = self.users.look(key) {
+            return fact;
+        }
+        if let Some(fact) = self.sessions.look(key) {
+            return fact;
+        }
+        match self.seats.look(key) {
+            Some(fact) => fact,
+            None => self.others.fact(key),
+        }
     }
 
-    /// Puts a setting at the end. It takes no memory.
+    /// Puts a setting in. It takes no memory.
     pub fn set(&mut self, key: Key, fact: Fact)
         requires spare { 0 < self.old.spare }
-        requires sessions { fresh_session self.old.trail + opens key fact < 2 ^ 32 }
-        requires handles { fresh_handle self.old.trail + gives key fact < 2 ^ 32 }
-        ensures trail { self.new.trail ≡ Set key fact ∷ self.old.trail }
-        ensures spare { self.old.spare ≤ self.new.spare + 1 }
+        requires session { self.old.session + opens key fact < 2 ^ 32 }
+        requires handle { self.old.handle + gives key fact < 2 ^ 32 }
+        ensures stands { (t : Trail) → StandFor self.old t → StandFor self.new (Set key fact ∷ t) }
+        ensures spare { self.old.spare ≡ self.new.spare + 1 }
     {
-        self.sessions += opened(&key, &fact);
-        self.handles += given(&key, &fact);
-        self.settings.push(Setting { key, fact });
+        self.session += opened(&key, &fact);
+        self.handle += given(&key, &fact);
+        self.spare -= 1;
+        if is_user_key(&key) {
+            self.users.apply(key, fact);
+        } else if is_session_key(&key) {
+            self.sessions.apply(key, fact);
+        } else if is_seat_key(&key) {
+            self.seats.apply(key, fact);
+        } else {
+            self.others.set(key, fact);
+        }
     }
 
     /// The number of the next session.
     pub fn fresh_session(&self) -> SessId
-        ensures { result ≡ next_session self.now.trail }
+        ensures { (t : Trail) → StandFor self.now t → result ≡ next_session t }
     {
-        SessId(self.sessions)
+        SessId(self.session)
     }
 
     /// The number of the next handle.
     pub fn fresh_handle(&self) -> HandleNo
-        ensures { result ≡ next_handle self.now.trail }
+        ensures { (t : Trail) → StandFor self.now t → result ≡ next_handle t }
     {
-        HandleNo(self.handles)
+        HandleNo(self.handle)
     }
 
-    /// The lower of the best name so far and another name, if that is there and above.
-    fn nearer<N: Name>(&self, above: Option<N>, name: Option<N>, best: Option<N>) -> Option<N>
-        ensures { result ≡ nearer N.lt (is_there N.key_of N.is_fact self.now.trail) above name best }
+    /// The least session above that one that is not gone.
+    pub fn next_session(&self, above: Option<SessId>) -> Option<SessId>
+        ensures { (t : Trail) → StandFor self.now t → IsNext session_lt (is_session t) above result }
     {
-        match name {
-            Some(name) => {
-                if is_above(above, name)
-                    && is_lower(name, best)
-                    && N::is_there(self.fact(&name.key()))
-                {
-                    Some(name)
-                } else {
-                    best
-                }
-            }
-            None => best,
-        }
+        self.sessions.next_session(above)
     }
 
-    /// The least name of a kind above that one that is there.
-    pub fn next<N: Name>(&self, above: Option<N>) -> Option<N>
-        ensures { IsNext N.lt (is_there N.key_of N.is_fact self.now.trail) above result }
+    /// The least user above that one that is not absent.
+    pub fn next_user(&self, above: Option<Uid>) -> Option<Uid>
+        ensures { (t : Trail) → StandFor self.now t → IsNext user_lt (is_user t) above result }
     {
-        let mut best = self.nearer(above, N::at_start(), None);
-        for setting in self.settings.as_slice() {
-            best = self.nearer(above, N::in_key(&setting.key), best);
-        }
-        best
+        self.users.next_user(above)
     }
 
-    /// The lower of the best device so far and another, if that is above and the session has taken it.
-    fn nearer_taken(
-        &self,
-        session: SessId,
-        above: Option<DevNo>,
-        device: Option<DevNo>,
-        best: Option<DevNo>,
-    ) -> Option<DevNo>
-        ensures { result ≡ nearer device_lt (is_taken self.now.trail session) above device best }
+    /// The least seat above that one that is there.
+    pub fn next_seat(&self, above: Option<SeatName>) -> Option<SeatName>
+        ensures { (t : Trail) → StandFor self.now t → IsNext seat_lt (is_seat t) above result }
     {
-        match device {
-            Some(device) => {
-                if is_above(above, device)
-                    && is_lower(device, best)
-                    && is_handle_fact(self.fact(&Key::Taken(session, device)))
-                {
-                    Some(device)
-                } else {
-                    best
-                }
-            }
-            None => best,
-        }
+        self.seats.next_seat(above)
+    }
+
+    /// The least device above that one that is there.
+    pub fn next_device(&self, above: Option<DevNo>) -> Option<DevNo>
+        ensures { (t : Trail) → StandFor self.now t → IsNext device_lt (is_device t) above result }
+    {
+        self.others.next(above)
+    }
+
+    /// The least lock above that one that stands.
+    pub fn next_lock(&self, above: Option<LockNo>) -> Option<LockNo>
+        ensures { (t : Trail) → StandFor self.now t → IsNext lock_lt (is_lock t) above result }
+    {
+        self.others.next(above)
+    }
+
+    /// The least connection above that one that is connected.
+    pub fn next_conn(&self, above: Option<ConnId>) -> Option<ConnId>
+        ensures { (t : Trail) → StandFor self.now t → IsNext conn_lt (is_connected t) above result }
+    {
+        self.others.next(above)
     }
 
     /// The least device above that one that a session has taken.
     pub fn next_taken(&self, session: SessId, above: Option<DevNo>) -> Option<DevNo>
-        ensures { IsNext device_lt (is_taken self.now.trail session) above result }
+        ensures { (t : Trail) → StandFor self.now t → IsNext device_lt (is_taken t session) above result }
     {
-        let mut best = None;
-        for setting in self.settings.as_slice() {
-            best = self.nearer_taken(session, above, taken_in(session, &setting.key), best);
-        }
-        best
-    }
-
-    /// Whether a key is about a pause that has still to be acknowledged.
-    fn is_awaited(&self, key: &Key) -> bool
-        ensures { result ≡ is_awaited_key self.now.trail key.now }
-    {
-        match key {
-            Key::Awaited(_, _) => is_set(self.fact(key)),
-            _ => false,
-        }
-    }
-
-    fn is_any_awaited(&self, settings: &[Setting]) -> bool
-        ensures { result ≡ list_any (λ (x : SettingValue). is_awaited_key self.now.trail x.key) settings.now }
-    {
-        settings.iter().any(|setting| self.is_awaited(&setting.key))
+        next_taken(&self.others, session, above)
     }
 
     /// Whether the pause of some device has still to be acknowledged.
     pub fn is_awaiting(&self) -> bool
-        ensures { result ≡ is_awaiting self.now.trail }
+        ensures { (t : Trail) → StandFor self.now t → result ≡ is_awaiting t }
     {
-        self.is_any_awaited(self.settings.as_slice())
+        is_any_awaited(&self.others, self.others.as_slice())
     }
 }

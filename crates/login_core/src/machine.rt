@@ -4,7 +4,7 @@ ghost use Rattle.std.specs.Prelude.{◌≡◌, ◌+◌, ◌<◌, ◌≤◌, ◌^
 ghost use Rattle.login_model.specs.Trail.{put};
 ghost use Rattle.login_model.specs.Fresh.{next_session};
 ghost use Rattle.login_core.specs.Machine.{so_far, entry_of};
-ghost use Rattle.login_core.specs.Facts.{settings};
+ghost use Rattle.login_core.specs.Facts.{StandFor, StandFor-prop};
 
 use crate::facts::Facts;
 use crate::ledger::Ledger;
@@ -24,7 +24,7 @@ pub struct Machine {
     pub alloc: Global,
     /// How many marks there are in all.
     pub made: u32,
-    pub ghost stands: { facts.trail ≡ settings (so_far journal.items marks.items) },
+    pub ghost stands: { StandFor facts (so_far journal.items marks.items) } by { StandFor-prop facts (so_far journal.items marks.items) },
     pub ghost counted: { made ≡ length (so_far journal.items marks.items) },
     pub ghost marks_fit: { journal.reach ≤ made + marks.spare },
     pub ghost facts_fit: { journal.reach ≤ made + facts.spare },
@@ -137,19 +137,19 @@ impl Look for Machine {
     }
 
     fn next_session(&self, after: Option<SessId>) -> Option<SessId> {
-        self.facts.next(after)
+        self.facts.next_session(after)
     }
 
     fn next_user(&self, after: Option<Uid>) -> Option<Uid> {
-        self.facts.next(after)
+        self.facts.next_user(after)
     }
 
     fn next_seat(&self, after: Option<SeatName>) -> Option<SeatName> {
-        self.facts.next(after)
+        self.facts.next_seat(after)
     }
 
     fn next_device(&self, after: Option<DevNo>) -> Option<DevNo> {
-        self.facts.next(after)
+        self.facts.next_device(after)
     }
 
     fn next_taken(&self, session: SessId, after: Option<DevNo>) -> Option<DevNo> {
@@ -157,10 +157,10 @@ impl Look for Machine {
     }
 
     fn next_lock(&self, after: Option<LockNo>) -> Option<LockNo> {
-        self.facts.next(after)
+        self.facts.next_lock(after)
     }
 
     fn next_conn(&self, after: Option<ConnId>) -> Option<ConnId> {
-        self.facts.next(after)
+        self.facts.next_conn(after)
     }
 }

@@ -1,6 +1,6 @@
 // The core: the setup, the journal, and what is made ready for the next entry.
 
-ghost use Rattle.std.specs.Prelude.{◌≡◌, ◌+◌, ◌^◌, ◌<◌, ◌≤◌, ◌++◌, [], ◌∷◌, length, true, false, None, Err, IfOk, OnOk};
+ghost use Rattle.std.specs.Prelude.{◌≡◌, ◌≢◌, ◌+◌, ◌^◌, ◌<◌, ◌≤◌, ◌++◌, [], ◌∷◌, length, true, false, None, Err, IfOk, OnOk};
 ghost use Rattle.std.specs.Borrow.{sem};
 ghost use Rattle.std.specs.Io.BufRead.{Rests};
 ghost use Rattle.login_model.specs.Built.{is_built};
@@ -112,7 +112,8 @@ impl Core {
     }
 
     /// Makes ready for an event: takes the memory of its entry, its marks, its answer and its texts, and
-    /// of all that connections may need when they end. A refusal leaves setup and journal as they were.
+    /// of all that connections may need when they end. A refusal leaves setup and journal as they were, and
+    /// one that is not for want of memory leaves what was made ready before.
     /// The stop is looked at first, then whether the journal is full; memory is asked for last, and none
     /// for a disconnect or the stop, whose room is kept.
     pub fn room(&mut self, event: &Event) -> Result<(), Refused>
@@ -120,6 +121,7 @@ impl Core {
         requires built { is_built event.now ≡ true }
         ensures gives { RoomGives self.old self.new event.now result }
         ensures kept { result ≡ Err Refused.NoMemory → always_fits event.now ≡ false }
+        ensures refused { (r : Refused) → result ≡ Err r → r ≢ Refused.NoMemory → self.new ≡ self.old }
         ensures same { IsSame self.old self.new }
     {
         if let Some(number) = self.stopped(event) {

@@ -5,7 +5,7 @@ ghost use Rattle.login_model.specs.Names.{is_above};
 ghost use Rattle.login_model.specs.Where.{is_this_seat};
 ghost use Rattle.login_model.specs.Procedure.{if_some};
 ghost use Rattle.login_model.specs.Turning.{turn_to_next, turn_to_previous};
-ghost use Rattle.login_core.specs.Name.{is_lower};
+ghost use Rattle.login_table.specs.Nearest.{is_lower};
 ghost use Rattle.login_core.specs.Places.{is_before, behind, around, is_open_on, place_of, places, current_place, nearer_place, nearer_open, turn_to_place, turn_to};
 
 use crate::machine::Machine;

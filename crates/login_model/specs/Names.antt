@@ -33,32 +33,32 @@ seat_lt [] (b ∷ bs) = true
 seat_lt (a ∷ more) [] = false
 seat_lt (a ∷ more) (b ∷ bs) = nat_lt a b || ((a == b) && seat_lt more bs)
 
--- the session that a key is about
+-- the session whose being there a key tells
 abbrev pub session_in : Key → Option SessId
 session_in (key.Sess s) = Some s
 session_in _ = None
 
--- the connection that a key is about
+-- the connection whose being there a key tells
 abbrev pub conn_in : Key → Option ConnId
 conn_in (key.Conn c) = Some c
 conn_in _ = None
 
--- the user that a key is about
+-- the user whose being there a key tells
 abbrev pub user_in : Key → Option Uid
 user_in (key.User u) = Some u
 user_in _ = None
 
--- the seat that a key is about
+-- the seat whose being there a key tells
 abbrev pub seat_in : Key → Option (List ℕ)
 seat_in (key.Seat name) = Some name
 seat_in _ = None
 
--- the device that a key is about
+-- the device whose being there a key tells
 abbrev pub device_in : Key → Option DevNo
 device_in (key.Dev d) = Some d
 device_in _ = None
 
--- the lock that a key is about
+-- the lock whose standing a key tells
 abbrev pub lock_in : Key → Option LockNo
 lock_in (key.Lock l) = Some l
 lock_in _ = None

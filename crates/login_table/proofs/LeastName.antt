@@ -10,8 +10,13 @@ use Rattle.login_model.proofs.Keys.{same_key-true, both, test, chosen}
 use Rattle.login_table.specs.declared.rows.Row.{Row}
 use Rattle.login_table.specs.Rows.{as_trail}
 use Rattle.login_table.specs.Listed.{is_there}
-use Rattle.login_table.specs.Nearest.{is_lower, nearer, nearest}
+use Rattle.login_table.specs.Nearest.{is_lower, nearer}
 use Rattle.login_table.proofs.Standing.{value-set, value-start}
+
+-- the lowest of the best name so far and the names of these rows
+abbrev pub nearest : {A : Type 0} → (A → A → Bool) → (A → Bool) → (Key → Option A) → Option A → Option A → List Row → Option A
+nearest lt there name_in above best [] = best
+nearest lt there name_in above best (x ∷ xs) = nearest lt there name_in above (nearer lt there above (name_in x.key) best) xs
 
 abbrev IsGood : {A : Type 0} → (A → A → Bool) → (A → Bool) → Option A → A → Type 0
 IsGood lt there above a = (there a ≡ true) × (is_above lt above a ≡ true)

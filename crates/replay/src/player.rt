@@ -1,10 +1,11 @@
 // A core that plays a recording, and which numbers its connections had.
 
-ghost use Rattle.std.specs.Prelude.{true, ◌≡◌, ◌↔◌, [], IsTrue, IfOk, OnOk, OnErr};
+ghost use Rattle.std.specs.Prelude.{true, ◌≡◌, ◌↔◌, [], IsTrue, IfOk, OnOk, OnErr, Err, false};
 ghost use Rattle.std.specs.BTreeSet.{IsUnchanged};
 ghost use Rattle.login_model.specs.Built.{is_built};
 ghost use Rattle.login_model.specs.Legal.{IsAsked, IsUnused};
 ghost use Rattle.login_model.specs.Setups.{IsSetup};
+ghost use Rattle.login_core.specs.Fullness.{always_fits};
 ghost use Rattle.login_core.specs.State.{IsSame, RoomGives};
 ghost use Rattle.replay.specs.Placing.{Uses};
 
@@ -62,11 +63,12 @@ impl Player {
         !self.used.contains(&who.0)
     }
 
-    /// Makes ready for an event, as the core does.
+    /// Makes ready for an event, as the core does. A disconnect and the stop never lack memory.
     pub fn room(&mut self, event: &Event) -> Result<(), Refused>
         requires asked { IsAsked self.old.journal event.now }
         requires built { is_built event.now ≡ true }
         ensures gives { RoomGives self.old self.new event.now result }
+        ensures kept { result ≡ Err Refused.NoMemory → always_fits event.now ≡ false }
         ensures same { IsSame self.old self.new }
     {
         self.core.room(event)

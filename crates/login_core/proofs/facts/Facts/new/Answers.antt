@@ -1,12 +1,18 @@
-use Rattle.std.proofs.Common.{◌∙◌, sym, ap, [], List}
-use Rattle.login_model.specs.Fresh.{fresh_session, fresh_handle}
-use Rattle.login_core.specs.declared.facts.Setting.{Setting}
-use Rattle.login_core.specs.Facts.{set_after}
+use Rattle.std.proofs.Common.{sym, [], ap}
+use Rattle.login_model.specs.Trail.{Trail, value}
+use Rattle.login_core.specs.Facts.{Tables, StandFor}
 use Rattle.login_core.proofs.Counting.{sessions-none, handles-none}
+use Rattle.login_core.proofs.Standing.{closed}
 use Rattle.login_core.proofs.facts.Facts.new.Goals as goal
 
-pub invariant_of-result : goal.invariant_of-result
-invariant_of-result c = record {
-  sessions_are = sym (ap (λ (xs : List Setting). fresh_session (set_after [] xs)) c.new.ensures ∙ sessions-none);
-  handles_are = sym (ap (λ (xs : List Setting). fresh_handle (set_after [] xs)) c.new.ensures ∙ handles-none);
-}
+pub returns : goal.returns
+returns c =
+    let f : Tables = record { users = c.new.result.trail; sessions = c.new-2.result.trail; seats = c.new-3.result.trail; others = c.new-4.result.trail; session = 1; handle = 1; spare = 0 } in
+    closed f [] (record {
+      users = c.new.ensures;
+      sessions = c.new-2.ensures;
+      seats = c.new-3.ensures;
+      others = λ k own. ap (λ (t : Trail). value t k) c.new-4.ensures;
+      session = sym sessions-none;
+      handle = sym handles-none;
+    })

@@ -1,26 +1,43 @@
-use Rattle.std.proofs.Common.{◌≡◌, ◌+◌, ◌∙◌, sym, ap, [], ◌∷◌, ℕ}
-use Rattle.login_model.specs.declared.mark.Mark.TheVariants.{Set}
-use Rattle.login_model.specs.Fresh.{fresh_session, fresh_handle}
-use Rattle.login_core.specs.declared.facts.Setting.{Setting}
-use Rattle.login_core.specs.Facts.{FactList, set_after}
-use Rattle.login_core.proofs.Counting.{sessions-set, handles-set}
-use Rattle.login_core.proofs.Searching.{set_after-more}
+use Rattle.std.proofs.Common.{◌≡◌, ℕ, ◌+◌, ◌-◌, ◌∷◌, ◌∙◌, ap, sym, subst}
+use Rattle.login_core.specs.Facts.{Tables, StandFor}
+use Rattle.login_core.proofs.Standing.{opened}
+use Rattle.login_core.proofs.Placed.{put-user, put-session, put-seat, put-another}
 use Rattle.login_core.proofs.facts.Facts.set.Goals as goal
 
-pub invariant_of-self : goal.invariant_of-self
-invariant_of-self c =
-    let t = set_after [] c.self.inside.settings.items in
-    let x : Setting = record { key = c.args.key; fact = c.args.fact } in
-    let more : set_after [] c.push.new.self.items ≡ Set c.args.key c.args.fact ∷ t = ap (set_after []) c.push.ensures.items ∙ set_after-more [] c.self.inside.settings.items x in
-    record {
-      sessions_are = ap (λ (n : ℕ). n + c.opened.result) c.self.invariant.sessions_are ∙ ap (λ (n : ℕ). fresh_session t + n) c.opened.ensures
-          ∙ sym (ap fresh_session more ∙ sessions-set c.args.key c.args.fact t);
-      handles_are = ap (λ (n : ℕ). n + c.given.result) c.self.invariant.handles_are ∙ ap (λ (n : ℕ). fresh_handle t + n) c.given.ensures
-          ∙ sym (ap fresh_handle more ∙ handles-set c.args.key c.args.fact t);
-    }
+pub returns-then-is_user_key-clause-stands : goal.returns-then-is_user_key-clause-stands
+returns-then-is_user_key-clause-stands c = λ t s.
+    let P : Tables → Type 0 = λ f. StandFor f t in
+    let f : Tables = record { users = c.self.inside.users.trail; sessions = c.self.inside.sessions.trail; seats = c.self.inside.seats.trail; others = c.self.inside.others.trail; session = c.self.inside.session; handle = c.self.inside.handle; spare = c.self.inside.spare } in
+    let inside : StandFor f t = subst P (sym c.self.view_is) s in
+    put-user f c.apply.new.self.trail t (c.self.inside.session + c.opened.result) (c.self.inside.handle + c.given.result) (c.self.inside.spare - 1) c.args.key c.args.fact
+    (sym c.is_user_key.ensures ∙ c.if-is_user_key.true) (c.apply.ensures.stands t (opened f t inside).users)
+    (ap (λ (n : ℕ). c.self.inside.session + n) c.opened.ensures) (ap (λ (n : ℕ). c.self.inside.handle + n) c.given.ensures) inside
 
-pub returns-clause-trail : goal.returns-clause-trail
-returns-clause-trail c =
-    let x : Setting = record { key = c.args.key; fact = c.args.fact } in
-    ap (set_after []) c.push.ensures.items ∙ set_after-more [] c.self.inside.settings.items x
-    ∙ ap (λ (v : FactList). Set c.args.key c.args.fact ∷ v.trail) c.self.view_is
+pub returns-then-is_session_key-clause-stands : goal.returns-then-is_session_key-clause-stands
+returns-then-is_session_key-clause-stands c = λ t s.
+    let P : Tables → Type 0 = λ f. StandFor f t in
+    let f : Tables = record { users = c.self.inside.users.trail; sessions = c.self.inside.sessions.trail; seats = c.self.inside.seats.trail; others = c.self.inside.others.trail; session = c.self.inside.session; handle = c.self.inside.handle; spare = c.self.inside.spare } in
+    let inside : StandFor f t = subst P (sym c.self.view_is) s in
+    put-session f c.apply-then-is_session_key.new.self.trail t (c.self.inside.session + c.opened.result) (c.self.inside.handle + c.given.result) (c.self.inside.spare - 1) c.args.key c.args.fact
+    (sym c.is_user_key.ensures ∙ c.if-is_user_key.false) (sym c.is_session_key.ensures ∙ c.if-is_session_key.true) (c.apply-then-is_session_key.ensures.stands t (opened f t inside).sessions)
+    (ap (λ (n : ℕ). c.self.inside.session + n) c.opened.ensures) (ap (λ (n : ℕ). c.self.inside.handle + n) c.given.ensures) inside
+
+pub returns-then-is_seat_key-clause-stands : goal.returns-then-is_seat_key-clause-stands
+returns-then-is_seat_key-clause-stands c = λ t s.
+    let P : Tables → Type 0 = λ f. StandFor f t in
+    let f : Tables = record { users = c.self.inside.users.trail; sessions = c.self.inside.sessions.trail; seats = c.self.inside.seats.trail; others = c.self.inside.others.trail; session = c.self.inside.session; handle = c.self.inside.handle; spare = c.self.inside.spare } in
+    let inside : StandFor f t = subst P (sym c.self.view_is) s in
+    put-seat f c.apply-then-is_seat_key.new.self.trail t (c.self.inside.session + c.opened.result) (c.self.inside.handle + c.given.result) (c.self.inside.spare - 1) c.args.key c.args.fact
+    (sym c.is_user_key.ensures ∙ c.if-is_user_key.false) (sym c.is_session_key.ensures ∙ c.if-is_session_key.false) (sym c.is_seat_key.ensures ∙ c.if-is_seat_key.true)
+    (c.apply-then-is_seat_key.ensures.stands t (opened f t inside).seats)
+    (ap (λ (n : ℕ). c.self.inside.session + n) c.opened.ensures) (ap (λ (n : ℕ). c.self.inside.handle + n) c.given.ensures) inside
+
+pub returns-else-is_seat_key-clause-stands : goal.returns-else-is_seat_key-clause-stands
+returns-else-is_seat_key-clause-stands c = λ t s.
+    let P : Tables → Type 0 = λ f. StandFor f t in
+    let f : Tables = record { users = c.self.inside.users.trail; sessions = c.self.inside.sessions.trail; seats = c.self.inside.seats.trail; others = c.self.inside.others.trail; session = c.self.inside.session; handle = c.self.inside.handle; spare = c.self.inside.spare } in
+    let inside : StandFor f t = subst P (sym c.self.view_is) s in
+    put-another f c.set.new.self.trail t (c.self.inside.session + c.opened.result) (c.self.inside.handle + c.given.result) (c.self.inside.spare - 1) c.args.key c.args.fact
+    (sym c.is_user_key.ensures ∙ c.if-is_user_key.false) (sym c.is_session_key.ensures ∙ c.if-is_session_key.false) (sym c.is_seat_key.ensures ∙ c.if-is_seat_key.false)
+    c.set.ensures.facts
+    (ap (λ (n : ℕ). c.self.inside.session + n) c.opened.ensures) (ap (λ (n : ℕ). c.self.inside.handle + n) c.given.ensures) inside

@@ -1,7 +1,8 @@
-use Rattle.std.proofs.Common.{◌≡◌, ◌+◌, ◌<◌, ◌≤◌, ◌^◌, ◌∙◌, [], ◌∷◌, ◌++◌, List, sym, ap, length, arith}
+use Rattle.std.proofs.Common.{◌≡◌, ◌+◌, ◌<◌, ◌≤◌, ◌^◌, ◌∙◌, [], ◌∷◌, ◌++◌, List, sym, ap, subst, length, arith}
 use Rattle.login_model.specs.declared.mark.Mark.{Mark}
 use Rattle.login_model.specs.declared.mark.Entry.{Entry}
-use Rattle.login_core.specs.Facts.{settings}
+use Rattle.login_core.specs.Facts.{StandFor}
+use Rattle.login_model.specs.Trail.{Trail}
 use Rattle.login_core.specs.Machine.{so_far}
 use Rattle.login_core.proofs.Standing.{so_far-closed}
 use Rattle.login_core.proofs.machine.Machine.close_entry.Goals as goal
@@ -25,8 +26,9 @@ invariant_of-self c =
     let reach = c.close.ensures.reach in
     let room = c.close.ensures.room in
     let spare = c.close.ensures.blank_room in
+    let P : Trail → Type 0 = StandFor m.facts in
     record {
-      stands = m.stands ∙ ap settings (sym same);
+      stands = subst P (sym same) m.stands;
       counted = omega arith;
       marks_fit = omega arith;
       facts_fit = omega arith;

@@ -1,7 +1,5 @@
-use Rattle.std.proofs.Common.{◌∙◌}
 use Rattle.login_core.specs.Board.{trail}
-use Rattle.login_core.proofs.Awaiting.{awaiting-standing}
 use Rattle.login_core.proofs.machine.Machine.is_awaiting.Goals as goal
 
 pub returns : goal.returns
-returns c = c.is_awaiting.ensures ∙ awaiting-standing c.args.self.now.facts.trail (trail c.args.self.now) c.args.self.now.stands
+returns c = c.is_awaiting.ensures (trail c.args.self.now) c.args.self.now.stands

@@ -1,6 +1,6 @@
 use Rattle.std.proofs.Common.{◌≡◌, length, sym, arith}
 use Rattle.login_core.specs.Machine.{so_far}
-use Rattle.login_core.proofs.Standing.{none-start, stands-start}
+use Rattle.login_core.proofs.Standing.{none-start, stand-start}
 use Rattle.login_core.proofs.machine.Machine.new.Goals as goal
 
 pub invariant_of-result : goal.invariant_of-result
@@ -8,7 +8,7 @@ invariant_of-result c =
     let n : length (so_far c.new.result.items c.new-2.result.items) ≡ 0 = none-start c.new.result.items c.new-2.result.items c.new.ensures.items c.new-2.ensures in
     let reach = c.new.ensures.reach in
     record {
-      stands = stands-start c.new-3.result.trail c.new.result.items c.new-2.result.items c.new-3.ensures c.new.ensures.items c.new-2.ensures;
+      stands = stand-start c.new-3.result c.new.result.items c.new-2.result.items c.new-3.ensures c.new.ensures.items c.new-2.ensures;
       counted = sym n;
       marks_fit = omega arith;
       facts_fit = omega arith;

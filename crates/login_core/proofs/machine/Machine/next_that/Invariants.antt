@@ -2,7 +2,7 @@ use Rattle.std.proofs.Common.{length}
 use Rattle.login_model.specs.Names.{names, insert_some}
 use Rattle.login_model.proofs.InOrder.{rest}
 use Rattle.login_core.specs.Board.{trail}
-use Rattle.login_core.specs.Name.{is_there}
+use Rattle.login_table.specs.Listed.{is_there}
 use Rattle.login_core.proofs.Chosen.{Passed}
 use Rattle.login_core.proofs.machine.Machine.next_that.Given as goal
 

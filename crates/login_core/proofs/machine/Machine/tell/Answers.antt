@@ -1,11 +1,12 @@
-use Rattle.std.proofs.Common.{◌≡◌, ◌+◌, ◌≤◌, ◌∙◌, [], ◌∷◌, ◌++◌, List, sym, ap, length, add-one, arith}
+use Rattle.std.proofs.Common.{◌≡◌, ◌+◌, ◌≤◌, ◌∙◌, [], ◌∷◌, ◌++◌, List, sym, ap, subst, length, add-one, arith}
 use Rattle.login_model.specs.declared.mark.Mark.{Mark}
 use Rattle.login_model.specs.declared.mark.Mark.TheVariants.{Say}
 use Rattle.login_model.specs.declared.mark.Entry.{Entry}
-use Rattle.login_core.specs.Facts.{settings}
+use Rattle.login_core.specs.Facts.{StandFor}
+use Rattle.login_model.specs.Trail.{Trail}
 use Rattle.login_core.specs.Machine.{so_far}
 use Rattle.login_core.specs.Board.{trail}
-use Rattle.login_core.proofs.Standing.{so_far-more, settings-say}
+use Rattle.login_core.proofs.Standing.{so_far-more, stand-say}
 use Rattle.login_core.proofs.machine.Machine.tell.Goals as goal
 
 more : (es : List Entry) (ms ns : List Mark) (x : Mark) → ns ≡ ms ++ x ∷ [] → so_far es ns ≡ x ∷ so_far es ms
@@ -29,8 +30,9 @@ invariant_of-self c =
     let facts : m.journal.reach ≤ m.made + m.facts.spare = m.facts_fit in
     let blanks : m.journal.reach ≤ m.made + m.journal.room = m.blanks_fit in
     let pushed = c.push.ensures.spare in
+    let P : Trail → Type 0 = StandFor m.facts in
     record {
-      stands = m.stands ∙ sym (ap settings e ∙ settings-say c.args.whom c.args.notice (trail m));
+      stands = subst P (sym e) (stand-say m.facts (trail m) c.args.whom c.args.notice m.stands);
       counted = omega arith;
       marks_fit = omega arith;
       facts_fit = omega arith;

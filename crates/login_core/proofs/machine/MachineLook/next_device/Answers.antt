@@ -1,9 +1,5 @@
-use Rattle.login_model.specs.declared.fact.Key.TheVariants.{Dev}
-use Rattle.login_model.specs.Names.{device_lt}
-use Rattle.login_model.specs.Where.{is_device_fact}
 use Rattle.login_core.specs.Board.{trail}
-use Rattle.login_core.proofs.Standing.{next-standing}
 use Rattle.login_core.proofs.machine.MachineLook.next_device.Goals as goal
 
 pub returns : goal.returns
-returns c = next-standing device_lt Dev is_device_fact c.args.self.now.facts.trail (trail c.args.self.now) c.args.after c.next.result c.args.self.now.stands c.next.ensures
+returns c = c.next_device.ensures (trail c.args.self.now) c.args.self.now.stands
