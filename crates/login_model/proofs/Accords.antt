@@ -155,5 +155,5 @@ start-sound = sound-good [] (record {
     seats = (start-seat0, start-seats, (λ s seat o e. cc), (λ seat s e. cc));
     users = ((λ u x k. absurd (start-stays u k)), (λ u x e. cc), (λ u since e. cc));
   };
-  unused = record { sessions = λ k s a l. refl; handles = λ k h a l. refl };
+  unused = record { sessions = λ k s a l. refl; handles = λ k h a l. refl; in_turn = tt };
 })

@@ -29,7 +29,7 @@ use Rattle.login_model.proofs.Holds.{Exempt, none_out, Linked, Opened, OnSeat, S
 use Rattle.login_model.proofs.SessionSteps.{HasNone, holds-controlled, on-terminal-open, open-there}
 use Rattle.login_model.proofs.UserSteps.{IsNew, made, holds-made}
 use Rattle.login_model.proofs.Loops.{session_on-none}
-use Rattle.login_model.proofs.UnusedLaws.{handle-new, put-handles, put-sessions, session-new, unused-handle, unused-put, unused-session}
+use Rattle.login_model.proofs.UnusedLaws.{handle-new, put-sessions, same-handles, session-new, unused-handle, unused-put, unused-session}
 use Rattle.login_model.proofs.Giving.{Good, good-put, good-say, opened-given, ousted}
 use Rattle.login_model.proofs.SeatMoves.{seat-taken}
 use Rattle.login_model.proofs.UserMoves.{but_user, good-all, good-but, known, this-user, values-know}
@@ -105,21 +105,21 @@ unfolding fresh_handle fresh_session
 know-at fact.Absent u t = (refl, refl)
 know-at _ u t = (refl, refl)
 
-know-fresh : (u : Uid) (t : Trail) → (fresh_handle t ≤ fresh_handle (know u t)) × (fresh_session t ≤ fresh_session (know u t))
+know-fresh : (u : Uid) (t : Trail) → (fresh_handle t ≡ fresh_handle (know u t)) × (fresh_session t ≤ fresh_session (know u t))
 unfolding know
 know-fresh u t =
     let p = put (key.User u) fact.Known t in
     let k = know-at (value t (key.User u)) u p in
-    let a = put-handles (key.User u) fact.Known t in
+    let a = same-handles (key.User u) fact.Known t refl in
     let b = put-sessions (key.User u) fact.Known t in
-    (let h = k.0 in omega arith, let h = k.1 in omega arith)
+    (sym (k.0 ∙ a), let h = k.1 in omega arith)
 
 -- a session's number that was just given out
 unused-new : (s : SessId) (x : Fact) (t : Trail) → s.0 < fresh_session (put (key.Sess s) x t) → Unused t → Unused (put (key.Sess s) x t)
 unused-new s x t l w = unused-put (key.Sess s) x t (record {
   session = λ r e. inr (let z : Some s ≡ Some r = e in let y : s ≡ r = cc in let q : s.0 ≡ r.0 = ap (λ (v : SessId). v.0) y in omega arith);
   handle = λ h e. cc;
-}) w
+}) tt w
 
 pub good-create : (c : ConnId) (x : Creation) (t : Trail) → MayCreate x t → Linked (value t) c → Good none_out t → Good none_out (create c x (next_session t) (next_handle t) t)
 unfolding create
@@ -144,7 +144,7 @@ good-create c x t m l g =
     let later = know-fresh x.uid t in
     let later_h = later.0 in
     let later_s = later.1 in
-    let u2 = unused-handle (key.Owner h) o h t1 refl refl (omega arith) k.unused in
+    let u2 = unused-handle (key.Owner h) o h t1 refl refl (omega arith) later_h k.unused in
     let absent2 : value t2 (key.Sess s) ≡ fact.Absent = value-put (key.Owner h) (key.Sess s) o t1 ∙ ap (λ (v : Facts). v (key.Sess s)) path1 ∙ new.absent in
     let opened = session-new s (fact.Session y) t2 absent2 refl refl in
     let same2 = put-sessions (key.Owner h) o t1 in

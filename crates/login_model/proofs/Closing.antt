@@ -116,7 +116,7 @@ vacated out s seat v g none free other mine o =
     record {
       good = record {
         holds = subst P (sym path) two;
-        unused = unused-start (key.Act seat) p (unused-session (key.Sess s) y s v refl refl (opened-given s v g.unused o) g.unused);
+        unused = unused-start (key.Act seat) p tt (unused-session (key.Sess s) y s v refl refl (opened-given s v g.unused o) g.unused);
       };
       keeps = keeps-trans is_shut_key f (value p) (value (put (key.Act seat) fact.Absent p)) (keeps-put is_shut_key (key.Sess s) y v refl) (keeps-put is_shut_key (key.Act seat) fact.Absent p refl);
       sess = λ r. value-put (key.Act seat) (key.Sess r) fact.Absent p ∙ value-put (key.Sess s) (key.Sess r) y v;

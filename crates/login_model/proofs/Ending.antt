@@ -68,7 +68,7 @@ good-handle-closed out h o t e n m g =
     let below = handle-given (key.Owner h) h t g.unused refl (λ z. (let c = sym z ∙ e in cc)) in
     let more = put-handles (key.Owner h) (fact.Owned owner.Closed) t in
     good-put out (key.Owner h) (fact.Owned owner.Closed) t (holds-handle-closed out h (value t) n m g.holds)
-    (unused-handle (key.Owner h) (fact.Owned owner.Closed) h t refl refl (omega arith) g.unused)
+    (unused-handle (key.Owner h) (fact.Owned owner.Closed) h t refl refl (omega arith) below g.unused)
 
 -- all but one session
 abbrev pub but_session : SessId → Exempt
@@ -138,7 +138,7 @@ holds-lock-gone out l f h = record {
 }
 
 pub good-lock-gone : (out : Exempt) (l : LockNo) (t : Trail) → Good out t → Good out (put (key.Lock l) fact.Absent t)
-good-lock-gone out l t g = good-put out (key.Lock l) fact.Absent t (holds-lock-gone out l (value t) g.holds) (unused-start (key.Lock l) t g.unused)
+good-lock-gone out l t g = good-put out (key.Lock l) fact.Absent t (holds-lock-gone out l (value t) g.holds) (unused-start (key.Lock l) t tt g.unused)
 
 close-lock : (h : HandleNo) (c : ConnId) (l : LockNo) (t : Trail) → value t (key.Owner h) ≡ fact.Owned (owner.Lock c l) → Good none_out t → Good none_out (close_handle h (put (key.Lock l) fact.Absent t))
 close-lock h c l t e g =
@@ -294,4 +294,4 @@ good-disconnect c t g =
     (λ s o x i z. none-kept c t1 a.good s (ap is_open_fact (sym (k (key.Sess s) refl)) ∙ o)
     (ap (λ (y : Fact). value t2 (key.Owner (fifo_of y))) (sym (k (key.Sess s) refl)) ∙ sym (k (key.Owner (fifo_of (value t3 (key.Sess s)))) refl) ∙ i.1 ∙ ap (λ (b : ConnId). fact.Owned (owner.Fifo b s)) (sym z)))
     w.good.holds)
-    (unused-start (key.Conn c) t3 w.good.unused)
+    (unused-start (key.Conn c) t3 tt w.good.unused)

@@ -133,7 +133,7 @@ values-kill (fact.Handle h) t = values-put (key.Live h) no t
 values-kill _ t = refl
 
 unused-kill : (x : Fact) (t : Trail) → Unused t → Unused (kill x t)
-unused-kill (fact.Handle h) t w = unused-start (key.Live h) t w
+unused-kill (fact.Handle h) t w = unused-start (key.Live h) t tt w
 unused-kill _ t w = w
 
 values-untake : (s : SessId) (d : DevNo) (t : Trail)
@@ -164,7 +164,7 @@ fewer-untake out s d t g =
     record {
       good = record {
         holds = subst P (sym (values-untake s d t)) (holds-untaken out s d x (value t) refl g.holds);
-        unused = unused-start (key.Taken s d) b (unused-start (key.Awaited s d) a (unused-kill x t g.unused));
+        unused = unused-start (key.Taken s d) b tt (unused-start (key.Awaited s d) a tt (unused-kill x t g.unused));
       };
       less = subst Q (sym (values-untake s d t)) (less-untaken s d x (value t));
     }
@@ -258,7 +258,7 @@ opened-given s t w o = session-given (key.Sess s) s t w refl (λ e. (let z : is_
 
 pub released : (out : Exempt) (s : SessId) (t : Trail) → Good out t → Parted out s fact.Absent t (release s t)
 unfolding release
-released out s t g = part out untake untake-gives-up s fact.Absent t g refl (λ c e. cc) (λ u e w. unused-start (key.Ctl s) u w)
+released out s t g = part out untake untake-gives-up s fact.Absent t g refl (λ c e. cc) (λ u e w. unused-start (key.Ctl s) u tt w)
 
 pub ousted : (out : Exempt) (s : SessId) (c : ConnId) (t : Trail) → Good out t → Linked (value t) c → Opened (value t) s → Parted out s (fact.Controller c) t (oust s c t)
 unfolding oust

@@ -24,6 +24,7 @@ pub mod Granted
 pub mod Calls
 pub mod Turns
 pub mod SoundLaws
+pub mod HandleLaws
 pub mod JournalLaws
 pub mod RoomLaws
 pub mod Grows

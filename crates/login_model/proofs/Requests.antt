@@ -140,7 +140,7 @@ unawaited-other s (d ∷ ds) f k e =
 unawaited-unused : (s : SessId) (ds : List DevNo) (t : Trail) → Unused t → Unused (each (λ d u. put (key.Awaited s d) no u) ds t)
 unfolding each
 unawaited-unused s [] t w = w
-unawaited-unused s (d ∷ ds) t w = unawaited-unused s ds (put (key.Awaited s d) no t) (unused-start (key.Awaited s d) t w)
+unawaited-unused s (d ∷ ds) t w = unawaited-unused s ds (put (key.Awaited s d) no t) (unused-start (key.Awaited s d) t tt w)
 
 -- no switch is pending and no pause is awaited
 pub record Ended (out : Exempt) (t u : Trail) : Type 0 where
@@ -167,7 +167,7 @@ ended-some out s t a g =
     record {
       good = record {
         holds = subst P (sym path) (holds-unpending out (unawaited s ds f) none (unawaited-holds out s ds f g.holds));
-        unused = unawaited-unused s ds p (unused-start key.Pending t g.unused);
+        unused = unawaited-unused s ds p (unused-start key.Pending t tt g.unused);
       };
       sess = λ r. ap (λ (h : Facts). h (key.Sess r)) path ∙ unawaited-other s ds f (key.Sess r) refl;
       vt = ap (λ (h : Facts). h key.Vt) path ∙ unawaited-other s ds f key.Vt refl;
@@ -182,7 +182,7 @@ pub record Withdrawn (out : Exempt) (u : Trail) : Type 0 where
 withdrawn-at : (o : Option SessId) (out : Exempt) (t : Trail) → active_on t seat0 ≡ o → Good out t → Withdrawn out (if_some resume o (if_some unawait_devices o (put key.Pending fact.Absent t)))
 withdrawn-at None out t e g = record {
   good = good-put out key.Pending fact.Absent t
-      (holds-unpending out (value t) (λ s d p. front-none out t s g.holds e (g.holds.awaits s d p).3) g.holds) (unused-start key.Pending t g.unused);
+      (holds-unpending out (value t) (λ s d p. front-none out t s g.holds e (g.holds.awaits s d p).3) g.holds) (unused-start key.Pending t tt g.unused);
   pending = value-put key.Pending key.Pending fact.Absent t;
 }
 withdrawn-at (Some s) out t e g =

@@ -45,7 +45,7 @@ force-live true out s d h x t e at n g =
     let u = put (key.Live h) no t in
     let v = tell_controller x (Pause s d pause.Force) u in
     let one : Fewer out t u = record {
-      good = good-put out (key.Live h) no t (holds-dead out s d h (value t) at (n d) g.holds) (unused-start (key.Live h) t g.unused);
+      good = good-put out (key.Live h) no t (holds-dead out s d h (value t) at (n d) g.holds) (unused-start (key.Live h) t tt g.unused);
       less = (let Q : Facts → Type 0 = λ f. Less (value t) f in subst Q (sym (values-put (key.Live h) no t)) (less-dead h (value t)));
     } in
     let told = λ (k : Key). (let z : value v k ≡ upd (key.Live h) no (value t) k = ap (λ (f : Facts). f k) (values-tell x (Pause s d pause.Force) u ∙ values-put (key.Live h) no t) in z) in
@@ -125,7 +125,7 @@ live-again out s d h t e a g =
     let below = owned-given h (owner.Device i.0 s d) t g.unused i.7 in
     let more = put-handles (key.Live h) yes t in
     record {
-      good = good-put out (key.Live h) yes t (holds-live out s d h (value t) e a g.holds) (unused-handle (key.Live h) yes h t refl refl (omega arith) g.unused);
+      good = good-put out (key.Live h) yes t (holds-live out s d h (value t) e a g.holds) (unused-handle (key.Live h) yes h t refl refl (omega arith) tt g.unused);
       keeps = keeps-put is_resume_key (key.Live h) yes t refl;
     }
 
@@ -148,8 +148,8 @@ anew out c s d h t e dead by a g =
     let P : Facts → Type 0 = λ f. Holds out f in
     let grown = handle-new n o t new refl refl in
     let more = put-handles (key.Live n) yes p in
-    let a1 = unused-handle (key.Owner n) o n t refl refl (omega arith) g.unused in
-    let a2 = unused-handle (key.Live n) yes n p refl refl (omega arith) a1 in
+    let a1 = unused-handle (key.Owner n) o n t refl refl (omega arith) refl g.unused in
+    let a2 = unused-handle (key.Live n) yes n p refl refl (omega arith) tt a1 in
     let open_now : Opened (value q) s = ap is_open_fact (value-put (key.Live n) (key.Sess s) yes p ∙ value-put (key.Owner n) (key.Sess s) o t) ∙ (g.holds.takes s d h e).3 in
     record {
       good = record {

@@ -95,7 +95,7 @@ moved-on U v out t p n g =
     let m : Moved out b = record {
       good = record {
         holds = subst P (sym path) (holds-moved out v (value u) p (λ s d e. n s d (c.fewer.less.awaited s d e)) c.quiet c.fewer.good.holds);
-        unused = unused-start key.Pending a (unused-plain key.Vt (fact.Number v) u refl refl c.fewer.good.unused);
+        unused = unused-start key.Pending a tt (unused-plain key.Vt (fact.Number v) u refl refl c.fewer.good.unused);
       };
       pending = ap (λ (f : Facts). f key.Pending) path;
     } in

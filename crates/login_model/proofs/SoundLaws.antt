@@ -159,11 +159,11 @@ sound-step : (U : Setup) (before : List Entry) (e : Event) (v : Verdict) → v �
 sound-step U before e Granted q p s = sound-settled U (direct U e (trail_of before)) (good-direct U before e p (sym q) (good-sound (trail_of before) s.between))
 sound-step U before e (Denied r) q p s = s
 
-after-more : (t : Trail) (es : List Entry) (e : Entry) → after_all t (es ++ e ∷ []) ≡ after (after_all t es) e.marks
+pub after-more : (t : Trail) (es : List Entry) (e : Entry) → after_all t (es ++ e ∷ []) ≡ after (after_all t es) e.marks
 after-more t [] e = refl
 after-more t (x ∷ es) e = after-more (after t x.marks) es e
 
-sound-entry : (U : Setup) (before : List Entry) (e : Entry) → IsLegalEntry U before e → IsSound (trail_of before) → IsSound (trail_of (before ++ e ∷ []))
+pub sound-entry : (U : Setup) (before : List Entry) (e : Entry) → IsLegalEntry U before e → IsSound (trail_of before) → IsSound (trail_of (before ++ e ∷ []))
 sound-entry U before e l s =
     let P : Trail → Type 0 = λ t. IsSound t in
     subst P (sym (after-more [] before e ∙ l.marks_are)) (sound-step U before e.event e.verdict l.verdict_is l.placed s)

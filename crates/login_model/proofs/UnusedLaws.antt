@@ -7,7 +7,7 @@ use Rattle.login_model.specs.Same.{same_key, same_fact}
 use Rattle.login_model.specs.Start.{start_fact}
 use Rattle.login_model.specs.Trail.{Trail, value, put}
 use Rattle.login_model.specs.Fresh.{fresh_handle, fresh_session, is_open_fact, is_owned_fact}
-use Rattle.login_model.specs.Sound.{Unused, about_handle, about_session}
+use Rattle.login_model.specs.Sound.{AreInTurn, IsInTurn, Unused, about_handle, about_session}
 use Rattle.login_model.specs.declared.fact.Key.{Key}
 use Rattle.login_model.specs.declared.fact.Key.TheVariants as key
 use Rattle.login_model.specs.declared.fact.Fact.{Fact}
@@ -18,10 +18,10 @@ use Rattle.login_model.specs.declared.mark.Notice.{Notice}
 use Rattle.login_model.proofs.Keys.{same_key-true, test}
 use Rattle.login_model.proofs.Values.{value-put, upd-other}
 
-below : (a b : ℕ) → nat_lt a b ≡ true → a < b
+pub below : (a b : ℕ) → nat_lt a b ≡ true → a < b
 below a b e = grind (arith, nat_tests)
 
-above : (a b : ℕ) → nat_lt a b ≡ false → b ≤ a
+pub above : (a b : ℕ) → nat_lt a b ≡ false → b ≤ a
 above a b e = grind (arith, nat_tests)
 
 not-both : (a b : ℕ) → a < b → b ≤ a → ⊥
@@ -61,13 +61,40 @@ pub put-handles : (k : Key) (x : Fact) (t : Trail) → fresh_handle t ≤ fresh_
 unfolding put
 put-handles k x t = cond-handles (same_fact (value t k) x) k x t
 
+-- what is about no handle gives none out
+set-same : (k : Key) (x : Fact) (t : Trail) → about_handle k ≡ None → fresh_handle (Set k x ∷ t) ≡ fresh_handle t
+unfolding fresh_handle
+set-same (key.Owner h) x t e = absurd (let z : Some h ≡ None = e in cc)
+set-same _ x t e = refl
+
+cond-same : (b : Bool) (k : Key) (x : Fact) (t : Trail) → about_handle k ≡ None → fresh_handle (cond b t (Set k x ∷ t)) ≡ fresh_handle t
+cond-same true k x t e = refl
+cond-same false k x t e = set-same k x t e
+
+pub same-handles : (k : Key) (x : Fact) (t : Trail) → about_handle k ≡ None → fresh_handle (put k x t) ≡ fresh_handle t
+unfolding put
+same-handles k x t e = cond-same (same_fact (value t k) x) k x t e
+
+-- and is in turn
+in-turn : (k : Key) (x : Fact) (t : Trail) → about_handle k ≡ None → IsInTurn k x t
+in-turn (key.Owner h) x t e = absurd (let z : Some h ≡ None = e in cc)
+in-turn _ x t e = tt
+
+cond-in-turn : (b : Bool) (k : Key) (x : Fact) (t : Trail) → IsInTurn k x t → AreInTurn t → AreInTurn (cond b t (Set k x ∷ t))
+cond-in-turn true k x t i w = w
+cond-in-turn false k x t i w = (i, w)
+
+put-in-turn : (k : Key) (x : Fact) (t : Trail) → IsInTurn k x t → AreInTurn t → AreInTurn (put k x t)
+unfolding put
+put-in-turn k x t i w = cond-in-turn (same_fact (value t k) x) k x t i w
+
 -- a setting of what was given out, or back to the start
 pub record IsGiven (t : Trail) (k : Key) (x : Fact) : Type 0 where
   pub session : (s : SessId) → about_session k ≡ Some s → (x ≡ start_fact k) ⊎ (s.0 < fresh_session t)
   pub handle : (h : HandleNo) → about_handle k ≡ Some h → (x ≡ start_fact k) ⊎ (h.0 < fresh_handle t)
 
-pub unused-put : (k : Key) (x : Fact) (t : Trail) → IsGiven (put k x t) k x → Unused t → Unused (put k x t)
-unused-put k x t g w = record {
+pub unused-put : (k : Key) (x : Fact) (t : Trail) → IsGiven (put k x t) k x → IsInTurn k x t → Unused t → Unused (put k x t)
+unused-put k x t g i w = record {
   sessions = λ j s a l. elim (test (same_key k j)) [
     | inl e ↦ (let z = same_key-true k j e in
         elim (g.session s (ap about_session z ∙ a)) [
@@ -84,36 +111,37 @@ unused-put k x t g w = record {
         ])
     | inr e ↦ value-put k j x t ∙ upd-other k j x (value t) e ∙ w.handles j h a (at-most (fresh_handle t) (fresh_handle (put k x t)) h.0 (put-handles k x t) l)
   ];
+  in_turn = put-in-turn k x t i w.in_turn;
 }
 
--- a setting back to the start
-pub unused-start : (k : Key) (t : Trail) → Unused t → Unused (put k (start_fact k) t)
-unused-start k t w = unused-put k (start_fact k) t (record { session = λ s e. inl refl; handle = λ h e. inl refl }) w
+-- a setting back to the start, of no owner
+pub unused-start : (k : Key) (t : Trail) → IsInTurn k (start_fact k) t → Unused t → Unused (put k (start_fact k) t)
+unused-start k t i w = unused-put k (start_fact k) t (record { session = λ s e. inl refl; handle = λ h e. inl refl }) i w
 
 pub unused-say : (n : Whom) (m : Notice) (t : Trail) → Unused t → Unused (Say n m ∷ t)
 unfolding value fresh_session fresh_handle
-unused-say n m t w = record { sessions = w.sessions; handles = w.handles }
+unused-say n m t w = record { sessions = w.sessions; handles = w.handles; in_turn = w.in_turn }
 
 -- what is about no session and no handle
 pub unused-plain : (k : Key) (x : Fact) (t : Trail) → about_session k ≡ None → about_handle k ≡ None → Unused t → Unused (put k x t)
 unused-plain k x t a b w = unused-put k x t (record {
   session = λ s e. (let z : None ≡ Some s = sym a ∙ e in cc);
   handle = λ h e. (let z : None ≡ Some h = sym b ∙ e in cc);
-}) w
+}) (in-turn k x t b) w
 
 -- what is about a session that was given out
 pub unused-session : (k : Key) (x : Fact) (s : SessId) (t : Trail) → about_session k ≡ Some s → about_handle k ≡ None → s.0 < fresh_session t → Unused t → Unused (put k x t)
 unused-session k x s t a b l w = unused-put k x t (record {
   session = λ r e. inr (let z : Some s ≡ Some r = sym a ∙ e in let y : s ≡ r = cc in let m = put-sessions k x t in let q : s.0 ≡ r.0 = ap (λ (v : SessId). v.0) y in omega arith);
   handle = λ h e. (let z : None ≡ Some h = sym b ∙ e in cc);
-}) w
+}) (in-turn k x t b) w
 
 -- what is about a handle that was given out
-pub unused-handle : (k : Key) (x : Fact) (h : HandleNo) (t : Trail) → about_session k ≡ None → about_handle k ≡ Some h → h.0 < fresh_handle (put k x t) → Unused t → Unused (put k x t)
-unused-handle k x h t a b l w = unused-put k x t (record {
+pub unused-handle : (k : Key) (x : Fact) (h : HandleNo) (t : Trail) → about_session k ≡ None → about_handle k ≡ Some h → h.0 < fresh_handle (put k x t) → IsInTurn k x t → Unused t → Unused (put k x t)
+unused-handle k x h t a b l i w = unused-put k x t (record {
   session = λ r e. (let z : None ≡ Some r = sym a ∙ e in cc);
   handle = λ g e. inr (let z : Some h ≡ Some g = sym b ∙ e in let y : h ≡ g = cc in let q : h.0 ≡ g.0 = ap (λ (v : HandleNo). v.0) y in omega arith);
-}) w
+}) i w
 
 -- a fact that is not the start's is of a number that was given out
 pub session-given : (k : Key) (s : SessId) (t : Trail) → Unused t → about_session k ≡ Some s → (value t k ≡ start_fact k → ⊥) → s.0 < fresh_session t

@@ -1,5 +1,5 @@
 -- What holds in each legal journal, one small record a matter.
-use Rattle.std.specs.Prelude.{ℕ, ◌≡◌, ◌≤◌, ◌↔◌, Bool, true, false, Option, Some, None, List}
+use Rattle.std.specs.Prelude.{ℕ, ◌≡◌, ◌≤◌, ◌<◌, ◌↔◌, Bool, true, false, Option, Some, None, List, [], ◌∷◌, take}
 use Rattle.login_base.specs.declared.ids.ConnId.{ConnId}
 use Rattle.login_base.specs.declared.ids.DevNo.{DevNo}
 use Rattle.login_base.specs.declared.ids.HandleNo.{HandleNo}
@@ -8,20 +8,22 @@ use Rattle.login_base.specs.declared.ids.SessId.{SessId}
 use Rattle.login_base.specs.declared.ids.Uid.{Uid}
 use Rattle.login_model.specs.Devices.{is_awaiting, is_live}
 use Rattle.login_model.specs.Direct.{direct, fifo_of}
-use Rattle.login_model.specs.Fresh.{fresh_handle, fresh_session}
-use Rattle.login_model.specs.Legal.{IsLegal, IsPlaced, trail_of}
+use Rattle.login_model.specs.Fresh.{fresh_handle, fresh_session, next_handle}
+use Rattle.login_model.specs.Legal.{IsLegal, IsLegalEntry, IsPlaced, trail_of}
 use Rattle.login_model.specs.Policy.{is_vt, verdict}
 use Rattle.login_model.specs.Procedure.{is_kept}
 use Rattle.login_model.specs.Shapes.{IsShaped}
 use Rattle.login_model.specs.Start.{seat0, start_fact}
 use Rattle.login_model.specs.Switching.{is_pending_fact}
-use Rattle.login_model.specs.Trail.{Trail, value}
+use Rattle.login_model.specs.Trail.{Trail, after, value}
 use Rattle.login_model.specs.Where.{active_on, current_vt, is_active, is_connected, is_on_terminal, is_open, is_seat, is_set, now, seat_of_session}
 use Rattle.login_model.specs.declared.event.Event.{Event}
 use Rattle.login_model.specs.declared.fact.Key.{Key}
+use Rattle.login_model.specs.declared.fact.Fact.{Fact}
 use Rattle.login_model.specs.declared.hardware.DevKind.{DevKind}
 use Rattle.login_model.specs.declared.hardware.DevKind.TheVariants.{Drm}
 use Rattle.login_model.specs.declared.mark.Entry.{Entry}
+use Rattle.login_model.specs.declared.mark.Mark.TheVariants.{Set, Say}
 use Rattle.login_model.specs.declared.rule.Verdict.TheVariants.{Granted}
 use Rattle.login_model.specs.declared.setup.Setup.{Setup}
 use Rattle.std.specs.Str.{bytes_eq}
@@ -143,10 +145,32 @@ about_handle (key.Owner h) = Some h
 about_handle (key.Live h) = Some h
 about_handle _ = None
 
--- nothing is known of numbers that were not given out (locks follow with their calls, as `fresh_lock`)
+-- a setting that comes after these marks names a handle in turn: the fresh one where it gives one out, one
+-- that was given out where it closes it; no handle goes back to nobody
+abbrev pub IsInTurn : Key → Fact → Trail → Type 0
+IsInTurn (key.Owner h) (fact.Owned owner.Closed) t = h.0 < fresh_handle t
+IsInTurn (key.Owner h) (fact.Owned o) t = h.0 ≡ fresh_handle t
+IsInTurn (key.Owner h) x t = ⊥
+IsInTurn k x t = Unit {0}
+
+-- each setting named its handle in turn
+abbrev pub AreInTurn : Trail → Type 0
+AreInTurn [] = Unit {0}
+AreInTurn (Set k x ∷ t) = IsInTurn k x t × AreInTurn t
+AreInTurn (Say w n ∷ t) = AreInTurn t
+
+-- nothing is known of numbers that were not given out (locks follow with their calls, as `fresh_lock`), and
+-- handles were given out in turn
 pub record Unused (t : Trail) : Type 0 where
   pub sessions : (k : Key) (s : SessId) → about_session k ≡ Some s → fresh_session t ≤ s.0 → value t k ≡ start_fact k
   pub handles : (k : Key) (h : HandleNo) → about_handle k ≡ Some h → fresh_handle t ≤ h.0 → value t k ≡ start_fact k
+  pub in_turn : AreInTurn t
+
+-- a handle's number is the least from 1 on whose owner is none; a handle that was closed has an owner
+pub record IsLeastFree (t : Trail) (h : HandleNo) : Type 0 where
+  pub from_one : 1 ≤ h.0
+  pub free : value t (key.Owner h) ≡ fact.Absent
+  pub least : (g : HandleNo) → 1 ≤ g.0 → value t (key.Owner g) ≡ fact.Absent → h.0 ≤ g.0
 
 -- ---- users
 
@@ -180,3 +204,14 @@ pub record LegalIsSound (U : Setup) : Type 0 where
   pub after : (journal : List Entry) → IsLegal U journal → IsSound (trail_of journal)
   pub between : (journal : List Entry) (e : Event) → IsLegal U journal → IsPlaced journal e
       → verdict U (trail_of journal) e ≡ Granted → IsSoundBetween (direct U e (trail_of journal))
+
+-- the marks of a journal, and then the first n of an entry
+abbrev pub with_marks : List Entry → Entry → ℕ → Trail
+with_marks journal e n = after (trail_of journal) (take n e.marks)
+
+-- the law: the next handle is the least free one, in every legal journal and after any of the marks of its
+-- next legal entry
+pub record NextHandleIsLeastFree (U : Setup) : Type 0 where
+  pub after : (journal : List Entry) → IsLegal U journal → IsLeastFree (trail_of journal) (next_handle (trail_of journal))
+  pub between : (journal : List Entry) (e : Entry) → IsLegal U journal → IsLegalEntry U journal e → (n : ℕ)
+      → IsLeastFree (with_marks journal e n) (next_handle (with_marks journal e n))

@@ -2,12 +2,18 @@
 
 ghost use Rattle.login_model.specs.Legal.{OneJournal};
 ghost use Rattle.login_model.specs.Need.{RoomIsKept};
-ghost use Rattle.login_model.specs.Sound.{LegalIsSound};
+ghost use Rattle.login_model.specs.Sound.{LegalIsSound, NextHandleIsLeastFree};
 ghost use Rattle.login_model.specs.declared.setup.Setup.{Setup};
 
 /// Every legal journal is sound, also before an entry is settled.
 pub fn legal_is_sound()
     ensures { (U : Setup) → LegalIsSound U }
+{}
+
+/// The next handle is the least from 1 on that has no owner, in every legal journal and after any of the
+/// marks of its next legal entry.
+pub fn next_handle_is_least_free()
+    ensures { (U : Setup) → NextHandleIsLeastFree U }
 {}
 
 /// A list of events has at most one legal journal.

@@ -39,7 +39,7 @@ pub use fact_tests::{
 };
 pub use hardware::{DevKind, HardKey, Hardware};
 pub use journal::Journal;
-pub use law::{legal_is_sound, one_journal, room_is_kept};
+pub use law::{legal_is_sound, next_handle_is_least_free, one_journal, room_is_kept};
 pub use lock::{Inhibited, Lock, LockMode};
 pub use look::Look;
 pub use mark::{Entry, Mark, Notice, PauseKind, Whom};
