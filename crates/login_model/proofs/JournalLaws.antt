@@ -1,6 +1,6 @@
 -- A list of events has at most one legal journal.
 use Rattle.std.proofs.Common.{◌≡◌, ◌+◌, List, [], ◌∷◌, ◌++◌, length, refl, ap, sym, ◌∙◌, subst, arith}
-use Rattle.login_model.specs.Legal.{IsLegalAfter, IsLegalEntry, OneJournal, answered, events_of, stepped, trail_of}
+use Rattle.login_model.specs.Legal.{IsLegalAfter, IsLegalEntry, answered, events_of, stepped, trail_of}
 use Rattle.login_model.specs.Policy.{verdict}
 use Rattle.login_model.specs.Trail.{Trail, after}
 use Rattle.login_model.specs.declared.mark.Entry.{Entry}
@@ -35,7 +35,7 @@ entry-one U before e d l m p =
     let n : e.marks ≡ d.marks = one-marks t e.marks d.marks (l.marks_are ∙ s ∙ sym m.marks_are) in
     λ i. record { event = p i; verdict = q i; answer = a i; marks = n i }
 
-one-after : (U : Setup) (before a b : List Entry) → IsLegalAfter U before a → IsLegalAfter U before b → events_of a ≡ events_of b → a ≡ b
+pub one-after : (U : Setup) (before a b : List Entry) → IsLegalAfter U before a → IsLegalAfter U before b → events_of a ≡ events_of b → a ≡ b
 one-after U before [] [] l m p = refl
 one-after U before [] (d ∷ ds) l m p = cc
 one-after U before (e ∷ es) [] l m p = cc
@@ -46,6 +46,3 @@ one-after U before (e ∷ es) (d ∷ ds) l m p =
     let P : Entry → Type 0 = λ x. IsLegalAfter U (before ++ x ∷ []) ds in
     let rest = one-after U (before ++ e ∷ []) es ds l.1 (subst P (sym k) m.1) tail in
     λ i. k i ∷ rest i
-
-pub one-journal : OneJournal
-one-journal U a b l m p = one-after U [] a b l m p

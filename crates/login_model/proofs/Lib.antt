@@ -26,6 +26,7 @@ pub mod Turns
 pub mod SoundLaws
 pub mod HandleLaws
 pub mod JournalLaws
+pub mod Continuing
 pub mod RoomLaws
 pub mod Grows
 pub mod Carried

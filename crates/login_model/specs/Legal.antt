@@ -85,6 +85,20 @@ abbrev pub events_of : List Entry → List Event
 events_of [] = []
 events_of (e ∷ es) = e.event ∷ events_of es
 
--- the law: a list of events has at most one legal journal
-abbrev pub OneJournal : Type 0
-OneJournal = (U : Setup) (a b : List Entry) → IsLegal U a → IsLegal U b → events_of a ≡ events_of b → a ≡ b
+-- these events come in place, one after the other, behind these entries: each behind the legal entries of
+-- those before it
+abbrev pub AreInPlace : Setup → List Entry → List Event → Type 0
+AreInPlace U before [] = Unit {0}
+AreInPlace U before (e ∷ es) =
+    IsPlaced before e × ((entry : Entry) → entry.event ≡ e → IsLegalEntry U before entry → AreInPlace U (before ++ entry ∷ []) es)
+
+-- a legal journal of these events
+pub record HasJournal (U : Setup) (events : List Event) : Type 0 where
+  pub journal : List Entry
+  pub legal : IsLegal U journal
+  pub events_are : events_of journal ≡ events
+
+-- the law: a list of events in place has exactly one legal journal
+pub record OneJournal : Type 0 where
+  pub one : (U : Setup) (a b : List Entry) → IsLegal U a → IsLegal U b → events_of a ≡ events_of b → a ≡ b
+  pub some : (U : Setup) (events : List Event) → AreInPlace U [] events → HasJournal U events

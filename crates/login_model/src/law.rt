@@ -16,7 +16,7 @@ pub fn next_handle_is_least_free()
     ensures { (U : Setup) → NextHandleIsLeastFree U }
 {}
 
-/// A list of events has at most one legal journal.
+/// A list of events in place has exactly one legal journal.
 pub fn one_journal()
     ensures { OneJournal }
 {}
