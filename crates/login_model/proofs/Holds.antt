@@ -1,4 +1,4 @@
--- What holds in each journal, said of the facts alone. A letter of it that a setting does not touch is the
+-- What holds in each journal, said of the facts alone. A part of it that a setting does not touch is the
 -- same by computation.
 use Rattle.std.proofs.Common.{◌≡◌, ◌≤◌, ◌↔◌, ℕ, Bool, true, false, cond, Some, List, refl, ap, sym, ◌∙◌, ◌⊎◌, inl, inr}
 use Rattle.std.specs.Str.{bytes_eq}
@@ -148,7 +148,7 @@ pub record Holds (out : Exempt) (f : Facts) : Type 0 where
   pub seats : Seated f
   pub users : KnownOnes out f
 
--- ---- settings that touch one letter, or none
+-- ---- settings that touch one part, or none
 
 shaped-at : (b : Bool) (k j : Key) (x y : Fact) → same_key k j ≡ b → fits_key k x ≡ true → fits_key j y ≡ true → fits_key j (cond b x y) ≡ true
 shaped-at true k j x y e p q = ap (λ (z : Key). fits_key z x) (sym (same_key-true k j e)) ∙ p

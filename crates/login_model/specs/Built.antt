@@ -36,7 +36,7 @@ is_built_hardware (VtKey vt) = true
 is_built_hardware (Exit id) = true
 is_built_hardware _ = false
 
--- whether an event is built; the others have no rules and make no marks yet, so nothing is said of them
+-- whether an event is built; the others have no rules and make no marks yet, so they would be granted: no core takes them
 abbrev pub is_built : Event → Bool
 is_built (Calls r) = is_built_call r.call
 is_built (Happens x) = is_built_hardware x

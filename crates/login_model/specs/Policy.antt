@@ -77,7 +77,7 @@ controls t c s = is_controller_fact c (value t (Ctl s))
 abbrev pub no_such_session : Trail → SessId → Option Rule
 no_such_session t s = broken_if (not (is_session t s)) NoSuchSession
 
--- P05 no-such-user, of create: the user is none of the setup
+-- P05 no-such-user, of create and linger: the user is none of the setup
 abbrev pub no_such_user : Setup → ℕ → Option Rule
 no_such_user U uid = broken_if (not (is_user_of U uid)) NoSuchUser
 

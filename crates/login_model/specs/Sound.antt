@@ -80,7 +80,7 @@ abbrev pub Lives : Trail → Type 0
 Lives t = (h : HandleNo) → is_live t h ≡ true → IsLive t h
 
 -- a pause is awaited of a live handle of seat0's active session, while a switch is pending
--- (not among a, b, c, e, f, j; the withdrawal of a switch, as written in Switching, rests on it)
+-- (the withdrawal of a switch, as written in Switching, rests on it)
 pub record IsAwaited (t : Trail) (s : SessId) (d : DevNo) : Type 0 where
   pub handle : HandleNo
   pub taken : value t (key.Taken s d) ≡ fact.Handle handle

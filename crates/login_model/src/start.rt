@@ -18,7 +18,7 @@ pub fn seat0() -> SeatName
     }
 }
 
-/// What holds before the first mark: one fact of each kind.
+/// What holds before the first mark: each fact that stands under some key then.
 #[derive(Debug, Drop)]
 pub struct StartFacts {
     facts: [Fact; 7],
