@@ -17,7 +17,7 @@ use Rattle.login_model.proofs.Loops.{awaiting-none}
 use Rattle.login_table.specs.Stands.{Stands}
 use Rattle.login_table.specs.Rows.{as_trail}
 use Rattle.login_table.specs.declared.rows.Row.{Row}
-use Rattle.login_core.specs.Facts.{is_other_key}
+use Rattle.login_core.specs.Facts.{is_take_key}
 use Rattle.login_core.specs.Awaiting.{is_awaited_key}
 
 among-none : (t : Trail) → is_awaited_among t [] ≡ false
@@ -77,7 +77,7 @@ both-ways true b f g = sym (f refl)
 both-ways false true f g = g refl
 both-ways false false f g = refl
 
-pub awaiting-standing : (rows t : Trail) → Stands is_other_key rows t → is_awaiting rows ≡ is_awaiting t
+pub awaiting-standing : (rows t : Trail) → Stands is_take_key rows t → is_awaiting rows ≡ is_awaiting t
 awaiting-standing rows t s =
     both-ways (is_awaiting rows) (is_awaiting t)
     (moved rows t (λ r d. s (Awaited r d) refl))

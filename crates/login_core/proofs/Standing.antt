@@ -18,7 +18,7 @@ use Rattle.login_table.proofs.Standing.{value-set}
 use Rattle.users_linger.specs.Own.{is_user_key}
 use Rattle.sessions.specs.Own.{is_session_key}
 use Rattle.seats_vts.specs.Own.{is_seat_key}
-use Rattle.login_core.specs.Facts.{Tables, TablesStand, StandFor, is_other_key, opens, gives}
+use Rattle.login_core.specs.Facts.{Tables, TablesStand, StandFor, is_take_key, is_other_key, opens, gives}
 use Rattle.login_core.specs.Machine.{so_far}
 use Rattle.login_core.proofs.Counting.{sessions-set, handles-set, sessions-say, handles-say}
 
@@ -43,6 +43,7 @@ stand-say f t w n stands = let s = opened f t stands in closed f (Say w n ∷ t)
   users = stands-say is_user_key f.users t w n s.users;
   sessions = stands-say is_session_key f.sessions t w n s.sessions;
   seats = stands-say is_seat_key f.seats t w n s.seats;
+  takes = stands-say is_take_key f.takes t w n s.takes;
   others = stands-say is_other_key f.others t w n s.others;
   session = s.session ∙ sym (sessions-say w n t);
   handle = s.handle ∙ sym (handles-say w n t);

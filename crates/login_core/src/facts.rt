@@ -11,7 +11,7 @@ ghost use Rattle.login_table.specs.Nearest.{nearer};
 ghost use Rattle.login_table.specs.declared.rows.Row.{Row as RowValue};
 ghost use Rattle.std.specs.List.{list_any};
 ghost use Rattle.login_core.specs.Awaiting.{is_awaited_key};
-ghost use Rattle.login_core.specs.Facts.{StandFor, opens, gives};
+ghost use Rattle.login_core.specs.Facts.{StandFor, is_take_key, opens, gives};
 
 use login_base::{ConnId, DevNo, HandleNo, LockNo, NoMemory, SeatName, SessId, Uid};
 use login_model::{Fact, Key, is_handle_fact, is_open_fact, is_owned_fact, is_set};
@@ -29,6 +29,7 @@ pub struct Facts {
     users: UsersLinger,
     sessions: Sessions,
     seats: SeatsVts,
+    takes: Rows,
     others: Rows,
     session: u32,
     handle: u32,
@@ -45,13 +46,14 @@ impl Model for Facts {
       users = f.users.trail;
       sessions = f.sessions.trail;
       seats = f.seats.trail;
+      takes = f.takes.trail;
       others = f.others.trail;
       session = f.session;
       handle = f.handle;
       spare = f.spare;
     } };
 
-    ghost invariant = { λ f. (f.spare ≤ f.users.spare) × (f.spare ≤ f.sessions.spare) × (f.spare ≤ f.seats.spare) × (f.spare ≤ f.others.spare) };
+    ghost invariant = { λ f. (f.spare ≤ f.users.spare) × (f.spare ≤ f.sessions.spare) × (f.spare ≤ f.seats.spare) × (f.spare ≤ f.takes.spare) × (f.spare ≤ f.others.spare) };
 }
 
 /// How many sessions a setting opens.
@@ -74,6 +76,16 @@ fn given(key: &Key, fact: &Fact) -> u32
     }
 }
 
+/// Whether a key is about a device that a session has taken, or about a pause that is awaited.
+fn is_take_key(key: &Key) -> bool
+    ensures { result ≡ is_take_key key.now }
+{
+    match key {
+        Key::Taken(_, _) | Key::Awaited(_, _) => true,
+        _ => false,
+    }
+}
+
 /// The device of a key about what a session has taken.
 fn taken_in(session: SessId, key: &Key) -> Option<DevNo>
     ensures { result ≡ taken_in session key.now }
@@ -92,19 +104,19 @@ fn taken_in(session: SessId, key: &Key) -> Option<DevNo>
 
 /// The lower of the best device so far and another, if that is above and the session has taken it.
 fn nearer_taken(
-    others: &Rows,
+    takes: &Rows,
     session: SessId,
     above: Option<DevNo>,
     device: Option<DevNo>,
     best: Option<DevNo>,
 ) -> Option<DevNo>
-    ensures { result ≡ nearer device_lt (is_taken others.now.trail session) above device best }
+    ensures { result ≡ nearer device_lt (is_taken takes.now.trail session) above device best }
 {
     match device {
         Some(device) => {
             if is_above(above, device)
                 && is_lower(device, best)
-                && is_handle_fact(others.fact(&Key::Taken(session, device)))
+                && is_handle_fact(takes.fact(&Key::Taken(session, device)))
             {
                 Some(device)
             } else {
@@ -116,30 +128,30 @@ fn nearer_taken(
 }
 
 /// The least device above that one that a session has taken.
-fn next_taken(others: &Rows, session: SessId, above: Option<DevNo>) -> Option<DevNo>
-    ensures { IsNext device_lt (is_taken others.now.trail session) above result }
+fn next_taken(takes: &Rows, session: SessId, above: Option<DevNo>) -> Option<DevNo>
+    ensures { IsNext device_lt (is_taken takes.now.trail session) above result }
 {
     let mut best = None;
-    for row in others.as_slice() {
-        best = nearer_taken(others, session, above, taken_in(session, &row.key), best);
+    for row in takes.as_slice() {
+        best = nearer_taken(takes, session, above, taken_in(session, &row.key), best);
     }
     best
 }
 
 /// Whether a key is about a pause that has still to be acknowledged.
-fn is_awaited(others: &Rows, key: &Key) -> bool
-    ensures { result ≡ is_awaited_key others.now.trail key.now }
+fn is_awaited(takes: &Rows, key: &Key) -> bool
+    ensures { result ≡ is_awaited_key takes.now.trail key.now }
 {
     match key {
-        Key::Awaited(_, _) => is_set(others.fact(key)),
+        Key::Awaited(_, _) => is_set(takes.fact(key)),
         _ => false,
     }
 }
 
-fn is_any_awaited(others: &Rows, rows: &[Row]) -> bool
-    ensures { result ≡ list_any (λ (x : RowValue). is_awaited_key others.now.trail x.key) rows.now }
+fn is_any_awaited(takes: &Rows, rows: &[Row]) -> bool
+    ensures { result ≡ list_any (λ (x : RowValue). is_awaited_key takes.now.trail x.key) rows.now }
 {
-    rows.iter().any(|row| is_awaited(others, &row.key))
+    rows.iter().any(|row| is_awaited(takes, &row.key))
 }
 
 #[tactic(auto, unfolding(crate::specs::Facts::StandFor))]
@@ -152,6 +164,7 @@ impl Facts {
             users: UsersLinger::new(alloc),
             sessions: Sessions::new(alloc),
             seats: SeatsVts::new(alloc),
+            takes: Rows::new(alloc),
             others: Rows::new(alloc),
             session: 1,
             handle: 1,
@@ -171,6 +184,7 @@ impl Facts {
         self.users.room(more)?;
         self.sessions.room(more)?;
         self.seats.room(more)?;
+        self.takes.reserve(more)?;
         self.others.reserve(more)?;
         self.spare = more;
         Ok(())
@@ -186,9 +200,13 @@ impl Facts {
         if let Some(fact) = self.sessions.look(key) {
             return fact;
         }
-        match self.seats.look(key) {
-            Some(fact) => fact,
-            None => self.others.fact(key),
+        if let Some(fact) = self.seats.look(key) {
+            return fact;
+        }
+        if is_take_key(key) {
+            self.takes.fact(key)
+        } else {
+            self.others.fact(key)
         }
     }
 
@@ -209,6 +227,8 @@ impl Facts {
             self.sessions.apply(key, fact);
         } else if is_seat_key(&key) {
             self.seats.apply(key, fact);
+        } else if is_take_key(&key) {
+            self.takes.set(key, fact);
         } else {
             self.others.set(key, fact);
         }
@@ -274,13 +294,13 @@ impl Facts {
     pub fn next_taken(&self, session: SessId, above: Option<DevNo>) -> Option<DevNo>
         ensures { (t : Trail) → StandFor self.now t → IsNext device_lt (is_taken t session) above result }
     {
-        next_taken(&self.others, session, above)
+        next_taken(&self.takes, session, above)
     }
 
     /// Whether the pause of some device has still to be acknowledged.
     pub fn is_awaiting(&self) -> bool
         ensures { (t : Trail) → StandFor self.now t → result ≡ is_awaiting t }
     {
-        is_any_awaited(&self.others, self.others.as_slice())
+        is_any_awaited(&self.takes, self.takes.as_slice())
     }
 }

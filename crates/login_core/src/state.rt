@@ -1,6 +1,6 @@
 // The core: the setup, the journal, and what is made ready for the next entry.
 
-ghost use Rattle.std.specs.Prelude.{◌≡◌, ◌≢◌, ◌+◌, ◌^◌, ◌<◌, ◌≤◌, ◌++◌, [], ◌∷◌, length, true, false, None, Err, IfOk, OnOk};
+ghost use Rattle.std.specs.Prelude.{◌≡◌, ◌≢◌, ◌+◌, ◌^◌, ◌<◌, ◌≤◌, ◌++◌, [], ◌∷◌, length, true, false, None, Err, IfOk, IfErr, OnOk};
 ghost use Rattle.std.specs.Borrow.{sem};
 ghost use Rattle.std.specs.Io.BufRead.{Rests};
 ghost use Rattle.login_model.specs.Built.{is_built};
@@ -31,8 +31,8 @@ use std::mem;
 #[derive(Clone, Copy, Debug, PartialEq, Eq)]
 pub enum Refused {
     NoMemory,
-    /// The journal is full: with what all connections and the stop may still need, this count would
-    /// pass its limit.
+    /// The journal is full: with the event and what all connections and the stop may still need, this
+    /// count would pass its limit.
     Full(Count),
     /// The entry with this number is the stop. After it come only disconnects.
     Stopped(u32),
@@ -121,7 +121,7 @@ impl Core {
         requires built { is_built event.now ≡ true }
         ensures gives { RoomGives self.old self.new event.now result }
         ensures kept { result ≡ Err Refused.NoMemory → always_fits event.now ≡ false }
-        ensures refused { (r : Refused) → result ≡ Err r → r ≢ Refused.NoMemory → self.new ≡ self.old }
+        ensures refused { IfErr result (λ why. why ≢ Refused.NoMemory → self.new ≡ self.old) }
         ensures same { IsSame self.old self.new }
     {
         if let Some(number) = self.stopped(event) {

@@ -22,7 +22,7 @@ pub(crate) fn first_broken(rules: &[Option<Rule>]) -> Verdict
     Verdict::Granted
 }
 
-/// The verdict where no id is no session's.
+/// The verdict where the id is none of a session.
 const NO_SESSION: Verdict = Verdict::Denied(Rule::NoSuchSession);
 
 pub(crate) fn judge_only<F: Look>(facts: &F, session: Option<SessId>) -> Verdict

@@ -143,11 +143,14 @@ pub(crate) fn own_or_challenge<F: Look>(
     )
 }
 
+/// The number by which a call means the caller's own user.
+const CALLERS_OWN: u32 = u32::MAX;
+
 /// The user whom a call to linger means: the greatest number is the caller's own user.
 pub fn meant_user<F: Look>(facts: &F, who: ConnId, uid: u32) -> u32
     ensures { result ≡ meant_user (F.trail facts.now) who uid }
 {
-    if uid == 4294967295 {
+    if uid == CALLERS_OWN {
         uid_of(facts, who)
     } else {
         uid

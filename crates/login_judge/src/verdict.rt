@@ -173,7 +173,8 @@ fn judge_hardware<F: Look>(facts: &F, hardware: &Hardware) -> Verdict
     }
 }
 
-/// What the policy says to an event: the first rule that it breaks, else granted. It takes no memory.
+/// What the policy says to an event: the first rule that it breaks, else granted. It takes no memory. An
+/// event that is not built (`is_built`) has no rule yet, and is granted.
 #[tactic(auto, unfolding(login_model::specs::Policy::verdict))]
 pub fn judge<F: Look>(facts: &F, setup: &Setup, event: &Event) -> Verdict
     ensures { result ≡ verdict setup.now (F.trail facts.now) event.now }

@@ -53,7 +53,7 @@ login-transcript 1
     entries: 7,
 };
 
-/// Each rule that can be broken.
+/// Each rule that can be broken, but P13 and P26, which have tests of their own.
 const EACH: [(&str, &str); 21] = [
     ("call 2 9 no-object", "denied P01 unknown-object"),
     ("call 2 9 no-method", "denied P02 unknown-method"),

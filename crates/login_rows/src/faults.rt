@@ -84,6 +84,7 @@ fn each_write_fails_once(rt: HostRuntime) -> Result<(), Fail> {
         assert!(rt; want.starts_with(broken.output()), "at write {write}");
         assert!(rt; broken.output().len() < want.len(), "at write {write}");
     }
-    assert!(rt; faults > 0 && faults < MANY as usize);
+    // One write for each block.
+    assert_eq!(rt; faults, BLOCKS.len());
     Ok(())
 }

@@ -1,4 +1,4 @@
-// What each rule refuses, and what a granted event does.
+// Who may create and who may control a session, and how texts are spelled.
 
 use crate::running::{accept, compare};
 use std::test::Fail;

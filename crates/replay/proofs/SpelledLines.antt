@@ -47,10 +47,13 @@ cut_spelling ls h =
 
 pub spelled_recording : SpelledIsRecording
 spelled_recording ls es p room within = record {
-  preamble = ls;
-  journal = es;
-  play = p;
-  room = room;
-  read = cut_spelling (recording ls es) (recording_lines ls es p);
-  within = within;
+  recorded = record {
+    preamble = ls;
+    journal = es;
+    play = p;
+    room = room;
+    read = cut_spelling (recording ls es) (recording_lines ls es p);
+    within = within;
+  };
+  plays = refl;
 }

@@ -1,5 +1,5 @@
 -- Recordings that are spelled line by line.
-use Rattle.std.specs.Prelude.{ℕ, ◌≤◌, List, length}
+use Rattle.std.specs.Prelude.{ℕ, ◌≡◌, ◌≤◌, List, length}
 use Rattle.std.specs.List.{flat_map}
 use Rattle.login_model.specs.declared.mark.Entry.{Entry}
 use Rattle.recording.specs.declared.line.Line.{Line}
@@ -12,7 +12,12 @@ use Rattle.replay.specs.Outcome.{IsRecordingText}
 abbrev pub spelling : List Line → List ℕ
 spelling lines = flat_map spell lines
 
--- a preamble and a legal journal, spelled, are a recording
+-- the text is a recording, and its journal is this one
+pub record IsRecordingOf (journal : List Entry) (text : List ℕ) : Type 0 where
+  pub recorded : IsRecordingText text
+  pub plays : recorded.journal ≡ journal
+
+-- a preamble and a legal journal, spelled, are a recording of this journal
 abbrev pub SpelledIsRecording : Type 0
 SpelledIsRecording = (preamble : List Line) (journal : List Entry) → IsPlay preamble journal → HasRoom (setup_of preamble) journal
-    → length (recording preamble journal) ≤ most_lines → IsRecordingText (spelling (recording preamble journal))
+    → length (recording preamble journal) ≤ most_lines → IsRecordingOf journal (spelling (recording preamble journal))

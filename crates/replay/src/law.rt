@@ -14,8 +14,8 @@ pub fn one_cause()
     ensures { OneCause }
 {}
 
-/// A preamble and the events of a legal journal, spelled line by line, are a recording that plays this
-/// journal.
+/// A preamble and the events of a legal journal that was never full, spelled in at most 4000000000 lines,
+/// are a recording, and it plays this journal.
 pub fn spelled_recording()
     ensures { SpelledIsRecording }
 {}

@@ -9,16 +9,13 @@ ghost use Rattle.replay.specs.Placing.{IsNamed};
 use crate::player::Player;
 use login_base::ConnId;
 use login_core::Core;
-use login_model::{Event, Fact, Key, Look};
+use login_model::{Event, Key, Look, is_connected_fact};
 
 /// Whether a client is connected.
 fn is_connected(core: &Core, who: ConnId) -> bool
     ensures { result ≡ is_connected (trail_of core.now.journal) who }
 {
-    match core.fact(&Key::Conn(who)) {
-        Fact::Connected(_) => true,
-        _ => false,
-    }
+    is_connected_fact(core.fact(&Key::Conn(who)))
 }
 
 /// Whether whom an event names is as it must be after the entries so far.

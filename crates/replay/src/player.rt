@@ -1,6 +1,6 @@
 // A core that plays a recording, and which numbers its connections had.
 
-ghost use Rattle.std.specs.Prelude.{true, ◌≡◌, ◌↔◌, [], IsTrue, IfOk, OnOk, OnErr, Err, false};
+ghost use Rattle.std.specs.Prelude.{true, ◌≡◌, ◌≢◌, ◌↔◌, [], IsTrue, IfOk, IfErr, OnOk, OnErr, Err, false};
 ghost use Rattle.std.specs.BTreeSet.{IsUnchanged};
 ghost use Rattle.login_model.specs.Built.{is_built};
 ghost use Rattle.login_model.specs.Legal.{IsAsked, IsUnused};
@@ -68,6 +68,7 @@ impl Player {
         requires asked { IsAsked self.old.journal event.now }
         requires built { is_built event.now ≡ true }
         ensures gives { RoomGives self.old self.new event.now result }
+        ensures refused { IfErr result (λ why. why ≢ Refused.NoMemory → self.new ≡ self.old) }
         ensures kept { result ≡ Err Refused.NoMemory → always_fits event.now ≡ false }
         ensures same { IsSame self.old self.new }
     {

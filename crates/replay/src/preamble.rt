@@ -28,9 +28,14 @@ pub enum SetupEnd {
     Ready(Setup, u32),
     /// The line with this number is refused for this cause.
     Script(u32, Cause),
+    /// The input failed; the lines read before it had no fault.
     ReadFault,
+    /// There was no memory.
     NoMemory,
 }
+
+/// How many users a setup may have. Beside them a preamble has one guid at most, and go.
+const MOST_USERS: u32 = 1024;
 
 /// What the lines of a preamble said so far.
 #[derive(Drop)]
@@ -59,7 +64,7 @@ fn is_new_user(users: &Items<UserRow>, uid: Uid) -> bool
 fn is_next_user(users: &Items<UserRow>, uid: Uid) -> bool
     ensures { IsTrue result ↔ (IsNewUser uid.0 users.now × (length users.now < 1024)) }
 {
-    users.len() < 1024 && is_new_user(users, uid)
+    users.len() < MOST_USERS as usize && is_new_user(users, uid)
 }
 
 impl Preamble {
@@ -135,7 +140,7 @@ fn read_lines<S: Source>(alloc: Global, lines: &mut LineReader, source: &mut S) 
     ensures cause { SetupCause (S.faults source.old) (S.faults source.new) result }
 {
     let mut preamble = Preamble::new(alloc);
-    for number in 1..1027u32 {
+    for number in 1..=MOST_USERS + 2 {
         match read_ahead(alloc, lines, source) {
             Ahead::Line(line) => match preamble.take_line(line) {
                 Ok(Taken::Row) => {}

@@ -34,8 +34,11 @@ pub enum ReplayEnd {
     Script(u32, Cause),
     /// The journal is full for the event of the next line, by this count.
     Full(Count),
+    /// The input failed. The output has the transcript of all whole lines before the fault.
     ReadFault,
+    /// The output failed. It has a front of the transcript.
     WriteFault,
+    /// There was no memory. The output has a front of the transcript.
     NoMemory,
 }
 

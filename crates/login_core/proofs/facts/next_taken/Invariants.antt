@@ -7,5 +7,5 @@ use Rattle.login_core.proofs.facts.next_taken.Given as goal
 -- the best so far and what is left give the best of all
 abbrev pub invariant-loop-row : goal.invariant-loop-row
 invariant-loop-row l =
-    nearest device_lt (is_taken l.others.trail l.session) (taken_in l.session) l.above l.best (drop l.row-index l.row-items)
-    ≡ nearest device_lt (is_taken l.others.trail l.session) (taken_in l.session) l.above None l.row-items
+    nearest device_lt (is_taken l.takes.trail l.session) (taken_in l.session) l.above l.best (drop l.row-index l.row-items)
+    ≡ nearest device_lt (is_taken l.takes.trail l.session) (taken_in l.session) l.above None l.row-items
