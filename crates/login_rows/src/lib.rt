@@ -1,4 +1,5 @@
-//! Tests that cross crates: whole runs of `login`, over a source and sinks in memory.
+//! Tests that cross crates: whole runs of `login`, over a source and sinks in memory, and calls of the
+//! core and of the judge that runs do not show.
 //!
 //! The expected bytes are written by hand from docs/PROFILE.md, and none are taken from the program's
 //! own output.
@@ -6,6 +7,8 @@
 
 #[cfg(test)]
 mod answers;
+#[cfg(test)]
+mod core_calls;
 #[cfg(test)]
 mod denials;
 #[cfg(test)]
