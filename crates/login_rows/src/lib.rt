@@ -28,7 +28,7 @@ mod rules;
 #[cfg(test)]
 mod running;
 #[cfg(test)]
-mod sessions;
+mod session_lives;
 #[cfg(test)]
 mod terminals;
 #[cfg(test)]
