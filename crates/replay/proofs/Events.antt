@@ -40,7 +40,7 @@ use Rattle.replay.proofs.Refusals.{Stops}
 abbrev Told : Type 0
 Told = Option (List ℕ)
 
-lines_more : (ls : List Line) (es : List Entry) (entry : Entry) → lines_at going ls (es ++ entry ∷ []) ≡ lines_at going ls es ++ Event entry.event ∷ []
+pub lines_more : (ls : List Line) (es : List Entry) (entry : Entry) → lines_at going ls (es ++ entry ∷ []) ≡ lines_at going ls es ++ Event entry.event ∷ []
 lines_more ls es entry = simp (map-append, append_assoc)
 
 lines_ended : (ls : List Line) (es : List Entry) → lines_at ended ls es ≡ lines_at going ls es ++ End ∷ []

@@ -10,7 +10,7 @@ use Rattle.login_model.proofs.JournalLaws.{one-marks}
 use Rattle.replay.specs.Recording.{HasRoomAfter, HasRoom}
 
 -- an event makes one entry
-one_entry : (U : Setup) (before : List Entry) (e f : Entry) → IsLegalEntry U before e → IsLegalEntry U before f → e.event ≡ f.event → e ≡ f
+pub one_entry : (U : Setup) (before : List Entry) (e f : Entry) → IsLegalEntry U before e → IsLegalEntry U before f → e.event ≡ f.event → e ≡ f
 one_entry U before e f h k same =
     let t = trail_of before in
     let verdicts : e.verdict ≡ f.verdict = h.verdict_is ∙ (ap (verdict U t) same ∙ sym k.verdict_is) in

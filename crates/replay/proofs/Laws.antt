@@ -11,7 +11,7 @@ use Rattle.replay.specs.Outcome.{RefusedAt, IsRecordingText}
 use Rattle.replay.specs.declared.cause.Cause.{Cause}
 use Rattle.replay.proofs.Written.{read_take, read_length}
 
-begins_less : (text : List ℕ) (m n : ℕ) → m ≤ n → Begins text n → Begins text m
+pub begins_less : (text : List ℕ) (m n : ℕ) → m ≤ n → Begins text n → Begins text m
 begins_less text m n le b =
     let a : take m (take n (cut text)) ≡ take m (cut text) = take-take m n (cut text) le in
     let c : take m (take n b.lines) ≡ take m b.lines = take-take m n b.lines le in

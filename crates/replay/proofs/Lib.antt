@@ -15,3 +15,4 @@ pub mod Decimals
 pub mod SpelledLines
 pub mod Laws
 pub mod Conditions
+pub mod Determined

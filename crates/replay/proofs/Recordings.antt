@@ -18,7 +18,7 @@ all_push P [] x h p = (p, tt)
 all_push P (y ∷ ys) x h p = (h.0, all_push P ys x h.1 p)
 
 -- what comes next behind it: a further event, or the end
-data NextEvent (all es : List Entry) (line : Line) : Type 0 where
+pub data NextEvent (all es : List Entry) (line : Line) : Type 0 where
   ends : line ≡ End → NextEvent all es line
   event : (x : AnEvent) (more : List AnEvent) → line ≡ Event x → map (λ (e : Entry). e.event) all ≡ map (λ (e : Entry). e.event) es ++ (x ∷ more) → NextEvent all es line
 
@@ -26,7 +26,7 @@ next_event_more : (a e : Entry) (all es : List Entry) (line : Line) → a.event 
 next_event_more a e all es line same (ends h) = ends h
 next_event_more a e all es line same (event x more h k) = event x more h (let both : a.event ∷ map (λ (y : Entry). y.event) all ≡ e.event ∷ (map (λ (y : Entry). y.event) es ++ (x ∷ more)) = cc in both)
 
-behind_go : (all es : List Entry) (more : List Line) (line : Line) → map event_line all ++ (End ∷ []) ≡ map event_line es ++ (line ∷ more) → NextEvent all es line
+pub behind_go : (all es : List Entry) (more : List Line) (line : Line) → map event_line all ++ (End ∷ []) ≡ map event_line es ++ (line ∷ more) → NextEvent all es line
 behind_go [] [] more line h = ends (cc)
 behind_go [] (e ∷ es) more line h = cc
 behind_go (a ∷ all) [] more line h = event a.event (map (λ (e : Entry). e.event) all) (cc) refl

@@ -7,8 +7,8 @@ use Rattle.recording.specs.Cut.{cut, first_line}
 use Rattle.recording.specs.Cuts.{cut_head}
 use Rattle.recording.specs.Meaning.{IsReadAs}
 use Rattle.replay.specs.Written.{AreReadAs, Splits}
-use Rattle.replay.specs.Recording.{recording, IsRecording, most_lines}
-use Rattle.replay.specs.Front.{Front, ended, lines_of, Takes, IsFront}
+use Rattle.replay.specs.Recording.{recording, IsPlay, IsRecording, most_lines}
+use Rattle.replay.specs.Front.{Front, ended, lines_of, Takes, StageFits, IsFront}
 use Rattle.replay.specs.Refused.{Begins, Refused}
 use Rattle.replay.proofs.Written.{read_length, cut_joined, read_apart}
 use Rattle.replay.proofs.Recordings.{takes_next, whole_at_end, continues}
@@ -17,19 +17,19 @@ use Rattle.replay.proofs.Recordings.{takes_next, whole_at_end, continues}
 split_cut : (text : List ℕ) (ls : List Line) (rest : List ℕ) → (s : Splits text ls rest) → cut text ≡ s.written ++ cut rest
 split_cut text ls rest s = ap cut s.split ∙ cut_joined s.written ls rest s.are
 
-take_split : (text : List ℕ) (ls : List Line) (rest : List ℕ) → (s : Splits text ls rest) → take (length ls) (cut text) ≡ s.written
+pub take_split : (text : List ℕ) (ls : List Line) (rest : List ℕ) → (s : Splits text ls rest) → take (length ls) (cut text) ≡ s.written
 take_split text ls rest s = ap (take (length ls)) (split_cut text ls rest s) ∙ take_at s.written (cut rest) (length ls) (read_length s.written ls s.are)
 
-take_more : (text : List ℕ) (ls : List Line) (rest : List ℕ) → (s : Splits text ls rest) → take (length ls + 1) (cut text) ≡ s.written ++ take 1 (cut rest)
+pub take_more : (text : List ℕ) (ls : List Line) (rest : List ℕ) → (s : Splits text ls rest) → take (length ls + 1) (cut text) ≡ s.written ++ take 1 (cut rest)
 take_more text ls rest s =
     ap (take (length ls + 1)) (split_cut text ls rest s)
     ∙ (ap (λ (n : ℕ). take (n + 1) (s.written ++ cut rest)) (sym (read_length s.written ls s.are)) ∙ take-append-add s.written (cut rest) 1)
 
 -- as many lines as were taken begin a recording
-pub begins_so_far : (f : Front) (text rest : List ℕ) → IsFront f → Splits text (lines_of f) rest → length (lines_of f) ≤ most_lines → Begins text (length (lines_of f))
-begins_so_far f text rest h s within =
+pub begins_played : (f : Front) (text rest : List ℕ) → IsPlay f.preamble f.journal → StageFits f.stage f.preamble f.journal → Splits text (lines_of f) rest → length (lines_of f) ≤ most_lines → Begins text (length (lines_of f))
+begins_played f text rest play fits s within =
     let ls = lines_of f in
-    let on = continues f.stage f.preamble f.journal h.play h.stage_fits in
+    let on = continues f.stage f.preamble f.journal play fits in
     let left : s.written ≡ take (length ls) (cut text) = sym (take_split text ls rest s) in
     let right : ls ≡ take (length ls) on.lines = sym (ap (take (length ls)) on.split ∙ take_at ls on.more (length ls) refl) in
     record {
@@ -39,11 +39,14 @@ begins_so_far f text rest h s within =
       within = omega (arith, within, ap length left, read_length s.written ls s.are);
     }
 
+pub begins_so_far : (f : Front) (text rest : List ℕ) → IsFront f → Splits text (lines_of f) rest → length (lines_of f) ≤ most_lines → Begins text (length (lines_of f))
+begins_so_far f text rest h s within = begins_played f text rest h.play h.stage_fits s within
+
 nothing_is : (rest : List ℕ) → AreReadAs (take 1 (cut rest)) [] → rest ≡ []
 nothing_is [] e = refl
 nothing_is (b ∷ bs) e = absurd (subst (λ (a : List (List ℕ)). AreReadAs a []) (cut_head b bs) e)
 
-next_is : (rest : List ℕ) (line : Line) → AreReadAs (take 1 (cut rest)) (line ∷ []) → IsReadAs (first_line rest) line
+pub next_is : (rest : List ℕ) (line : Line) → AreReadAs (take 1 (cut rest)) (line ∷ []) → IsReadAs (first_line rest) line
 next_is [] line e = absurd e
 next_is (b ∷ bs) line e = let h = subst (λ (a : List (List ℕ)). AreReadAs a (line ∷ [])) (cut_head b bs) e in h.0
 

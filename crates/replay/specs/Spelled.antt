@@ -1,4 +1,4 @@
--- Recordings that are spelled line by line.
+-- Recordings that are spelled line by line, and what a text is a recording of.
 use Rattle.std.specs.Prelude.{ℕ, ◌≡◌, ◌≤◌, List, length}
 use Rattle.std.specs.List.{flat_map}
 use Rattle.login_model.specs.declared.mark.Entry.{Entry}
@@ -21,3 +21,7 @@ pub record IsRecordingOf (journal : List Entry) (text : List ℕ) : Type 0 where
 abbrev pub SpelledIsRecording : Type 0
 SpelledIsRecording = (preamble : List Line) (journal : List Entry) → IsPlay preamble journal → HasRoom (setup_of preamble) journal
     → length (recording preamble journal) ≤ most_lines → IsRecordingOf journal (spelling (recording preamble journal))
+
+-- a text is a recording of one journal at most, under one setup
+abbrev pub OneRecording : Type 0
+OneRecording = (text : List ℕ) (a b : IsRecordingText text) → (setup_of a.preamble ≡ setup_of b.preamble) × (a.journal ≡ b.journal)

@@ -2,7 +2,7 @@
 
 ghost use Rattle.replay.specs.Causes.{OneCause};
 ghost use Rattle.replay.specs.Refused.{OneRefusal};
-ghost use Rattle.replay.specs.Spelled.{SpelledIsRecording};
+ghost use Rattle.replay.specs.Spelled.{OneRecording, SpelledIsRecording};
 
 /// At most one line of a text is refused.
 pub fn one_refusal()
@@ -18,4 +18,9 @@ pub fn one_cause()
 /// are a recording, and it plays this journal.
 pub fn spelled_recording()
     ensures { SpelledIsRecording }
+{}
+
+/// A text is a recording of one journal at most, under one setup.
+pub fn one_recording()
+    ensures { OneRecording }
 {}
