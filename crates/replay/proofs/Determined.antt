@@ -11,7 +11,6 @@ use Rattle.recording.proofs.Grammar.{reads_one}
 use Rattle.replay.specs.Written.{AreReadAs}
 use Rattle.replay.specs.PreambleLines.{setup_of}
 use Rattle.replay.specs.Recording.{recording, event_line, IsPlay}
-use Rattle.replay.specs.Outcome.{IsRecordingText}
 use Rattle.replay.specs.Spelled.{OneRecording}
 use Rattle.replay.proofs.Preambles.{apart}
 

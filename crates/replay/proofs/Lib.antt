@@ -16,3 +16,5 @@ pub mod SpelledLines
 pub mod Laws
 pub mod Conditions
 pub mod Determined
+pub mod Fronts
+pub mod Stopping

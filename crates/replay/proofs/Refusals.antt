@@ -75,7 +75,7 @@ begins_more f text rest h s stop b =
 pub refused_next : (f : Front) (text rest : List ℕ) → IsFront f → Splits text (lines_of f) rest → length (lines_of f) ≤ most_lines → Stops f rest → Refused text (length (lines_of f))
 refused_next f text rest h s within stop = record { begins = begins_so_far f text rest h s within; stops = λ b. begins_more f text rest h s stop b }
 
-one_line : (rest : List ℕ) → (rest ≡ [] → ⊥) → length (take 1 (cut rest)) ≡ 1
+pub one_line : (rest : List ℕ) → (rest ≡ [] → ⊥) → length (take 1 (cut rest)) ≡ 1
 one_line [] some = absurd (some refl)
 one_line (b ∷ bs) some = let h = cut_head b bs in ap length h
 

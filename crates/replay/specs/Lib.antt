@@ -6,6 +6,7 @@ pub mod Refused
 pub mod Causes
 pub mod Outcome
 pub mod Spelled
+pub mod Stopping
 pub mod Ahead
 pub mod Preamble
 pub mod Placing

@@ -3,6 +3,7 @@
 ghost use Rattle.replay.specs.Causes.{OneCause};
 ghost use Rattle.replay.specs.Refused.{OneRefusal};
 ghost use Rattle.replay.specs.Spelled.{OneRecording, SpelledIsRecording};
+ghost use Rattle.replay.specs.Stopping.{OneStop};
 
 /// At most one line of a text is refused.
 pub fn one_refusal()
@@ -23,4 +24,10 @@ pub fn spelled_recording()
 /// A text is a recording of one journal at most, under one setup.
 pub fn one_recording()
     ensures { OneRecording }
+{}
+
+/// A text is at most one of these: a recording, refused at a line, or with an event that finds the journal
+/// full. It is refused, or finds it full, in one way and behind one front.
+pub fn one_stop()
+    ensures { OneStop }
 {}

@@ -12,7 +12,7 @@ mod replaying;
 mod reporting;
 
 pub use cause::Cause;
-pub use law::{one_cause, one_recording, one_refusal, spelled_recording};
+pub use law::{one_cause, one_recording, one_refusal, one_stop, spelled_recording};
 pub use preamble::{SetupEnd, read_setup};
 pub use replaying::{ReplayEnd, replay_all};
 pub use reporting::report;
