@@ -1,0 +1,10 @@
+pub mod Closing
+pub mod Histories
+pub mod Joining
+pub mod Lists
+pub mod Members
+pub mod Same
+pub mod Splitting
+pub mod Stepping
+pub mod Turning
+pub mod Views

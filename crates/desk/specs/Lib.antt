@@ -1,0 +1,6 @@
+pub mod History
+pub mod Passes
+pub mod Rule
+pub mod SameEntries
+pub mod Steps
+pub mod Views

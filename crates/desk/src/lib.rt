@@ -1,0 +1,24 @@
+//! A value with one journal, which threads take turns at.
+//!
+//! A desk keeps the value in a slot of an `atomic_table`, with a word that counts tickets and one that
+//! counts those served. A pass is what a thread has of it. Seven kinds of atomic step are made on the
+//! table, and no other: draw a ticket, look at the serving word, take the slot, give it back, publish
+//! with one entry or none, split a seat, join a seat.
+#![tactic(auto)]
+
+mod act;
+mod desk;
+mod kept;
+mod law;
+mod pass;
+mod rule;
+mod steps;
+mod view;
+
+pub use act::Act;
+pub use desk::Desk;
+pub use kept::Kept;
+pub use law::same_entries;
+pub use pass::Pass;
+pub use rule::Turns;
+pub use view::{Joined, Numbered, Stage, View};
