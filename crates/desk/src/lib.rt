@@ -7,6 +7,7 @@
 #![tactic(auto)]
 
 mod act;
+mod counting;
 mod desk;
 mod kept;
 mod law;
@@ -16,9 +17,13 @@ mod steps;
 mod view;
 
 pub use act::Act;
+pub use counting::{Count, CountUp, Counts, count_apart, count_to};
 pub use desk::Desk;
 pub use kept::Kept;
 pub use law::same_entries;
 pub use pass::Pass;
 pub use rule::Turns;
 pub use view::{Joined, Numbered, Stage, View};
+
+#[cfg(test)]
+mod tests;

@@ -1,0 +1,37 @@
+// That the calls succeed, alone and in two threads.
+
+use crate::{CountUp, Counts, Desk, count_apart};
+use login_base::{ConnId, NoMemory};
+
+#[test]
+fn each_call_once(rt: HostRuntime) -> Result<(), NoMemory> {
+    let alloc = rt.alloc();
+    let (desk, mut first) = Desk::open(alloc, Counts::new(alloc, 2)?)?;
+    assert!(rt; desk.act(&rt, &mut first, &mut CountUp { number: 7 }));
+    let mut second = desk.split(&mut first, ConnId(4));
+    assert!(rt; desk.act(&rt, &mut second, &mut CountUp { number: 8 }));
+    assert!(rt; !desk.act(&rt, &mut second, &mut CountUp { number: 9 }));
+    desk.join(&mut first, second);
+    let Counts { most, counts } = desk.close(first);
+    assert_eq!(rt; most, 2);
+    assert_eq!(rt; counts.len(), 2);
+    for (count, want) in counts.iter().zip([(0, 7), (4, 8)]) {
+        assert!(rt; (count.who.0, count.number) == want);
+    }
+    Ok(())
+}
+
+#[test]
+fn two_threads_count(rt: HostRuntime) -> Result<(), NoMemory> {
+    let alloc = rt.alloc();
+    let Counts { most: _, counts } = count_apart(&rt, alloc, 200, 100)?;
+    assert_eq!(rt; counts.len(), 200);
+    let mut next = [0, 0];
+    for count in &counts {
+        let at = if count.who.0 == 1 { 0 } else { 1 };
+        assert_eq!(rt; count.number, next[at]);
+        next[at] = count.number.saturating_add(1);
+    }
+    assert!(rt; next == [100, 100]);
+    Ok(())
+}
