@@ -22,4 +22,6 @@ pub mod TypesHold
 pub mod Lasting
 pub mod LengthLaws
 pub mod GrammarLaws
+pub mod HeldLaws
+pub mod Letters
 pub mod TypedLaws

@@ -11,6 +11,7 @@ pub mod Faults
 pub mod BasicReading
 pub mod Reading
 pub mod Answers
+pub mod Held
 pub mod Opening
 pub mod Nesting
 pub mod Numbers
