@@ -23,10 +23,6 @@ pub are_in : (r : Result (List Val) ValueFault) → IsOk r → r ≡ Ok (values_
 are_in (Ok vs) h = refl
 are_in (Err e) h = absurd (let k : ⊥ = cc in k)
 
-pub no_shapes : (vs : List Val) → shapes (vals vs) ≡ [] → vs ≡ []
-no_shapes [] e = refl
-no_shapes (v ∷ vs) e = absurd (let k : ⊥ = cc in k)
-
 byte_by : (b : ℕ) → b < 256 → ltb b 256 ≡ true
 byte_by b h = grind (arith, nat_tests, h)
 

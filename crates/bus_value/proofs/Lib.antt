@@ -7,6 +7,7 @@ pub mod Levels
 pub mod Rounds
 pub mod Nesting
 pub mod Containers
+pub mod PlainRows
 pub mod Wholes
 pub mod NumberLaws
 pub mod BasicSpelled

@@ -9,6 +9,7 @@ pub mod Alignment
 pub mod Limits
 pub mod Faults
 pub mod BasicReading
+pub mod Plain
 pub mod Reading
 pub mod Answers
 pub mod Held

@@ -1,7 +1,9 @@
 // How values of basic types are read.
 
-ghost use Rattle.std.specs.Prelude.{◌≡◌, ◌≤◌, ◌<◌, ◌+◌, ◌-◌, length, drop, IfOk, IsTrue};
+ghost use Rattle.std.specs.Prelude.{◌≡◌, ◌≤◌, ◌<◌, ◌+◌, ◌-◌, length, drop, IfOk, IfSome, IsTrue};
 ghost use Rattle.std.specs.Str.{is_utf8};
+ghost use Rattle.bus_value.specs.Alignment.{IsAlignment};
+ghost use Rattle.bus_value.specs.Plain.{plain_size};
 ghost use Rattle.bus_value.specs.Answers.{Accepts, Checks, Gives, Reads};
 ghost use Rattle.bus_value.specs.BasicReading.{size, body_size, least, text_size, types_in, text_at, path_at, decoded, bool_by};
 ghost use Rattle.bus_value.specs.Texts.{has_no_zero, is_text};
@@ -41,6 +43,20 @@ fn size(order: Order, kind: Basic, bytes: &[u8]) -> Option<usize>
             Some(count) => Some(*count as usize + 2),
             None => None,
         },
+    }
+}
+
+/// How many bytes each value of a type has, where any bytes spell one.
+pub fn plain_size(kind: Basic) -> Option<usize>
+    ensures value { result ≡ plain_size kind }
+    ensures valid { IfSome result (λ size. IsAlignment size) }
+{
+    match kind {
+        Basic::Byte => Some(1),
+        Basic::I16 | Basic::U16 => Some(2),
+        Basic::I32 | Basic::U32 | Basic::Handle => Some(4),
+        Basic::I64 | Basic::U64 | Basic::Double => Some(8),
+        Basic::Bool | Basic::Str | Basic::Path | Basic::Sig => None,
     }
 }
 

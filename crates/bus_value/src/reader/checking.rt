@@ -1,13 +1,15 @@
 // How bytes are looked at for values of any type, of which none is kept.
 
-ghost use Rattle.std.specs.Prelude.{◌≡◌, ◌≤◌, ◌<◌, ◌+◌, ◌-◌, length, drop, IfOk};
-ghost use Rattle.bus_names.specs.Types.{variant, array, dict, struct_of};
+ghost use Rattle.std.specs.Prelude.{◌≡◌, ◌≤◌, ◌<◌, ◌+◌, ◌-◌, length, drop, IfOk, IsTrue};
+ghost use Rattle.bus_names.specs.Types.{basic, variant, array, dict, struct_of};
 ghost use Rattle.bus_value.specs.Reading.{levels, read, read_entry, to_end, in_turn};
 ghost use Rattle.bus_value.specs.Nesting.{nesting, nesting_all};
-ghost use Rattle.bus_value.specs.Answers.{Accepts, Checks};
+ghost use Rattle.bus_value.specs.Answers.{Accepts, Checks, IsAccepted};
 
 use crate::fault::ValueFault;
+use crate::numbers::pad_size;
 use crate::reader::Reader;
+use crate::reader::basic::plain_size;
 use crate::value::boundary;
 use bus_names::{Basic, Kind, Type};
 
@@ -65,6 +67,32 @@ impl Reader {
         Ok(place.end)
     }
 
+    /// Whether elements of this type stand from here to the end of which any bytes spell one.
+    fn is_plain_row(self, kind: Basic, bytes: &[u8], at: usize) -> bool
+        requires depth { self.depth ≤ 97 }
+        requires within { at ≤ length bytes.now }
+        ensures { IsTrue result → IsAccepted (to_end (read (levels self.depth) self.order self.depth self.array (basic kind)) (self.start + at) (drop at bytes.now)) }
+    {
+        let Some(size) = plain_size(kind) else {
+            return false;
+        };
+        let pad = pad_size(self.start, at, size);
+        let rest = (bytes.len() - at) % size;
+        pad == 0 && rest == 0
+    }
+
+    /// The same of any type.
+    fn is_row(self, kind: &Type, bytes: &[u8], at: usize) -> bool
+        requires depth { self.depth ≤ 97 }
+        requires within { at ≤ length bytes.now }
+        ensures { IsTrue result → IsAccepted (to_end (read (levels self.depth) self.order self.depth self.array kind.now) (self.start + at) (drop at bytes.now)) }
+    {
+        match kind.kind() {
+            Kind::Basic(kind) => self.is_plain_row(kind, bytes, at),
+            _ => false,
+        }
+    }
+
     /// Whether elements stand from here to the end.
     #[cycle(checking)]
     fn check_elements(self, kind: &Type, bytes: &[u8], at: usize) -> Result<(), ValueFault>
@@ -72,6 +100,9 @@ impl Reader {
         requires within { at ≤ length bytes.now }
         ensures { Accepts result (to_end (read (levels self.depth) self.order self.depth self.array kind.now) (self.start + at) (drop at bytes.now)) }
     {
+        if self.is_row(kind, bytes, at) {
+            return Ok(());
+        }
         let mut next = at;
         while next < bytes.len() {
             let end = self.check(kind, bytes, next)?;

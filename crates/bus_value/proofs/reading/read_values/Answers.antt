@@ -1,5 +1,4 @@
-use Rattle.std.proofs.Common.{◌≡◌, ◌+◌, ◌∙◌, sym, ap, arith, subst, inl, inr, Ok, Err, refl, rules}
-use Rattle.bus_names.specs.Signatures.{IsWithin}
+use Rattle.std.proofs.Common.{◌∙◌, sym, ap, arith, rules}
 use Rattle.bus_value.specs.Reading.{read_all}
 use Rattle.bus_value.specs.Values.{vals}
 use Rattle.bus_value.proofs.Containers.{onward}

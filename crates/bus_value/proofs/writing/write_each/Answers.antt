@@ -1,4 +1,4 @@
-use Rattle.std.proofs.Common.{◌≡◌, ◌∙◌, List, ap, arith, refl}
+use Rattle.std.proofs.Common.{◌∙◌, List, ap, arith, refl}
 use Rattle.std.proofs.lemmas.List.{take_all}
 use Rattle.bus_value.specs.Values.{Val, vals}
 use Rattle.bus_value.specs.Spelling.{spellings}

@@ -1,4 +1,4 @@
-use Rattle.std.proofs.Common.{◌≡◌, ℕ, ◌+◌, ◌-◌, ◌++◌, ◌∷◌, [], sym, ◌∙◌, arith, ap, rules, subst, Ok, Err, List, inr, true, false, drop, take}
+use Rattle.std.proofs.Common.{◌≡◌, ℕ, ◌+◌, ◌-◌, ◌++◌, ◌∷◌, [], sym, ◌∙◌, arith, ap, rules, Ok, Err, inr, true, false, drop, take}
 use Rattle.bus_value.specs.Reading.{read, read_entry, levels, to_end, in_turn, made, read_basic, variant_type, is_variant_type}
 use Rattle.bus_value.specs.Nesting.{nesting}
 use Rattle.bus_value.specs.BasicReading.{types_in}
@@ -8,7 +8,7 @@ use Rattle.bus_value.proofs.Levels.{basic_level}
 use Rattle.bus_value.specs.Values.{vals, entries}
 use Rattle.bus_value.specs.Values as values
 use Rattle.bus_names.specs.Types.{array, dict, variant, struct_of}
-use Rattle.bus_value.proofs.Rounds.{Round, round_first, round_next, round_last, round_fails, Turn, turn_first, turn_next, turn_last, turn_fails}
+use Rattle.bus_value.proofs.Rounds.{round_first, round_next, round_last, round_fails, turn_first, turn_next, turn_last, turn_fails}
 use Rattle.bus_value.proofs.Containers.{onward, made_err, and_then_err, array_fails, array_value, dict_fails, dict_value, pair_fails, pair_no_key, pair_value, struct_fails, struct_value, variant_fails, variant_types, variant_value}
 use Rattle.bus_value.proofs.reader.Reader.+checking.Goals as goal
 

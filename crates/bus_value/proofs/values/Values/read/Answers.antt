@@ -1,4 +1,4 @@
-use Rattle.std.proofs.Common.{◌≡◌, ◌∙◌, arith}
+use Rattle.std.proofs.Common.{◌∙◌, arith}
 use Rattle.bus_value.proofs.HeldLaws.{kept_so}
 use Rattle.bus_value.proofs.values.Values.read.Goals as goal
 

@@ -1,4 +1,3 @@
-use Rattle.std.proofs.Common.{sym}
 use Rattle.bus_value.proofs.HeldLaws.{held_shapes, with_types}
 use Rattle.bus_value.proofs.values.Values.types.Goals as goal
 
