@@ -38,3 +38,9 @@ asked() {
     valgrind --tool=memcheck "$program" "$@" 2>"$work/asked"
     sed -n 's/.*total heap usage:.* \([0-9,]*\) bytes allocated/\1/p' "$work/asked" | tr -d ,
 }
+
+# The most bytes of memory that the program holds at once with these words, by massif (valgrind).
+held() {
+    valgrind --tool=massif --peak-inaccuracy=0.0 --massif-out-file="$work/massif" "$program" "$@" >/dev/null 2>"$work/held"
+    sed -n 's/^mem_heap_B=//p' "$work/massif" | sort -n | tail -n 1
+}

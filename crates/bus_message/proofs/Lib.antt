@@ -10,6 +10,5 @@ pub mod Readings
 pub mod Zeros
 pub mod FirstNumbers
 pub mod Each
-pub mod Letters
 pub mod Begins
 pub mod Histories

@@ -15,9 +15,8 @@ ghost use Rattle.bus_message.specs.Named.{HasAnswer, HasNames, HasParties, HasRa
 ghost use Rattle.bus_message.specs.Spelling.{assembled, answer_fields, body_offset, body_types, field, field_if, fields_of, list_of, message_bytes, opening, party_fields, target_fields};
 
 use crate::message::Message;
-use crate::reading::signature_of;
-use bus_names::{Basic, BusName, Interface, Member, ObjectPath, Signature, Type};
-use bus_value::{BasicValue, Order, Value, pad_size, push_padding, push_u32, write_values};
+use bus_names::{Basic, BusName, Interface, Member, ObjectPath, Type};
+use bus_value::{BasicValue, Order, Value, Values, pad_size, push_padding, push_u32, write_values};
 use login_base::{Bytes, Items, NoMemory, Word};
 use std::alloc::Global;
 
@@ -140,27 +139,16 @@ fn push_number(
     }
 }
 
-/// The signature of the values.
-fn signature(alloc: Global, values: &[Value]) -> Result<Signature, NoMemory>
-    requires { IsWithin (shapes (vals values.now)) }
-    ensures { IfOk result (λ types. types ≡ shapes (vals values.now)) }
-{
-    let mut letters = Vec::new(alloc);
-    for value in values {
-        value.push_type(&mut letters)?;
-    }
-    signature_of(alloc, letters.as_slice())
-}
-
 /// Puts the field with the signature of a body at the end, if the body is not empty.
-fn push_signature(alloc: Global, out: &mut Vec<Value>, body: &[Value]) -> Result<(), NoMemory>
+fn push_signature(alloc: Global, out: &mut Vec<Value>, body: &Values) -> Result<(), NoMemory>
     requires { IsWithin (shapes (vals body.now)) }
     ensures { OnOk result (out.new.items ≡ out.old.items ++ field_if 8 (body_types body.now)) }
 {
-    if body.is_empty() {
+    let types = body.types(alloc)?;
+    if types.types().is_empty() {
         return Ok(());
     }
-    push_field(alloc, out, 8, BasicValue::Sig(signature(alloc, body)?))
+    push_field(alloc, out, 8, BasicValue::Sig(types))
 }
 
 /// Puts the fields of a call's target, or of a signal's source, at the end.
@@ -202,7 +190,7 @@ fn fields_of(alloc: Global, message: &Message) -> Result<Vec<Value>, NoMemory>
     push_target(alloc, &mut out, message)?;
     push_answer(alloc, &mut out, message)?;
     push_parties(alloc, &mut out, message)?;
-    push_signature(alloc, &mut out, message.body.as_slice())?;
+    push_signature(alloc, &mut out, &message.body)?;
     Ok(out)
 }
 
@@ -213,11 +201,11 @@ fn field_type(alloc: Global) -> Result<Type, NoMemory>
     let mut parts = Vec::new(alloc);
     parts.push(Type::basic(Basic::Byte))?;
     parts.push(Type::variant())?;
-    Ok(Type::structure(parts))
+    Type::structure(alloc, parts)
 }
 
 /// The one value that the fields are.
-fn list_of(alloc: Global, message: &Message) -> Result<Items<Value>, NoMemory>
+fn list_of(alloc: Global, message: &Message) -> Result<Values, NoMemory>
     requires { IsWithin (shapes (vals message.now.body)) }
     ensures list { IfOk result (λ list. list ≡ list_of (fields_of message.now)) }
     ensures names { IfOk result (λ list. HasNames message.now) }
@@ -225,7 +213,7 @@ fn list_of(alloc: Global, message: &Message) -> Result<Items<Value>, NoMemory>
     let fields = fields_of(alloc, message)?;
     let mut list = Items::new(alloc);
     list.push(Value::array(field_type(alloc)?, fields))?;
-    Ok(list)
+    Ok(Values::made(list))
 }
 
 /// The letter of an order of bytes.

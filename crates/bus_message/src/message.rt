@@ -1,8 +1,7 @@
 // Messages.
 
 use bus_names::{BusName, Interface, Member, ObjectPath};
-use bus_value::{Order, Value};
-use login_base::Items;
+use bus_value::{Order, Values};
 
 /// A message of the D-Bus Specification ("Message Format"). Its kind is 1 for a method call, 2 for a method's return, 3
 /// for an error and 4 for a signal; others are kept as they come, and so are the flags.
@@ -23,5 +22,5 @@ pub struct Message {
     pub destination: Option<BusName>,
     pub sender: Option<BusName>,
     /// The arguments.
-    pub body: Items<Value>,
+    pub body: Values,
 }

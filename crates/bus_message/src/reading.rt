@@ -1,7 +1,6 @@
 // How a whole message is read.
 
-ghost use Rattle.std.specs.Prelude.{◌≡◌, ◌<◌, ◌+◌, ◌^◌, length, IsOk, IfOk, Ok};
-ghost use Rattle.bus_names.specs.Parsing.{signature_of};
+ghost use Rattle.std.specs.Prelude.{◌≡◌, ◌<◌, ◌+◌, ◌^◌, length, IfOk};
 ghost use Rattle.bus_value.specs.Faults.{zeros};
 ghost use Rattle.bus_value.specs.Limits.{AllFit};
 ghost use Rattle.bus_value.specs.Reading.{read_all};
@@ -17,22 +16,10 @@ use crate::fault::{Cause, Refusal, refuse, refused};
 use crate::fields::{bus_name, fields_in, interface, member, path, types, u32_at};
 use crate::header::{Header, SIZE};
 use crate::message::Message;
-use bus_names::{BusName, Interface, Member, NameFault, ObjectPath, Signature};
-use bus_value::{Order, Value, read_values};
+use bus_names::{BusName, Interface, Member, ObjectPath, Signature};
+use bus_value::{Order, Value, Values, read_values, signature_of};
 use login_base::{Items, NoMemory};
 use std::alloc::Global;
-
-/// The types of a text that is a signature.
-pub(crate) fn signature_of(alloc: Global, text: &[u8]) -> Result<Signature, NoMemory>
-    requires { IsOk (signature_of text.now) }
-    ensures { IfOk result (λ types. signature_of text.now ≡ Ok types) }
-{
-    match Signature::read(alloc, text) {
-        Ok(types) => Ok(types),
-        Err(NameFault::NoMemory) => Err(NoMemory),
-        Err(_) => unreachable!(),
-    }
-}
 
 /// The values of these types that the bytes spell, whose fault is of this cause.
 fn read(
@@ -42,7 +29,7 @@ fn read(
     types: &Signature,
     bytes: &[u8],
     cause: Cause,
-) -> Result<Items<Value>, Refusal>
+) -> Result<Values, Refusal>
     ensures value { Gives result (for_cause cause (read_all order start types.now bytes.now)) }
     ensures fits { IfOk result (λ values. AllFit order start (vals values)) }
 {
@@ -54,7 +41,7 @@ fn read(
 
 /// The fields, as the one array that their bytes spell.
 #[tactic(auto, unfolding(crate::specs::Reading::fields_read))]
-fn read_fields(alloc: Global, header: Header, bytes: &[u8]) -> Result<Items<Value>, Refusal>
+fn read_fields(alloc: Global, header: Header, bytes: &[u8]) -> Result<Values, Refusal>
     requires room { HasRoom header }
     requires whole { length bytes.now ≡ size header }
     ensures value { Gives result (fields_read header bytes.now) }
@@ -63,6 +50,18 @@ fn read_fields(alloc: Global, header: Header, bytes: &[u8]) -> Result<Items<Valu
     let types = signature_of(alloc, b"a(yv)")?;
     let list = &bytes[12..header.fields_end()];
     read(alloc, header.order, 12, &types, list, Cause::BadField)
+}
+
+/// The same, made.
+fn list_fields(alloc: Global, header: Header, bytes: &[u8]) -> Result<Items<Value>, Refusal>
+    requires room { HasRoom header }
+    requires whole { length bytes.now ≡ size header }
+    ensures value { Gives result (fields_read header bytes.now) }
+    ensures fits { IfOk result (λ values. AllFit header.order 12 (vals values)) }
+{
+    let read = read_fields(alloc, header, bytes)?;
+    let list = read.into_list(alloc)?;
+    Ok(list)
 }
 
 /// Whether this padding is zero, which stands from `at` on.
@@ -150,7 +149,7 @@ fn headed(alloc: Global, header: Header, fields: &[Value]) -> Result<Message, No
         reply_to: u32_at(fields, 5),
         destination,
         sender,
-        body: Items::new(alloc),
+        body: Values::made(Items::new(alloc)),
     })
 }
 
@@ -161,7 +160,7 @@ fn read_body(
     header: Header,
     fields: &[Value],
     bytes: &[u8],
-) -> Result<Items<Value>, Refusal>
+) -> Result<Values, Refusal>
     requires room { HasRoom header }
     requires whole { length bytes.now ≡ size header }
     ensures { Gives result (body_read header fields.now bytes.now) }
@@ -202,7 +201,7 @@ pub(crate) fn read_message(alloc: Global, header: Header, bytes: &[u8]) -> Resul
     requires whole { length bytes.now ≡ size header }
     ensures { Gives result (message_of header bytes.now) }
 {
-    let list = read_fields(alloc, header, bytes)?;
+    let list = list_fields(alloc, header, bytes)?;
     check_padding(header, bytes)?;
     with_fields(alloc, header, fields_in(list.as_slice()), bytes)
 }

@@ -10,7 +10,7 @@ mod limits;
 use super::*;
 use accepted::{BY_HAND, GLIB, JEEPNEY};
 use bus_names::{BusName, Interface, Member, ObjectPath};
-use bus_value::{Order, Value};
+use bus_value::{Order, Values};
 use clients::{SENT, Sent};
 use faults::{
     BIG_FIELDS, BIG_REST, BIG_VALUES, HEADERS, LITTLE_FIELDS, LITTLE_REST, LITTLE_VALUES, Row,
@@ -122,12 +122,11 @@ fn are_fields(message: &Message, sent: &Sent) -> bool {
 }
 
 /// Whether the values are of these types.
-fn are_typed(alloc: Global, values: &[Value], types: &[u8]) -> Result<bool, NoMemory> {
-    let mut letters = Vec::new(alloc);
-    for value in values {
-        value.push_type(&mut letters)?;
+fn are_typed(alloc: Global, values: &Values, types: &[u8]) -> Result<bool, NoMemory> {
+    match values.read_types() {
+        Some(read) => Ok(read.text(alloc)?.as_slice() == types),
+        None => Ok(false),
     }
-    Ok(letters.as_slice() == types)
 }
 
 /// Whether the message says what was sent.
@@ -136,7 +135,7 @@ fn is_sent(alloc: Global, message: &Message, sent: &Sent) -> Result<bool, NoMemo
         is_header(message, sent)
             && is_target(message, sent)
             && are_fields(message, sent)
-            && are_typed(alloc, message.body.as_slice(), sent.types)?,
+            && are_typed(alloc, &message.body, sent.types)?,
     )
 }
 
@@ -408,7 +407,7 @@ fn answer(alloc: Global, kind: u8, error: Option<Interface>, sender: Option<BusN
         reply_to: Some(7),
         destination: None,
         sender,
-        body: Items::new(alloc),
+        body: Values::made(Items::new(alloc)),
     }
 }
 

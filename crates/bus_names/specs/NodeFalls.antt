@@ -17,7 +17,7 @@ deep_parts (Basic b) h = omega arith
 deep_parts Variant h = omega arith
 deep_parts (Array t) h = omega arith
 deep_parts (Dict b t) h = omega arith
-deep_parts (Struct ts) h = of_fields ts.items h
+deep_parts (Struct ts) h = of_fields ts.value.items h
   where
     of_fields : (us : List Shape) → 0 < length us → max (max (most (λ t. parts t + 1) us) 0) 0 ≤ parts (struct_of us)
     of_fields [] h = absurd (omega arith)

@@ -9,11 +9,11 @@ shape_of (Basic b) = basic b
 shape_of Variant = variant
 shape_of (Array t) = array t.value
 shape_of (Dict b t) = dict b t.value
-shape_of (Struct ts) = struct_of ts.items
+shape_of (Struct ts) = struct_of ts.value.items
 
 -- a struct has a field
 abbrev pub HasField : Node → Type 0
-HasField (Struct ts) = 0 < length ts.items
+HasField (Struct ts) = 0 < length ts.value.items
 HasField (Basic b) = 0 < 1
 HasField Variant = 0 < 1
 HasField (Array t) = 0 < 1

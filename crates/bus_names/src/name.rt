@@ -1,6 +1,6 @@
 // The names of objects, interfaces, members and connections.
 
-ghost use Rattle.std.specs.Prelude.{◌≡◌, ◌<◌, ◌^◌, None, IfOk, length};
+ghost use Rattle.std.specs.Prelude.{◌≡◌, ◌<◌, ◌^◌, None, IfOk, is_none, length};
 ghost use Rattle.std.proofs.Common.{rules};
 ghost use Rattle.std.specs.Str.{bytes_eq};
 ghost use Rattle.std.specs.Cmp.Rules.{comparing};
@@ -130,6 +130,13 @@ impl ObjectPath {
                 text: Word::from_slice(alloc, text)?,
             }),
         }
+    }
+
+    /// Whether a text is an object path. It takes no memory.
+    pub fn is_path(text: &[u8]) -> bool
+        ensures { result ≡ is_none (path_fault text.now) }
+    {
+        path_fault(text).is_none()
     }
 
     /// A copy on the same allocator.

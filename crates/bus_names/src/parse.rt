@@ -150,7 +150,7 @@ impl Parser {
     {
         match self.frames.pop() {
             Some(Frame::Struct(fields)) if !fields.is_empty() => {
-                self.complete(alloc, Type::structure(fields.into_vec()))?;
+                self.complete(alloc, Type::structure(alloc, fields.into_vec())?)?;
                 Ok(())
             }
             _ => Err(Refusal::Bad),

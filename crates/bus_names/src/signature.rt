@@ -98,7 +98,7 @@ impl Signature {
     {
         let mut types = Items::new(alloc);
         for kind in self.types.as_slice() {
-            types.push(kind.copied(alloc)?)?;
+            types.push(kind.shared()?)?;
         }
         Ok(Signature { types })
     }

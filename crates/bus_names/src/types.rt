@@ -10,6 +10,7 @@ use crate::basic::Basic;
 use login_base::NoMemory;
 use std::alloc::Global;
 use std::marker::Model;
+use std::sync::Arc;
 
 /// A single complete type of the D-Bus Specification.
 #[cycle(types)]
@@ -23,9 +24,9 @@ pub struct Type {
 enum Node {
     Basic(Basic),
     Variant,
-    Array(Box<Type>),
-    Dict(Basic, Box<Type>),
-    Struct(Vec<Type>),
+    Array(Arc<Type>),
+    Dict(Basic, Arc<Type>),
+    Struct(Arc<Vec<Type>>),
 }
 
 /// What a type is made of.
@@ -88,7 +89,7 @@ impl Type {
         ensures { IfOk result (λ made. made ≡ array element) }
     {
         Ok(Type {
-            node: Node::Array(Box::new(alloc, element)?),
+            node: Node::Array(Arc::new(alloc, element)?),
         })
     }
 
@@ -97,18 +98,18 @@ impl Type {
         ensures { IfOk result (λ made. made ≡ dict key value) }
     {
         Ok(Type {
-            node: Node::Dict(key, Box::new(alloc, value)?),
+            node: Node::Dict(key, Arc::new(alloc, value)?),
         })
     }
 
     /// The structs of these fields.
-    pub fn structure(fields: Vec<Type>) -> Type
+    pub fn structure(alloc: Global, fields: Vec<Type>) -> Result<Type, NoMemory>
         requires { 0 < length fields.items }
-        ensures { result ≡ struct_of fields.items }
+        ensures { IfOk result (λ made. made ≡ struct_of fields.items) }
     {
-        Type {
-            node: Node::Struct(fields),
-        }
+        Ok(Type {
+            node: Node::Struct(Arc::new(alloc, fields)?),
+        })
     }
 
     /// What the type is made of.
@@ -150,7 +151,7 @@ impl Type {
             }
             Node::Struct(fields) => {
                 out.push(b'(')?;
-                for field in fields {
+                for field in fields.as_slice() {
                     field.push_text(out)?;
                 }
                 out.push(b')')?;
@@ -159,24 +160,17 @@ impl Type {
         }
     }
 
-    /// A copy.
-    pub fn copied(&self, alloc: Global) -> Result<Type, NoMemory>
-        ensures { IfOk result (λ copy. copy ≡ self.now) }
+    /// The same type, whose parts are shared with this one.
+    pub fn shared(&self) -> Result<Type, NoMemory>
+        ensures { IfOk result (λ same. same ≡ self.now) }
     {
-        match &self.node {
-            Node::Basic(kind) => Ok(Type::basic(*kind)),
-            Node::Variant => Ok(Type::variant()),
-            Node::Array(element) => Type::array(alloc, element.copied(alloc)?),
-            Node::Dict(key, value) => Type::dict(alloc, *key, value.copied(alloc)?),
-            Node::Struct(fields) => {
-                let mut copies = Vec::new(alloc);
-                for field in fields {
-                    copies.push(field.copied(alloc)?)?;
-                }
-                Ok(Type {
-                    node: Node::Struct(copies),
-                })
-            }
-        }
+        let node = match &self.node {
+            Node::Basic(kind) => Node::Basic(*kind),
+            Node::Variant => Node::Variant,
+            Node::Array(element) => Node::Array(element.clone()?),
+            Node::Dict(key, value) => Node::Dict(*key, value.clone()?),
+            Node::Struct(fields) => Node::Struct(fields.clone()?),
+        };
+        Ok(Type { node })
     }
 }

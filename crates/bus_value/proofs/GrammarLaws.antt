@@ -1,7 +1,8 @@
 -- The laws of the grammar.
-use Rattle.std.proofs.Common.{◌≡◌, ℕ, List, sym, ◌∙◌, Ok}
+use Rattle.std.proofs.Common.{◌≡◌, ℕ, List, sym, ◌∙◌, Ok, Err}
 use Rattle.bus_names.specs.Types.{Shape}
 use Rattle.bus_names.specs.Signatures.{IsWithin}
+use Rattle.bus_value.specs.declared.fault.ValueFault.TheVariants.{NoMemory}
 use Rattle.bus_value.specs.declared.order.Order.{Order}
 use Rattle.bus_value.specs.Values.{Val}
 use Rattle.bus_value.specs.Reading.{read_all}
@@ -34,3 +35,18 @@ all_read_so o start ts bytes vs h e = spelled_so o start ts vs bytes (all_values
 -- what is spelled is read
 pub read_so : (o : Order) (start : ℕ) (ts : List Shape) (vs : List Val) (bytes : List ℕ) → IsWithin ts → Spells o start ts vs bytes → read_all o start ts bytes ≡ Ok vs
 read_so o start ts vs bytes within h = all_values_spelled o start ts vs bytes within (computed o start ts vs bytes h)
+
+-- what holds of each reading
+pub record ReadingLaws (o : Order) (start : ℕ) (ts : List Shape) (bytes : List ℕ) : Type 0 where
+  pub ends : read_all o start ts bytes ≡ Err NoMemory → ⊥
+  pub sound : (vs : List Val) → read_all o start ts bytes ≡ Ok vs → Spells o start ts vs bytes
+  pub complete : (vs : List Val) → Spells o start ts vs bytes → read_all o start ts bytes ≡ Ok vs
+  pub unique : (vs ws : List Val) → Spells o start ts vs bytes → Spells o start ts ws bytes → vs ≡ ws
+
+pub reading_laws : (o : Order) (start : ℕ) (ts : List Shape) (bytes : List ℕ) → IsWithin ts → AreBytes bytes → ReadingLaws o start ts bytes
+reading_laws o start ts bytes within are = record {
+  ends = all_values_last o start ts bytes within are;
+  sound = λ vs e. all_read_so o start ts bytes vs are e;
+  complete = λ vs s. read_so o start ts vs bytes within s;
+  unique = λ vs ws s u. one_reading o start ts vs ws bytes within s u;
+}

@@ -7,6 +7,7 @@ pub mod Levels
 pub mod Rounds
 pub mod Nesting
 pub mod Containers
+pub mod PlainRows
 pub mod Wholes
 pub mod NumberLaws
 pub mod BasicSpelled
@@ -22,4 +23,6 @@ pub mod TypesHold
 pub mod Lasting
 pub mod LengthLaws
 pub mod GrammarLaws
+pub mod HeldLaws
+pub mod Letters
 pub mod TypedLaws

@@ -18,3 +18,22 @@ Reads (Err e) start bytes found = (e ≡ NoMemory) ⊎ (found ≡ Err e)
 abbrev pub Passes : Result ℕ ValueFault → ℕ → List ℕ → ℕ → ℕ → Result (Unit {0}) ValueFault → Type 0
 Passes (Ok next) start bytes at align found = (found ≡ Ok tt) × (next ≡ at + pad_size (start + at) align) × (next ≤ length bytes)
 Passes (Err e) start bytes at align found = found ≡ Err e
+
+-- Something was read that is not kept: what is known is that it is there, and the place behind it.
+pub record IsPassed {A : Type 0} (next start : ℕ) (bytes : List ℕ) (found : Answer A) : Type 0 where
+  pub value : A
+  pub was : found ≡ Ok (value, (start + next, drop next bytes))
+  pub within : next ≤ length bytes
+
+abbrev pub Checks : {A : Type 0} → Result ℕ ValueFault → ℕ → List ℕ → Answer A → Type 0
+Checks (Ok next) start bytes found = IsPassed next start bytes found
+Checks (Err e) start bytes found = (e ≡ NoMemory) ⊎ (found ≡ Err e)
+
+-- the same of all of some bytes
+pub record IsAccepted {A : Type 0} (found : Result A ValueFault) : Type 0 where
+  pub value : A
+  pub was : found ≡ Ok value
+
+abbrev pub Accepts : {A : Type 0} → Result (Unit {0}) ValueFault → Result A ValueFault → Type 0
+Accepts (Ok u) found = IsAccepted found
+Accepts (Err e) found = (e ≡ NoMemory) ⊎ (found ≡ Err e)

@@ -9,8 +9,10 @@ pub mod Alignment
 pub mod Limits
 pub mod Faults
 pub mod BasicReading
+pub mod Plain
 pub mod Reading
 pub mod Answers
+pub mod Held
 pub mod Opening
 pub mod Nesting
 pub mod Numbers

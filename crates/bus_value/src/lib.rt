@@ -11,6 +11,7 @@ mod order;
 mod reader;
 mod reading;
 mod value;
+mod values;
 mod writing;
 
 pub use basic_value::BasicValue;
@@ -20,6 +21,7 @@ pub use numbers::{pad_size, push_padding, push_u32, read_u32};
 pub use order::Order;
 pub use reading::read_values;
 pub use value::{Value, ValueKind};
+pub use values::{Values, signature_of};
 pub use writing::write_values;
 
 #[cfg(test)]

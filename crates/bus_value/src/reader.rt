@@ -11,6 +11,7 @@ use crate::order::Order;
 use std::alloc::Global;
 
 mod basic;
+mod checking;
 mod containers;
 
 /// A place in which values are read.

@@ -34,6 +34,7 @@ fn is_written(
 {
     let mut values = Items::new(alloc);
     values.push(value)?;
+    let values = Values::made(values);
     Ok(write_values(alloc, order, start, &values)?.as_slice() == bytes)
 }
 
@@ -62,7 +63,10 @@ fn read(
     bytes: &[u8],
 ) -> Result<Items<Value>, ValueFault> {
     match Signature::read(alloc, signature) {
-        Ok(types) => read_values(alloc, order, start, &types, bytes),
+        Ok(types) => {
+            let values = read_values(alloc, order, start, &types, bytes)?;
+            Ok(values.into_list(alloc)?)
+        }
         Err(_) => Err(ValueFault::NoMemory),
     }
 }

@@ -11,8 +11,26 @@ ghost use Rattle.bus_value.specs.Limits.{AllFit};
 
 use crate::order::Order;
 use crate::value::Value;
+use crate::values::Values;
 use login_base::{Bytes, Items, NoMemory};
 use std::alloc::Global;
+
+/// The bytes of each of the values, one behind the other.
+pub(crate) fn write_each(
+    alloc: Global,
+    order: Order,
+    start: usize,
+    values: &[Value],
+) -> Result<Bytes, NoMemory>
+    requires { AllFit order start (vals values.now) }
+    ensures { IfOk result (λ bytes. bytes ≡ spellings order start (vals values.now)) }
+{
+    let mut out = Vec::new(alloc);
+    for value in values {
+        value.push(alloc, &mut out, start, order)?;
+    }
+    Ok(Items::from_vec(out))
+}
 
 /// The bytes of the values, which are to stand from the offset `start` on. The condition is that texts,
 /// arrays and signatures are within the limits of the D-Bus Specification ("Marshaling (Wire Format)").
@@ -20,7 +38,7 @@ pub fn write_values(
     alloc: Global,
     order: Order,
     start: usize,
-    values: &Items<Value>,
+    values: &Values,
 ) -> Result<Bytes, NoMemory>
     requires { AllFit order start (vals values.now) }
     ensures value { IfOk result (λ bytes. bytes ≡ spellings order start (vals values.now)) }
@@ -30,9 +48,6 @@ pub fn write_values(
     ensures only { (ts : List Shape) (text : List ℕ) → Spells order start ts values.now text → IfOk result (λ bytes. bytes ≡ text) }
     ensures long { IfOk result (λ bytes. start + length bytes ≡ values_end start (vals values.now)) }
 {
-    let mut out = Vec::new(alloc);
-    for value in values.as_slice() {
-        value.push(alloc, &mut out, start, order)?;
-    }
-    Ok(Items::from_vec(out))
+    let bytes = values.written(alloc, order, start)?;
+    Ok(bytes)
 }

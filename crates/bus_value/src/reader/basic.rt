@@ -1,8 +1,10 @@
 // How values of basic types are read.
 
-ghost use Rattle.std.specs.Prelude.{◌≡◌, ◌≤◌, ◌<◌, ◌+◌, ◌-◌, length, drop, IfOk, IsTrue};
+ghost use Rattle.std.specs.Prelude.{◌≡◌, ◌≤◌, ◌<◌, ◌+◌, ◌-◌, length, drop, IfOk, IfSome, IsTrue};
 ghost use Rattle.std.specs.Str.{is_utf8};
-ghost use Rattle.bus_value.specs.Answers.{Gives, Reads};
+ghost use Rattle.bus_value.specs.Alignment.{IsAlignment};
+ghost use Rattle.bus_value.specs.Plain.{plain_size};
+ghost use Rattle.bus_value.specs.Answers.{Accepts, Checks, Gives, Reads};
 ghost use Rattle.bus_value.specs.BasicReading.{size, body_size, least, text_size, types_in, text_at, path_at, decoded, bool_by};
 ghost use Rattle.bus_value.specs.Texts.{has_no_zero, is_text};
 ghost use Rattle.bus_value.specs.Reading.{read_basic};
@@ -41,6 +43,20 @@ fn size(order: Order, kind: Basic, bytes: &[u8]) -> Option<usize>
             Some(count) => Some(*count as usize + 2),
             None => None,
         },
+    }
+}
+
+/// How many bytes each value of a type has, where any bytes spell one.
+pub fn plain_size(kind: Basic) -> Option<usize>
+    ensures value { result ≡ plain_size kind }
+    ensures valid { IfSome result (λ size. IsAlignment size) }
+{
+    match kind {
+        Basic::Byte => Some(1),
+        Basic::I16 | Basic::U16 => Some(2),
+        Basic::I32 | Basic::U32 | Basic::Handle => Some(4),
+        Basic::I64 | Basic::U64 | Basic::Double => Some(8),
+        Basic::Bool | Basic::Str | Basic::Path | Basic::Sig => None,
     }
 }
 
@@ -183,5 +199,80 @@ impl Reader {
         let end = first + self.body_size(kind, bytes, first)?;
         let value = self.decoded(kind, &bytes[first..end], first)?;
         Ok((value, end))
+    }
+
+    /// Whether these bytes are those of a text, with its length and the zero byte behind it.
+    #[tactic(auto, unfolding(crate::specs::BasicReading::text_at))]
+    fn check_text(self, body: &[u8], at: usize) -> Result<(), ValueFault>
+        requires { 5 ≤ length body.now }
+        ensures { Accepts result (text_at (self.start + at) body.now) }
+    {
+        let last = body.len() - 1;
+        if !is_text(&body[4..last]) || body[last] != 0 {
+            return Err(ValueFault::BadText(self.told(at)));
+        }
+        Ok(())
+    }
+
+    /// Whether these bytes are those of an object path, with its length and the zero byte behind it.
+    #[tactic(auto, unfolding(crate::specs::BasicReading::path_at))]
+    fn check_path(self, body: &[u8], at: usize) -> Result<(), ValueFault>
+        requires { 5 ≤ length body.now }
+        ensures { Accepts result (path_at (self.start + at) body.now) }
+    {
+        let last = body.len() - 1;
+        if body[last] != 0 || !ObjectPath::is_path(&body[4..last]) {
+            return Err(ValueFault::BadText(self.told(at)));
+        }
+        Ok(())
+    }
+
+    /// Whether these bytes are those of a boolean.
+    fn check_boolean(self, number: u32, at: usize) -> Result<(), ValueFault>
+        ensures { Accepts result (bool_by (self.start + at) number) }
+    {
+        if number > 1 {
+            return Err(ValueFault::BadBool(self.told(at)));
+        }
+        Ok(())
+    }
+
+    /// Whether these bytes are those of a value.
+    #[tactic(auto, unfolding(crate::specs::BasicReading::decoded))]
+    fn check_body(self, kind: Basic, body: &[u8], at: usize) -> Result<(), ValueFault>
+        requires { least kind ≤ length body.now }
+        ensures { Accepts result (decoded self.order kind (self.start + at) body.now) }
+    {
+        match kind {
+            Basic::Byte
+            | Basic::I16
+            | Basic::U16
+            | Basic::I32
+            | Basic::U32
+            | Basic::I64
+            | Basic::U64
+            | Basic::Double
+            | Basic::Handle => Ok(()),
+            Basic::Bool => self.check_boolean(read_u32(self.order, body), at),
+            Basic::Str => self.check_text(body, at),
+            Basic::Path => self.check_path(body, at),
+            Basic::Sig => {
+                let _types = self.types(body, at)?;
+                Ok(())
+            }
+        }
+    }
+
+    /// The place behind the value that stands here, behind its padding.
+    #[tactic(auto, unfolding(crate::specs::Reading::read_basic))]
+    pub fn check_basic(self, kind: Basic, bytes: &[u8], at: usize) -> Result<usize, ValueFault>
+        requires { at ≤ length bytes.now }
+        ensures value { Checks result self.start bytes.now (read_basic self.order self.array kind (self.start + at) (drop at bytes.now)) }
+        ensures more { IfOk result (λ next. at < next) }
+    {
+        let first = self.pass_padding(bytes, at, alignment(kind))?;
+        let end = first + self.body_size(kind, bytes, first)?;
+        self.check_body(kind, &bytes[first..end], first)?;
+        Ok(end)
     }
 }

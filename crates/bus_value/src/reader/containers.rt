@@ -48,10 +48,10 @@ fn nests_within(kind: &Type, room: usize) -> bool
 
 /// Where the elements of an array stand, and the place in it.
 #[derive(Clone, Copy)]
-struct Elements {
-    reader: Reader,
-    first: usize,
-    end: usize,
+pub struct Elements {
+    pub reader: Reader,
+    pub first: usize,
+    pub end: usize,
 }
 
 impl Reader {
@@ -84,7 +84,7 @@ impl Reader {
     }
 
     /// Opens the array that stands here, behind its padding.
-    fn open_array(self, bytes: &[u8], at: usize, align: usize) -> Result<Elements, ValueFault>
+    pub fn open_array(self, bytes: &[u8], at: usize, align: usize) -> Result<Elements, ValueFault>
         requires boundary { IsAlignment align }
         requires within { at ≤ length bytes.now }
         requires depth { self.depth < 2 ^ 32 }
@@ -101,7 +101,7 @@ impl Reader {
     }
 
     /// Whether a variant that stands here can have these types.
-    fn is_variant_type(self, kinds: &[Type]) -> bool
+    pub fn is_variant_type(self, kinds: &[Type]) -> bool
         ensures value { result ≡ is_variant_type self.depth kinds.now }
         ensures one { IsTrue result → length kinds.now ≡ 1 }
         ensures depth { IsTrue result → self.depth + 1 + nesting_all kinds.now ≤ 64 }
@@ -162,10 +162,7 @@ impl Reader {
         let elements = place
             .reader
             .elements(kind, &bytes[..place.end], place.first)?;
-        Ok((
-            Value::array(kind.copied(self.alloc)?, elements.into_vec()),
-            place.end,
-        ))
+        Ok((Value::array(kind.shared()?, elements.into_vec()), place.end))
     }
 
     /// The elements that stand from here to the end.
@@ -204,7 +201,7 @@ impl Reader {
             .reader
             .pairs(key, value, &bytes[..place.end], place.first)?;
         Ok((
-            Value::dict(key, value.copied(self.alloc)?, pairs.into_vec()),
+            Value::dict(key, value.shared()?, pairs.into_vec()),
             place.end,
         ))
     }

@@ -9,7 +9,7 @@ use Rattle.bus_names.specs.Parsing.{signature_of}
 use Rattle.bus_names.specs.Signatures.{IsWithin}
 use Rattle.bus_names.proofs.TypesFaults.{signature_read}
 use Rattle.bus_value.specs.Values.{Val, vals, shape, shapes}
-use Rattle.bus_message.proofs.Readings.{is_ok}
+use Rattle.bus_value.proofs.HeldLaws.{ok_is}
 
 text_push : (vs : List Val) (v : Val) → signature_text (shapes (vals (vs ++ v ∷ []))) ≡ signature_text (shapes (vals vs)) ++ text (shape v)
 text_push [] v = append-nil (text (shape v))
@@ -29,7 +29,7 @@ all_letters slice now vs n within so over is =
 
 pub letters_read : (slice now : List ℕ) (vs : List Val) (n : ℕ) → IsWithin (shapes (vals vs)) → now ≡ signature_text (shapes (vals (take n vs))) → length vs ≤ n → slice ≡ now
     → IsOk (signature_of slice)
-letters_read slice now vs n within so over is = is_ok _ _ (all_letters slice now vs n within so over is)
+letters_read slice now vs n within so over is = ok_is _ _ (all_letters slice now vs n within so over is)
 
 pub letters_same : (slice now : List ℕ) (vs : List Val) (n : ℕ) (r : Result (List Shape) NoMemory) → IsWithin (shapes (vals vs)) → now ≡ signature_text (shapes (vals (take n vs))) → length vs ≤ n → slice ≡ now
     → IfOk r (λ ts. signature_of slice ≡ Ok ts) → IfOk r (λ ts. ts ≡ shapes (vals vs))

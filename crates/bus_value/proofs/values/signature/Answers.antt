@@ -1,5 +1,5 @@
-use Rattle.bus_message.proofs.Letters.{letters_pushed, letters_read, letters_same}
-use Rattle.bus_message.proofs.encoding.signature.Goals as goal
+use Rattle.bus_value.proofs.Letters.{letters_pushed, letters_read, letters_same}
+use Rattle.bus_value.proofs.values.signature.Goals as goal
 
 pub loop-value-preserved : goal.loop-value-preserved
 loop-value-preserved c =
