@@ -74,7 +74,7 @@ filter-step : {A : Type 0} (b : Bool) (meets : A → Bool) (x : A) (ys zs : List
 filter-step {A} true meets x ys zs e = ap (λ (vs : List A). cond (meets x) (x ∷ vs) vs) e
 filter-step false meets x ys zs e = e
 
-filter-chosen : {A : Type 0} (there meets : A → Bool) (xs : List A) → filter (is_chosen there meets) xs ≡ filter meets (filter there xs)
+pub filter-chosen : {A : Type 0} (there meets : A → Bool) (xs : List A) → filter (is_chosen there meets) xs ≡ filter meets (filter there xs)
 filter-chosen there meets [] = refl
 filter-chosen there meets (x ∷ xs) = filter-step (there x) meets x (filter there xs) (filter (is_chosen there meets) xs) (filter-chosen there meets xs)
 

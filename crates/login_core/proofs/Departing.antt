@@ -23,6 +23,7 @@ use Rattle.login_core.specs.Leaving.{is_known, is_overdue}
 use Rattle.login_core.proofs.Among.{among, left-same}
 use Rattle.login_core.proofs.Frames.{Keeps, keeps-then, keeps-put, keeps-say, put-other}
 use Rattle.login_core.proofs.Going.{Tour, left, KeepsAbove}
+use Rattle.login_core.proofs.Chosen.{chosen, chosen-above}
 
 -- a user who is known leaves
 pub known-leaves : (U : Setup) (u : Uid) (f : Fact) (t : Trail) → is_known f ≡ true → leave_known U u f t ≡ leave U u t
@@ -110,5 +111,8 @@ keeps-forget u t =
     keeps-then T t a (forget u t) (keeps-put T (key.User u) fact.Absent t (λ k e. e)) (keeps-say T All (UserRemoved u) a)
 
 -- a user who is forgotten leaves those above alone
-pub forget-above : (U : Setup) (m : ℕ) → KeepsAbove (late U m) forget
-forget-above U m u w t l = ap (is_overdue_fact U m) ((keeps-forget u t).facts (key.User w) (other u w l))
+forgotten : (u w : Uid) (t : Trail) → user_lt u w ≡ true → value (forget u t) (key.User w) ≡ value t (key.User w)
+forgotten u w t l = (keeps-forget u t).facts (key.User w) (other u w l)
+
+pub forget-above : (U : Setup) (m : ℕ) → KeepsAbove (chosen all_users (is_overdue U m)) forget
+forget-above U m = chosen-above all_users (is_overdue U m) forget (λ u w t l. ap is_user_fact (forgotten u w t l)) (λ u w t l. ap (is_overdue_fact U m) (forgotten u w t l))

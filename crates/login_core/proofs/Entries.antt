@@ -14,9 +14,9 @@ use Rattle.login_model.specs.Policy.{verdict}
 use Rattle.login_model.specs.Legal.{after_all, trail_of, IsPlaced, IsLegal, IsLegalAfter, IsLegalEntry, stepped, answered}
 use Rattle.login_model.specs.Stopping.{is_stop, stop_from}
 use Rattle.login_model.proofs.JournalLaws.{length-after}
-use Rattle.login_core.specs.declared.machine.Machine.{Machine}
+use Rattle.login_core.specs.declared.board.Board.{Board}
 use Rattle.login_core.specs.Board.{trail}
-use Rattle.login_core.specs.Machine.{so_far, entry_of}
+use Rattle.login_core.specs.UnderWay.{so_far, entry_of}
 use Rattle.login_core.specs.State.{stop_next}
 use Rattle.login_core.proofs.Standing.{so_far-none, so_far-closed}
 
@@ -51,7 +51,7 @@ pub trail-closed : (U : Setup) (journal : List Entry) (e : Event) (v : Verdict) 
 trail-closed U journal e v a ms s = sym (so_far-none (journal ++ entry_of e v a ms ∷ [])) ∙ so_far-closed journal (entry_of e v a ms) ∙ s.marks_are
 
 -- a machine with no entry under way has the marks of its journal
-pub trail-is : (m : Machine) → m.marks.items ≡ [] → trail m ≡ trail_of m.journal.items
+pub trail-is : (m : Board) → m.marks.items ≡ [] → trail m ≡ trail_of m.journal.items
 trail-is m h = ap (so_far m.journal.items) h ∙ so_far-none m.journal.items
 
 pub length-closed : (journal : List Entry) (e : Entry) → length (journal ++ e ∷ []) ≡ length journal + 1

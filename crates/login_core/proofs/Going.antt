@@ -5,7 +5,7 @@ use Rattle.login_model.specs.Names.{IsNext}
 use Rattle.login_model.specs.Procedure.{each}
 use Rattle.login_model.proofs.Grows.{Grows, each-grows}
 use Rattle.login_model.proofs.InOrder.{Enumerates, rest, rest-none, rest-next, rest-stays}
-use Rattle.login_core.specs.declared.machine.Machine.{Machine}
+use Rattle.login_core.specs.declared.board.Board.{Board}
 use Rattle.login_core.specs.Board.{trail}
 
 -- the names of a kind that are there, which a list has
@@ -28,7 +28,7 @@ abbrev pub Adds : {A : Type 0} → (A → Trail → Trail) → Type 0
 Adds {A} f = (d : A) (t : Trail) → Grows t (f d t)
 
 -- f of those that are left, from now, is f of all, from the start
-pub record Going {A : Type 0} (k : Tour A) (f : A → Trail → Trail) (all : List A) (above : Option A) (start now : Machine) : Type 0 where
+pub record Going {A : Type 0} (k : Tour A) (f : A → Trail → Trail) (all : List A) (above : Option A) (start now : Board) : Type 0 where
   pub marked : each f (left k (trail now) above) (trail now) ≡ each f all (trail start)
   pub journal : now.journal ≡ start.journal
 
@@ -40,14 +40,14 @@ each-more : {A : Type 0} (f : A → Trail → Trail) (x : A) (xs : List A) (t : 
 unfolding each
 each-more f x xs t = refl
 
-pub going-start : {A : Type 0} (k : Tour A) (f : A → Trail → Trail) (all : List A) (m : Machine) → left k (trail m) None ≡ all → Going k f all None m m
+pub going-start : {A : Type 0} (k : Tour A) (f : A → Trail → Trail) (all : List A) (m : Board) → left k (trail m) None ≡ all → Going k f all None m m
 going-start {A} k f all m e = record {
   marked = ap (λ (xs : List A). each f xs (trail m)) e;
   journal = refl;
 }
 
 -- the first of those that are left, and the others, which are the same after f
-going-next : {A : Type 0} (k : Tour A) (f : A → Trail → Trail) (above : Option A) (d : A) (now next : Machine) → KeepsAbove k f → trail next ≡ f d (trail now) → IsNext k.lt (k.there (trail now)) above (Some d)
+going-next : {A : Type 0} (k : Tour A) (f : A → Trail → Trail) (above : Option A) (d : A) (now next : Board) → KeepsAbove k f → trail next ≡ f d (trail now) → IsNext k.lt (k.there (trail now)) above (Some d)
     → left k (trail now) above ≡ d ∷ left k (trail next) (Some d)
 going-next {A} k f above d now next keeps e n =
     let t = trail now in
@@ -60,14 +60,14 @@ going-next {A} k f above d now next keeps e n =
 more : {A : Type 0} (x : A) (xs ys : List A) → ys ≡ x ∷ xs → length ys ≡ length xs + 1
 more x xs ys e = ap length e ∙ sym (add-one (length xs))
 
-pub going-less : {A : Type 0} (k : Tour A) (f : A → Trail → Trail) (above : Option A) (d : A) (now next : Machine) → KeepsAbove k f → trail next ≡ f d (trail now) → IsNext k.lt (k.there (trail now)) above (Some d)
+pub going-less : {A : Type 0} (k : Tour A) (f : A → Trail → Trail) (above : Option A) (d : A) (now next : Board) → KeepsAbove k f → trail next ≡ f d (trail now) → IsNext k.lt (k.there (trail now)) above (Some d)
     → length (left k (trail next) (Some d)) < length (left k (trail now) above)
 going-less k f above d now next keeps e n =
     let m = more d (left k (trail next) (Some d)) (left k (trail now) above) (going-next k f above d now next keeps e n) in
     omega arith
 
 -- the next one's marks are among all
-pub going-room : {A : Type 0} (k : Tour A) (f : A → Trail → Trail) (all : List A) (above : Option A) (d : A) (start now : Machine) → Adds f → Going k f all above start now
+pub going-room : {A : Type 0} (k : Tour A) (f : A → Trail → Trail) (all : List A) (above : Option A) (d : A) (start now : Board) → Adds f → Going k f all above start now
     → IsNext k.lt (k.there (trail now)) above (Some d) → length (each f all (trail start)) ≤ start.journal.reach → length (f d (trail now)) ≤ now.journal.reach
 going-room {A} k f all above d start now grows g n h =
     let t = trail now in
@@ -79,7 +79,7 @@ going-room {A} k f all above d start now grows g n h =
     let j = ap (λ l. l.reach) g.journal in
     omega arith
 
-pub going-step : {A : Type 0} (k : Tour A) (f : A → Trail → Trail) (all : List A) (above : Option A) (d : A) (start now next : Machine) → KeepsAbove k f → Going k f all above start now
+pub going-step : {A : Type 0} (k : Tour A) (f : A → Trail → Trail) (all : List A) (above : Option A) (d : A) (start now next : Board) → KeepsAbove k f → Going k f all above start now
     → trail next ≡ f d (trail now) → next.journal ≡ now.journal → IsNext k.lt (k.there (trail now)) above (Some d)
     → Going k f all (Some d) start next
 going-step {A} k f all above d start now next keeps g e j n =
@@ -91,11 +91,11 @@ going-step {A} k f all above d start now next keeps g e j n =
     }
 
 -- at the end none is left
-pub record Gone {A : Type 0} (f : A → Trail → Trail) (all : List A) (start now : Machine) : Type 0 where
+pub record Gone {A : Type 0} (f : A → Trail → Trail) (all : List A) (start now : Board) : Type 0 where
   pub marked : trail now ≡ each f all (trail start)
   pub journal : now.journal ≡ start.journal
 
-pub going-end : {A : Type 0} (k : Tour A) (f : A → Trail → Trail) (all : List A) (above : Option A) (start now : Machine) → Going k f all above start now → IsNext k.lt (k.there (trail now)) above None
+pub going-end : {A : Type 0} (k : Tour A) (f : A → Trail → Trail) (all : List A) (above : Option A) (start now : Board) → Going k f all above start now → IsNext k.lt (k.there (trail now)) above None
     → Gone f all start now
 going-end {A} k f all above start now g n =
     let t = trail now in

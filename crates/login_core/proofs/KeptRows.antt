@@ -2,8 +2,8 @@
 use Rattle.std.proofs.Common.{◌≡◌, ℕ, zero, suc, ◌==◌, ◌+◌, Bool, true, false, not, cond, nat_lt, Option, Some, None, List, [], ◌∷◌, ◌++◌, length, refl, ap, sym, ◌∙◌, arith, slice_index_or, position}
 use Rattle.std.specs.List.{position_or_len, remove}
 use Rattle.login_base.specs.declared.ids.SessId.{SessId}
-use Rattle.login_core.specs.declared.copies.Copies.{Copies}
-use Rattle.login_core.specs.declared.kept.KeptRow.{KeptRow}
+use Rattle.login_core.specs.declared.room.copies.Copies.{Copies}
+use Rattle.login_core.specs.declared.room.kept.KeptRow.{KeptRow}
 use Rattle.login_core.specs.Kept.{is_row_of, copies_in}
 
 pub copies-none : (s : SessId) → copies_in [] s ≡ None

@@ -7,6 +7,7 @@ pub mod Going
 pub mod Growing
 pub mod Devices
 pub mod Chosen
+pub mod Rounds
 pub mod Sessions
 pub mod Closed
 pub mod ClosedHandles
@@ -21,7 +22,6 @@ pub mod Among
 pub mod Departing
 pub mod Appearing
 pub mod TextsEnd
-pub mod Such
 pub mod ShutLaws
 pub mod NearestPlace
 pub mod SeatPlaces
@@ -31,6 +31,7 @@ pub mod Filling
 pub mod TextsClose
 pub mod GrantedLaws
 pub mod Entries
+pub mod Judged
 pub mod Keeping
 pub mod Stepping
 pub mod Starting

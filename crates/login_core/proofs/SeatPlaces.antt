@@ -12,18 +12,10 @@ use Rattle.login_model.proofs.Keys.{same-bytes}
 use Rattle.login_model.proofs.InOrder.{IsIn, Ascending, in-insert, insert-keeps, insert-came, insert-ascending, filter-ascending, rest-all, rest-next, rest-none, sessions-enumerated}
 use Rattle.login_core.specs.declared.turning.Way.{Way}
 use Rattle.login_core.specs.Places.{is_before, behind, is_open_on, number_of, place_of, places, nearer_place, nearer_open}
-use Rattle.login_core.proofs.Going.{Tour, left}
+use Rattle.login_core.proofs.Going.{left}
+use Rattle.login_core.proofs.Sessions.{all_sessions}
 use Rattle.login_model.proofs.NameLaws.{number_order}
 use Rattle.login_core.proofs.NearestPlace.{IsNearest, nearer-nearest, nearest-behind}
-
--- the sessions
-abbrev pub all_sessions : Tour SessId
-all_sessions = record {
-  lt = session_lt;
-  there = λ t. is_session t;
-  list = λ t. names session_lt session_in t;
-  whole = sessions-enumerated;
-}
 
 -- the nearest place of these sessions and the best so far
 abbrev pub nearest_of : Way → Trail → List ℕ → Option ℕ → List SessId → Option ℕ → Option ℕ

@@ -17,21 +17,22 @@ use Rattle.login_model.specs.Start.{seat0}
 use Rattle.login_model.specs.Trail.{Trail, value, put}
 use Rattle.login_model.specs.Fresh.{is_open_fact}
 use Rattle.login_model.specs.Names.{session_lt}
-use Rattle.login_model.specs.Where.{is_session_fact, is_active, is_open, is_user_in, seat_in_fact, is_this_seat, is_on_seat, seat_of_session}
+use Rattle.login_model.specs.Where.{is_session_fact, is_active, is_open, sessions, open_sessions, is_user_in, seat_in_fact, is_this_seat, is_on_seat, seat_of_session}
 use Rattle.login_model.specs.Devices.{taken_devices}
 use Rattle.login_model.specs.Procedure.{each, if_some, no, kill, untake, release, in_phase, set_phase, vacate, leave_seat, shut}
-use Rattle.login_model.specs.Direct.{is_fifo_of, fifo_of}
+use Rattle.login_model.specs.Direct.{is_fifo_of, fifo_of, kept_open_by}
 use Rattle.login_model.proofs.Keys.{test, same-number}
 use Rattle.login_model.proofs.Values.{upd-same, value-put}
 use Rattle.login_model.proofs.SessionSteps.{closing-not-open}
-use Rattle.login_core.specs.declared.copies.Copies.{Copies}
-use Rattle.login_core.specs.declared.kept.KeptRow.{KeptRow}
+use Rattle.login_core.specs.declared.room.copies.Copies.{Copies}
+use Rattle.login_core.specs.declared.room.kept.KeptRow.{KeptRow}
 use Rattle.login_core.specs.Texts.{AreSome}
 use Rattle.login_core.specs.Kept.{copies_in, AreKept}
-use Rattle.login_core.specs.Ending.{StaysAbove, is_kept_open_by}
+use Rattle.login_core.specs.Ending.{StaysAbove, sessions_such, is_kept_open_by}
 use Rattle.login_core.proofs.Frames.{Keeps, Covers, keeps-all, keeps-then, keeps-say, keeps-put, keeps-if, keeps-each}
 use Rattle.login_core.proofs.Going.{KeepsAbove}
-use Rattle.login_core.proofs.Such.{such}
+use Rattle.login_core.proofs.Chosen.{filter-chosen}
+use Rattle.login_core.proofs.Sessions.{sessions_that}
 
 -- what is touched where a session is shut
 abbrev pub of_shut : SessId → Key → Bool
@@ -123,7 +124,7 @@ shut-above : (s r : SessId) (t : Trail) → session_lt s r ≡ true → value (s
 shut-above s r t l = shut-other s r t (above-other s r l)
 
 -- a session that is shut leaves those above it alone
-pub shut-keeps-above : (meets : Trail → SessId → Bool) → StaysAbove meets → KeepsAbove (such meets) shut
+pub shut-keeps-above : (meets : Trail → SessId → Bool) → StaysAbove meets → KeepsAbove (sessions_that meets) shut
 shut-keeps-above meets stays s r t l = ap (λ (b : Bool). b && meets (shut s t) r) (ap is_session_fact (shut-above s r t l)) ∙ ap (λ (b : Bool). is_session_fact (value t (key.Sess r)) && b) (stays s r t l)
 
 pub user-stays : (n : ℕ) → StaysAbove (λ t s. is_user_in n (value t (key.Sess s)))
@@ -137,6 +138,11 @@ fifo-stays c s r t l =
     let u = shut s t in
     ap (λ (f : Fact). is_open_fact f && is_fifo_of c (value u (key.Owner (fifo_of f)))) (shut-above s r t l)
     ∙ ap (λ (g : Fact). is_open t r && is_fifo_of c g) ((keeps-shut s t).facts (key.Owner (fifo_of (value t (key.Sess r)))) refl)
+
+-- the sessions that a connection keeps open
+pub kept-list : (c : ConnId) (t : Trail) → sessions_such (is_kept_open_by c) t ≡ kept_open_by t c
+unfolding kept_open_by open_sessions
+kept-list c t = filter-chosen (is_open t) (λ s. is_fifo_of c (value t (key.Owner (fifo_of (value t (key.Sess s)))))) (sessions t)
 
 -- nothing but active sessions
 abbrev pub of_active : Key → Bool

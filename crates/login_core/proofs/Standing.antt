@@ -19,7 +19,7 @@ use Rattle.users_linger.specs.Own.{is_user_key}
 use Rattle.sessions.specs.Own.{is_session_key}
 use Rattle.seats_vts.specs.Own.{is_seat_key}
 use Rattle.login_core.specs.Facts.{Tables, TablesStand, StandFor, is_take_key, is_other_key, opens, gives}
-use Rattle.login_core.specs.Machine.{so_far}
+use Rattle.login_core.specs.UnderWay.{so_far}
 use Rattle.login_core.proofs.Counting.{sessions-set, handles-set, sessions-say, handles-say}
 
 value-say : (k : Key) (w : Whom) (n : Notice) (t : Trail) → value (Say w n ∷ t) k ≡ value t k

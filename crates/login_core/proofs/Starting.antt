@@ -13,8 +13,8 @@ use Rattle.login_model.specs.declared.mark.Entry.{Entry}
 use Rattle.login_model.specs.declared.setup.Setup.{Setup}
 use Rattle.login_core.specs.Inside.{IsCore}
 use Rattle.login_core.specs.Kept.{HaveTexts, copies_in}
-use Rattle.login_core.specs.declared.machine.Machine.{Machine}
-use Rattle.login_core.specs.declared.texts.Texts.{Texts}
+use Rattle.login_core.specs.declared.board.Board.{Board}
+use Rattle.login_core.specs.declared.room.texts.Texts.{Texts}
 
 no-connections : length (connections []) ≡ 0
 unfolding connections names
@@ -34,7 +34,7 @@ no-texts x a b = record {
   gone = record { kept = λ s e. absurd (false-true e); made = λ s e. b s };
 }
 
-pub core-new : (U : Setup) (m : Machine) (x : Texts) → IsSetup U → m.journal.items ≡ [] → m.marks.items ≡ [] → 1 ≤ m.journal.entries → ((s : SessId) → copies_in x.closing.items s ≡ None) → ((s : SessId) → copies_in x.gone.items s ≡ None)
+pub core-new : (U : Setup) (m : Board) (x : Texts) → IsSetup U → m.journal.items ≡ [] → m.marks.items ≡ [] → 1 ≤ m.journal.entries → ((s : SessId) → copies_in x.closing.items s ≡ None) → ((s : SessId) → copies_in x.gone.items s ≡ None)
     → IsCore U m x None
 core-new U m x u j k n a b =
     let P : List Entry → Type 0 = IsLegal U in

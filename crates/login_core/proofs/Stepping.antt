@@ -24,19 +24,20 @@ use Rattle.login_model.proofs.RoomLaws.{room}
 use Rattle.login_core.specs.Fullness.{always_fits}
 use Rattle.login_core.specs.Inside.{IsCore, stop_need}
 use Rattle.login_core.specs.Kept.{AreReady, HaveTexts}
-use Rattle.login_core.specs.Machine.{entry_of}
+use Rattle.login_core.specs.UnderWay.{entry_of}
 use Rattle.login_core.specs.State.{CoreState, IsReady, IsRoomFor, answer_next, stop_next}
-use Rattle.login_core.specs.declared.machine.Machine.{Machine}
-use Rattle.login_core.specs.declared.texts.Texts.{Texts}
+use Rattle.login_core.specs.declared.board.Board.{Board}
+use Rattle.login_core.specs.declared.room.ready.Ready.{Ready}
+use Rattle.login_core.specs.declared.room.texts.Texts.{Texts}
 use Rattle.login_core.proofs.Entries.{Steps, legal-closed, length-closed, marks-counted, stop-closed, trail-closed}
 use Rattle.login_core.proofs.Keeping.{Kept, Made, kept-disconnect, kept-other, kept-stop, small}
 
 -- what a core of these parts is seen as
-abbrev pub seen : Setup → Machine → Texts → Answer → CoreState
-seen U m x a = record { setup = U; journal = m.journal.items; entries = m.journal.entries; reach = m.journal.reach; texts = x; answer = a }
+abbrev pub seen : Setup → Board → Texts → Ready → CoreState
+seen U m x a = record { setup = U; journal = m.journal.items; entries = m.journal.entries; reach = m.journal.reach; texts = x; ready = a }
 
 -- what is so where an event is stepped
-pub record Stepping (U : Setup) (m : Machine) (x : Texts) (a : Answer) (stop : Option ℕ) (e : Event) (v : Verdict) : Type 0 where
+pub record Stepping (U : Setup) (m : Board) (x : Texts) (a : Ready) (stop : Option ℕ) (e : Event) (v : Verdict) : Type 0 where
   pub core : IsCore U m x stop
   pub placed : IsPlaced m.journal.items e
   pub ready : IsReady (seen U m x a) e
@@ -53,10 +54,10 @@ stop-before es (Disconnect c) n = absurd (n tt)
 stop-before es _ n = refl
 
 -- the stop was not stepped before an event that is no disconnect
-no-stop : (U : Setup) (m : Machine) (x : Texts) (stop : Option ℕ) (e : Event) → IsCore U m x stop → IsPlaced m.journal.items e → (IsDisconnect e → ⊥) → stop ≡ None
+no-stop : (U : Setup) (m : Board) (x : Texts) (stop : Option ℕ) (e : Event) → IsCore U m x stop → IsPlaced m.journal.items e → (IsDisconnect e → ⊥) → stop ≡ None
 no-stop U m x stop e k p n = k.stop_is ∙ stop-before m.journal.items e n ∙ p.1
 
-made : (U : Setup) (m : Machine) (x : Texts) (a : Answer) (e : Event) (last : ℕ) → always_fits e ≡ false → m.journal.entries ≡ last + 1 → IsRoomFor (seen U m x a) e → Made U (last + 1) m.journal.reach (length m.journal.items) (trail_of m.journal.items) e
+made : (U : Setup) (m : Board) (x : Texts) (a : Ready) (e : Event) (last : ℕ) → always_fits e ≡ false → m.journal.entries ≡ last + 1 → IsRoomFor (seen U m x a) e → Made U (last + 1) m.journal.reach (length m.journal.items) (trail_of m.journal.items) e
 made U m x a e last f l r =
     let t = trail_of m.journal.items in
     let s = small U m.journal.items e f r.small in
@@ -72,16 +73,16 @@ made U m x a e last f l r =
       few_marks = omega arith;
     }
 
-kept-core : (U : Setup) (m : Machine) (x : Texts) (stop : Option ℕ) (last : ℕ) → m.journal.entries ≡ last + 1 → IsCore U m x stop → Kept (last + 1) m.journal.reach (length m.journal.items) stop (trail_of m.journal.items)
+kept-core : (U : Setup) (m : Board) (x : Texts) (stop : Option ℕ) (last : ℕ) → m.journal.entries ≡ last + 1 → IsCore U m x stop → Kept (last + 1) m.journal.reach (length m.journal.items) stop (trail_of m.journal.items)
 kept-core U m x stop last l k =
     let a = k.entries in
     record { entries_kept = omega arith; reach_kept = k.reach; few_entries = k.few_entries; few_marks = k.few_marks }
 
-has-other : (U : Setup) (m : Machine) (x : Texts) (a : Answer) (e : Event) → IsRoomFor (seen U m x a) e → 0 < m.journal.entries
+has-other : (U : Setup) (m : Board) (x : Texts) (a : Ready) (e : Event) → IsRoomFor (seen U m x a) e → 0 < m.journal.entries
 has-other U m x a e r = let n = r.entries in omega arith
 
 -- there is room for the entry
-pub has-entry : (U : Setup) (m : Machine) (x : Texts) (a : Answer) (stop : Option ℕ) (e : Event) (v : Verdict) → Stepping U m x a stop e v → 0 < m.journal.entries
+pub has-entry : (U : Setup) (m : Board) (x : Texts) (a : Ready) (stop : Option ℕ) (e : Event) (v : Verdict) → Stepping U m x a stop e v → 0 < m.journal.entries
 has-entry U m x a stop (Connect c u) v s = has-other U m x a (Connect c u) s.ready
 has-entry U m x a stop (Calls r) v s = has-other U m x a (Calls r) s.ready
 has-entry U m x a stop (Happens y) v s = has-other U m x a (Happens y) s.ready
@@ -95,7 +96,7 @@ has-entry U m x a stop Stop v s =
     let h = s.core.entries in
     omega arith
 
-other-step : (U : Setup) (m : Machine) (x : Texts) (a : Answer) (stop : Option ℕ) (e : Event) (v : Verdict) (last : ℕ) → (IsDisconnect e → ⊥) → always_fits e ≡ false → is_stop e ≡ false → m.journal.entries ≡ last + 1
+other-step : (U : Setup) (m : Board) (x : Texts) (a : Ready) (stop : Option ℕ) (e : Event) (v : Verdict) (last : ℕ) → (IsDisconnect e → ⊥) → always_fits e ≡ false → is_stop e ≡ false → m.journal.entries ≡ last + 1
     → IsRoomFor (seen U m x a) e → Stepping U m x a stop e v → Kept last m.journal.reach (length m.journal.items + 1) (stop_next stop e (length m.journal.items + 1)) (stepped U v e (trail_of m.journal.items))
 other-step U m x a stop e v last n f i l r s =
     let t = trail_of m.journal.items in
@@ -105,7 +106,7 @@ other-step U m x a stop e v last n f i l r s =
     subst P (sym (ap (λ (o : Option ℕ). stop_next o e (length m.journal.items + 1)) none ∙ ap (λ (b : Bool). cond b (Some (length m.journal.items + 1)) None) i)) k
 
 -- room is kept for all ends
-pub kept-step : (U : Setup) (m : Machine) (x : Texts) (a : Answer) (stop : Option ℕ) (e : Event) (v : Verdict) (last : ℕ) → m.journal.entries ≡ last + 1 → Stepping U m x a stop e v
+pub kept-step : (U : Setup) (m : Board) (x : Texts) (a : Ready) (stop : Option ℕ) (e : Event) (v : Verdict) (last : ℕ) → m.journal.entries ≡ last + 1 → Stepping U m x a stop e v
     → Kept last m.journal.reach (length m.journal.items + 1) (stop_next stop e (length m.journal.items + 1)) (stepped U v e (trail_of m.journal.items))
 kept-step U m x a stop (Connect c u) v last l s = other-step U m x a stop (Connect c u) v last (λ z. z) refl refl l s.ready s
 kept-step U m x a stop (Calls r) v last l s = other-step U m x a stop (Calls r) v last (λ z. z) refl refl l s.ready s
@@ -137,7 +138,7 @@ ready-texts c (Disconnect b) r = tt
 ready-texts c Stop r = tt
 
 -- the marks stay within the reach
-pub stays-within : (U : Setup) (m : Machine) (x : Texts) (a : Answer) (stop : Option ℕ) (e : Event) (v : Verdict) → Stepping U m x a stop e v → length (stepped U v e (trail_of m.journal.items)) ≤ m.journal.reach
+pub stays-within : (U : Setup) (m : Board) (x : Texts) (a : Ready) (stop : Option ℕ) (e : Event) (v : Verdict) → Stepping U m x a stop e v → length (stepped U v e (trail_of m.journal.items)) ≤ m.journal.reach
 stays-within U m x a stop e v s =
     let has = has-entry U m x a stop e v s in
     let k = kept-step U m x a stop e v (m.journal.entries - 1) (omega arith) s in
@@ -154,11 +155,11 @@ unfolding answer
 stop-answer U t Granted = refl
 stop-answer U t (Denied r) = refl
 
-other-answer : (U : Setup) (m : Machine) (x : Texts) (a : Answer) (stop : Option ℕ) (e : Event) (v : Verdict) → IsRoomFor (seen U m x a) e → Stepping U m x a stop e v → a ≡ answered U v e (trail_of m.journal.items)
+other-answer : (U : Setup) (m : Board) (x : Texts) (a : Ready) (stop : Option ℕ) (e : Event) (v : Verdict) → IsRoomFor (seen U m x a) e → Stepping U m x a stop e v → a.answer ≡ answered U v e (trail_of m.journal.items)
 other-answer U m x a stop e v r s = r.answer ∙ ap (λ (w : Verdict). answered U w e (trail_of m.journal.items)) (sym s.verdict_is)
 
 -- the answer that was made ready is the event's
-pub answered-next : (U : Setup) (m : Machine) (x : Texts) (a : Answer) (stop : Option ℕ) (e : Event) (v : Verdict) → Stepping U m x a stop e v → answer_next e a ≡ answered U v e (trail_of m.journal.items)
+pub answered-next : (U : Setup) (m : Board) (x : Texts) (a : Ready) (stop : Option ℕ) (e : Event) (v : Verdict) → Stepping U m x a stop e v → answer_next e a.answer ≡ answered U v e (trail_of m.journal.items)
 answered-next U m x a stop (Connect c u) v s = other-answer U m x a stop (Connect c u) v s.ready s
 answered-next U m x a stop (Calls r) v s = other-answer U m x a stop (Calls r) v s.ready s
 answered-next U m x a stop (Happens y) v s = other-answer U m x a stop (Happens y) v s.ready s
@@ -166,8 +167,8 @@ answered-next U m x a stop (Tick n) v s = other-answer U m x a stop (Tick n) v s
 answered-next U m x a stop (Disconnect c) v s = disconnect-answer U c (trail_of m.journal.items) v
 answered-next U m x a stop Stop v s = stop-answer U (trail_of m.journal.items) v
 
--- the machine after the entry is closed is one of a core again
-pub core-closed : (U : Setup) (m n : Machine) (x y : Texts) (a b : Answer) (stop next : Option ℕ) (e : Event) (v : Verdict) (ms : List Mark) → Stepping U m x a stop e v → Steps U m.journal.items e v b ms
+-- the board after the entry is closed is one of a core again
+pub core-closed : (U : Setup) (m n : Board) (x y : Texts) (a : Ready) (b : Answer) (stop next : Option ℕ) (e : Event) (v : Verdict) (ms : List Mark) → Stepping U m x a stop e v → Steps U m.journal.items e v b ms
     → n.journal.items ≡ m.journal.items ++ entry_of e v b ms ∷ [] → n.marks.items ≡ [] → n.journal.entries + 1 ≡ m.journal.entries → n.journal.reach ≡ m.journal.reach
     → next ≡ stop_next stop e (length m.journal.items + 1) → HaveTexts y (stepped U v e (trail_of m.journal.items)) → IsCore U n y next
 core-closed U m n x y a b stop next e v ms s w j k l r o h =

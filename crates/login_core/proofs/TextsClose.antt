@@ -13,7 +13,7 @@ use Rattle.login_model.proofs.Carried.{close-carried}
 use Rattle.login_model.proofs.Tame.{Tame, tame}
 use Rattle.login_core.specs.Calls.{fifo_session}
 use Rattle.login_core.specs.Kept.{AreClosing, copies_in}
-use Rattle.login_core.specs.declared.kept.KeptRow.{KeptRow}
+use Rattle.login_core.specs.declared.room.kept.KeptRow.{KeptRow}
 use Rattle.login_core.proofs.ShutLaws.{kept-shut}
 use Rattle.login_core.proofs.TextsEnd.{OthersStay}
 use Rattle.login_core.proofs.TextsKept.{closing-later}

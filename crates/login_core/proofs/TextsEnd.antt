@@ -18,9 +18,9 @@ use Rattle.login_model.proofs.Carried.{ends-carried, exit-carried, leave-carried
 use Rattle.login_model.proofs.Keys.{same-session}
 use Rattle.login_model.proofs.Tame.{Tame, later-along, later-trans, open-here, other, tame}
 use Rattle.login_model.proofs.Values.{same-refl, value-put, values-say, Facts}
-use Rattle.login_core.specs.declared.copies.Copies.{Copies}
-use Rattle.login_core.specs.declared.kept.KeptRow.{KeptRow}
-use Rattle.login_core.specs.declared.texts.Texts.{Texts}
+use Rattle.login_core.specs.declared.room.copies.Copies.{Copies}
+use Rattle.login_core.specs.declared.room.kept.KeptRow.{KeptRow}
+use Rattle.login_core.specs.declared.room.texts.Texts.{Texts}
 use Rattle.login_core.specs.Kept.{AreMade, HaveTexts, copies_in}
 use Rattle.login_core.specs.Texts.{AreSome}
 use Rattle.login_core.proofs.TextsKept.{AllLater, some-along}

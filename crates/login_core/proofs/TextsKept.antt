@@ -13,9 +13,9 @@ use Rattle.login_model.proofs.Comings.{Comes}
 use Rattle.login_model.proofs.Keys.{same-session}
 use Rattle.login_model.proofs.Tame.{Later}
 use Rattle.login_model.proofs.Values.{same-refl}
-use Rattle.login_core.specs.declared.copies.Copies.{Copies}
-use Rattle.login_core.specs.declared.kept.KeptRow.{KeptRow}
-use Rattle.login_core.specs.declared.texts.Texts.{Texts}
+use Rattle.login_core.specs.declared.room.copies.Copies.{Copies}
+use Rattle.login_core.specs.declared.room.kept.KeptRow.{KeptRow}
+use Rattle.login_core.specs.declared.room.texts.Texts.{Texts}
 use Rattle.login_core.specs.Kept.{AreMade, AreClosing, AreGoing, AreOf, HaveTexts, copies_in}
 use Rattle.login_core.specs.Texts.{AreSome, HasTexts, session_texts}
 

@@ -1,14 +1,14 @@
--- What a machine has.
+-- What a board has.
 use Rattle.std.specs.Prelude.{◌∷◌}
 use Rattle.login_model.specs.declared.mark.Mark.TheVariants.{Say}
 use Rattle.login_model.specs.declared.mark.Whom.{Whom}
 use Rattle.login_model.specs.declared.mark.Notice.{Notice}
 use Rattle.login_model.specs.Trail.{Trail}
-use Rattle.login_core.specs.declared.machine.Machine.{Machine}
-use Rattle.login_core.specs.Machine.{so_far}
+use Rattle.login_core.specs.declared.board.Board.{Board}
+use Rattle.login_core.specs.UnderWay.{so_far}
 
 -- the marks so far, the newest first
-abbrev pub trail : Machine → Trail
+abbrev pub trail : Board → Trail
 trail m = so_far m.journal.items m.marks.items
 
 -- a notice to these

@@ -1,16 +1,20 @@
 -- Which calls touch the texts of sessions, and which name a seat.
 use Rattle.std.specs.Prelude.{◌≡◌, true, Option, Some, None, IfSome}
 use Rattle.login_base.specs.Seat.{is_seat_name}
+use Rattle.login_base.specs.declared.ids.ConnId.{ConnId}
 use Rattle.login_base.specs.declared.ids.SessId.{SessId}
 use Rattle.login_model.specs.declared.call.Call.{Call}
-use Rattle.login_model.specs.declared.call.Call.TheVariants.{Create, Terminate, TerminateUser, TerminateSeat, Close, SwitchToNext, SwitchToPrevious}
+use Rattle.login_model.specs.declared.call.Call.TheVariants.{Create, Activate, ActivateOnSeat, Lock, Unlock, Kill, Terminate, TerminateUser, TerminateSeat, SetIdle, SetLocked, Control, Uncontrol, Close, SwitchToNext, SwitchToPrevious}
 use Rattle.login_base.specs.SessionId.{session_of}
-use Rattle.login_model.specs.Trail.{Trail}
+use Rattle.login_model.specs.Trail.{Trail, put}
 use Rattle.login_model.specs.Where.{is_session}
+use Rattle.login_model.specs.Procedure.{release}
+use Rattle.login_model.specs.Direct.{whom_of, activate, lock_session, unlock_session, control}
+use Rattle.login_model.specs.declared.fact.Key.TheVariants.{Sig, Idle, Locked}
 use Rattle.login_model.specs.declared.hardware.Hardware.{Hardware}
 use Rattle.login_model.specs.declared.hardware.Hardware.TheVariants.{Exit}
 use Rattle.login_model.specs.declared.fact.Fact.{Fact}
-use Rattle.login_model.specs.declared.fact.Fact.TheVariants.{Owned}
+use Rattle.login_model.specs.declared.fact.Fact.TheVariants.{Owned, Signal, Flag}
 use Rattle.login_model.specs.declared.fact.Owner.TheVariants.{Fifo}
 
 -- no session is created by the call, and none closes
@@ -28,6 +32,32 @@ NamesSeat (TerminateSeat seat) = is_seat_name seat ≡ true
 NamesSeat (SwitchToNext seat) = is_seat_name seat ≡ true
 NamesSeat (SwitchToPrevious seat) = is_seat_name seat ≡ true
 NamesSeat _ = Unit {0}
+
+-- the session that a plain call names by its id
+abbrev pub session_in : Call → Option SessId
+session_in (Activate id) = session_of id
+session_in (ActivateOnSeat id seat) = session_of id
+session_in (Lock id) = session_of id
+session_in (Unlock id) = session_of id
+session_in (Kill id whom signal) = session_of id
+session_in (SetIdle id on) = session_of id
+session_in (SetLocked id on) = session_of id
+session_in (Control id force) = session_of id
+session_in (Uncontrol id) = session_of id
+session_in _ = None
+
+-- what such a call does to it
+abbrev pub call_on : ConnId → Call → SessId → Trail → Trail
+call_on who (Activate id) s t = activate s t
+call_on who (ActivateOnSeat id seat) s t = activate s t
+call_on who (Lock id) s t = lock_session s t
+call_on who (Unlock id) s t = unlock_session s t
+call_on who (Kill id whom signal) s t = put (Sig s) (Signal (whom_of whom) signal) t
+call_on who (SetIdle id on) s t = put (Idle s) (Flag on) t
+call_on who (SetLocked id on) s t = put (Locked s) (Flag on) t
+call_on who (Control id force) s t = control who s t
+call_on who (Uncontrol id) s t = release s t
+call_on who _ s t = t
 
 -- what exits is a session that is not gone
 abbrev pub ExitsHere : Trail → Hardware → Type 0

@@ -9,10 +9,6 @@ use Rattle.login_model.specs.Where.{is_session, is_open, sessions}
 use Rattle.login_model.specs.Procedure.{shut}
 use Rattle.login_model.specs.Direct.{is_fifo_of, fifo_of}
 
--- whether a session is not gone, and meets a test
-abbrev pub is_such : (Trail → SessId → Bool) → Trail → SessId → Bool
-is_such meets t s = is_session t s && meets t s
-
 -- the sessions that are not gone, and meet a test, in order
 abbrev pub sessions_such : (Trail → SessId → Bool) → Trail → List SessId
 sessions_such meets t = filter (meets t) (sessions t)

@@ -7,7 +7,7 @@ use Rattle.login_model.specs.declared.fact.Owner.{Owner}
 use Rattle.login_model.specs.declared.fact.Owner.TheVariants.{Fifo}
 use Rattle.login_model.specs.Trail.{Trail, value}
 use Rattle.login_model.specs.Where.{is_open}
-use Rattle.login_core.specs.declared.copies.Copies.{Copies}
+use Rattle.login_core.specs.declared.room.copies.Copies.{Copies}
 use Rattle.login_core.specs.Texts.{AreSome}
 
 -- the owner that a fact tells

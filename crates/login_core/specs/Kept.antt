@@ -10,10 +10,10 @@ use Rattle.login_model.specs.declared.fact.Key.TheVariants.{Sess}
 use Rattle.login_model.specs.MadeWith.{texts_in}
 use Rattle.login_model.specs.Trail.{Trail, value}
 use Rattle.login_model.specs.Where.{is_open, is_session}
-use Rattle.login_core.specs.declared.copies.Copies.{Copies}
-use Rattle.login_core.specs.declared.kept.KeptRow.{KeptRow}
-use Rattle.login_core.specs.declared.texts.FreshTexts.{FreshTexts}
-use Rattle.login_core.specs.declared.texts.Texts.{Texts}
+use Rattle.login_core.specs.declared.room.copies.Copies.{Copies}
+use Rattle.login_core.specs.declared.room.kept.KeptRow.{KeptRow}
+use Rattle.login_core.specs.declared.room.texts.FreshTexts.{FreshTexts}
+use Rattle.login_core.specs.declared.room.texts.Texts.{Texts}
 use Rattle.login_core.specs.Texts.{AreSome, session_texts}
 
 abbrev pub is_row_of : SessId → KeptRow → Bool

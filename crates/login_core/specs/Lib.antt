@@ -1,12 +1,13 @@
 pub mod Texts
 pub mod Chosen
+pub mod Rounds
 pub mod Facts
 pub mod Told
 pub mod Kept
 pub mod Handles
 pub mod Ledger
 pub mod Ending
-pub mod Machine
+pub mod UnderWay
 pub mod Board
 pub mod Awaiting
 pub mod Leaving

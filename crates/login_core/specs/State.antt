@@ -16,17 +16,18 @@ use Rattle.login_core.specs.Fullness.{always_fits}
 use Rattle.login_core.specs.Kept.{AreReady}
 use Rattle.login_core.specs.declared.state.Refused.{Refused}
 use Rattle.login_core.specs.declared.state.Refused.TheVariants.{NoMemory, Full, Stopped}
-use Rattle.login_core.specs.declared.texts.Texts.{Texts}
+use Rattle.login_core.specs.declared.room.ready.Ready.{Ready}
+use Rattle.login_core.specs.declared.room.texts.Texts.{Texts}
 
--- the machine before the first event, the journal, and what was made ready: room for so many more entries, for
--- so many marks in all, the copies of texts, and the answer of the next event
+-- the setup, the journal, and what was made ready: room for so many more entries, for
+-- so many marks in all, the copies of texts, and the verdict and the answer of the next event
 pub record CoreState : Type 0 where
   pub setup : Setup
   pub journal : List Entry
   pub entries : ℕ
   pub reach : ℕ
   pub texts : Texts
-  pub answer : Answer
+  pub ready : Ready
 
 -- room was made for the event's entry and marks, and for all that connections and the stop need after it
 pub record IsRoomFor (c : CoreState) (e : Event) : Type 0 where
@@ -34,7 +35,8 @@ pub record IsRoomFor (c : CoreState) (e : Event) : Type 0 where
   pub reach : length (trail_of c.journal) + need (trail_of c.journal) + most_marks (trail_of c.journal) + most_rise (trail_of c.journal) ≤ c.reach
   pub small : full c.setup c.journal e ≡ None
   pub texts : AreReady e c.texts
-  pub answer : c.answer ≡ answered c.setup (verdict c.setup (trail_of c.journal) e) e (trail_of c.journal)
+  pub judged : c.ready.verdict ≡ verdict c.setup (trail_of c.journal) e
+  pub answer : c.ready.answer ≡ answered c.setup (verdict c.setup (trail_of c.journal) e) e (trail_of c.journal)
 
 -- the event can be stepped without memory; a disconnect and the stop always can
 abbrev pub IsReady : CoreState → Event → Type 0

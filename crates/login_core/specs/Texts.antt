@@ -4,7 +4,7 @@ use Rattle.login_model.specs.declared.fact.Fact.{Fact}
 use Rattle.login_model.specs.declared.fact.Fact.TheVariants.{Session}
 use Rattle.login_model.specs.declared.call.Creation.{Creation}
 use Rattle.login_model.specs.declared.session.SessionTexts.{SessionTexts}
-use Rattle.login_core.specs.declared.copies.Copies.{Copies}
+use Rattle.login_core.specs.declared.room.copies.Copies.{Copies}
 
 -- the texts with which a session is created
 abbrev pub session_texts : Creation → SessionTexts

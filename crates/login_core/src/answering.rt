@@ -6,8 +6,8 @@ ghost use Rattle.login_model.specs.Where.{sessions, users, seats};
 ghost use Rattle.login_model.specs.Creating.{seat_of};
 ghost use Rattle.login_model.specs.Answers.{name_among, user_name, session_row, known_user, session_answer, seat_answer, call_answer, answer};
 
-use crate::created::seat_of;
-use crate::leaving::owner_of;
+use crate::creating::created::seat_of;
+use crate::direct::leaving::owner_of;
 use login_base::{Items, NoMemory, SeatName, SessId, Uid, Word};
 use login_model::{
     Answer, Call, Created, Creation, Event, Fact, Key, KnownUser, Look, SessionRow, Setup, UserRow,

@@ -1,120 +1,50 @@
-// How seat0 goes to another virtual terminal.
+// What an event does with its verdict, and what follows from it.
 
-ghost use Rattle.std.specs.Prelude.{◌≡◌, ◌+◌, ◌*◌, ◌≤◌, length};
-ghost use Rattle.login_model.specs.Start.{seat0};
-ghost use Rattle.login_model.specs.Where.{active_on};
-ghost use Rattle.login_model.specs.Switching.{ask_getty, tell_change, arrive, move_to, complete, settle_switch};
-ghost use Rattle.login_core.specs.Told.{terminal_in, terminal_fact};
-ghost use Rattle.login_model.specs.Trail.{value};
-ghost use Rattle.login_model.specs.Devices.{is_awaiting};
+ghost use Rattle.std.specs.Prelude.{◌≡◌, ◌≤◌, length};
+ghost use Rattle.login_model.specs.Direct.{direct};
+ghost use Rattle.login_model.specs.Legal.{stepped};
+ghost use Rattle.login_model.specs.Policy.{verdict as policy_verdict};
+ghost use Rattle.login_model.specs.Settle.{settle};
+ghost use Rattle.login_model.specs.Sound.{IsSound};
+ghost use Rattle.login_core.specs.Kept.{AreReady, HaveTexts};
 
-use crate::machine::Machine;
-use login_base::SessId;
-use login_model::{Fact, Key, Look, Notice, Setup, seat0};
-use login_table::{active_on, session_on};
-
-fn terminal_in(fact: &Fact) -> Option<u32>
-    ensures { result ≡ terminal_in fact.now }
-{
-    match fact {
-        Fact::Number(vt) => Some(*vt),
-        _ => None,
-    }
-}
+use crate::board::Board;
+use crate::room::texts::Texts;
+use login_model::{Event, Setup, Verdict};
 
 #[tactic(auto, using(crate::proofs::Growing::growing))]
-impl Machine {
+impl Board {
     ghost use Rattle.login_core.specs.Board.{trail};
 
-    /// A getty is asked for on a terminal without an open session, up to the number of the configuration.
-    fn ask_getty(&mut self, setup: &Setup, vt: u32)
-        requires room { length (ask_getty setup.now vt (trail self.old)) ≤ self.old.journal.reach }
-        ensures marked { trail self.new ≡ ask_getty setup.now vt (trail self.old) }
+    /// What a granted event does, with what follows from it.
+    fn grant(&mut self, setup: &Setup, event: &Event, texts: &mut Texts)
+        requires granted { policy_verdict setup.now (trail self.old) event.now ≡ Verdict.Granted }
+        requires sound { IsSound (trail self.old) }
+        requires ready { AreReady event.now texts.old }
+        requires texts { HaveTexts texts.old (trail self.old) }
+        requires room { length (settle setup.now (direct setup.now event.now (trail self.old))) ≤ self.old.journal.reach }
+        ensures marked { trail self.new ≡ settle setup.now (direct setup.now event.now (trail self.old)) }
         ensures journal { self.new.journal ≡ self.old.journal }
+        ensures texts { HaveTexts texts.new (trail self.new) }
     {
-        if !session_on(self, vt).is_some() && vt <= setup.conf.auto_vts {
-            self.put_flag(Key::Getty(vt), true);
+        self.direct(setup, event, texts);
+        self.settle_switch(setup);
+    }
+
+    /// What an event does with its verdict: a denied one does nothing.
+    pub fn perform(&mut self, setup: &Setup, event: &Event, verdict: Verdict, texts: &mut Texts)
+        requires verdict { verdict ≡ policy_verdict setup.now (trail self.old) event.now }
+        requires sound { IsSound (trail self.old) }
+        requires ready { AreReady event.now texts.old }
+        requires texts { HaveTexts texts.old (trail self.old) }
+        requires room { length (stepped setup.now verdict event.now (trail self.old)) ≤ self.old.journal.reach }
+        ensures marked { trail self.new ≡ stepped setup.now verdict event.now (trail self.old) }
+        ensures journal { self.new.journal ≡ self.old.journal }
+        ensures texts { HaveTexts texts.new (trail self.new) }
+    {
+        match verdict {
+            Verdict::Granted => self.grant(setup, event, texts),
+            Verdict::Denied(_) => {}
         }
-    }
-
-    /// All are told who was active on seat0 and who is, if there was one or is one.
-    fn tell_change(&mut self, old: Option<SessId>, new: Option<SessId>)
-        requires room { length (tell_change old new (trail self.old)) ≤ self.old.journal.reach }
-        ensures marked { trail self.new ≡ tell_change old new (trail self.old) }
-        ensures journal { self.new.journal ≡ self.old.journal }
-    {
-        match (old, new) {
-            (None, None) => {}
-            _ => self.tell_all(Notice::Active(seat0(), old, new)),
-        }
-    }
-
-    /// The session that is active now goes on, after all are told.
-    fn arrive(&mut self, old: Option<SessId>)
-        requires room { length (arrive old (trail self.old)) ≤ self.old.journal.reach }
-        ensures marked { trail self.new ≡ arrive old (trail self.old) }
-        ensures journal { self.new.journal ≡ self.old.journal }
-    {
-        let new = active_on(self, seat0());
-        self.tell_change(old, new);
-        self.resume_some(new);
-    }
-
-    /// The terminal changes: the session that was active loses its devices, and the one that is gets them.
-    pub fn move_to(&mut self, setup: &Setup, vt: u32, old: Option<SessId>)
-        requires room { length (move_to setup.now vt old (trail self.old)) ≤ self.old.journal.reach }
-        ensures marked { trail self.new ≡ move_to setup.now vt old (trail self.old) }
-        ensures journal { self.new.journal ≡ self.old.journal }
-    {
-        self.force_some(old);
-        self.put_number(Key::Vt, vt);
-        self.put_absent(Key::Pending);
-        self.ask_getty(setup, vt);
-        self.arrive(old);
-    }
-
-    /// Whether the pause of some device has still to be acknowledged.
-    pub fn is_awaiting(&self) -> bool
-        ensures { result ≡ is_awaiting (trail self.now) }
-    {
-        self.facts.is_awaiting()
-    }
-
-    /// The virtual terminal to which seat0 is about to switch.
-    fn pending_terminal(&self) -> Option<u32>
-        ensures { result ≡ terminal_in (value (trail self.now) Key.Pending) }
-    {
-        terminal_in(self.fact(&Key::Pending))
-    }
-
-    fn move_now(&mut self, setup: &Setup, vt: u32)
-        requires room { length (move_to setup.now vt (active_on (trail self.old) seat0) (trail self.old)) ≤ self.old.journal.reach }
-        ensures marked { trail self.new ≡ move_to setup.now vt (active_on (trail self.old) seat0) (trail self.old) }
-        ensures journal { self.new.journal ≡ self.old.journal }
-    {
-        let old = active_on(self, seat0());
-        self.move_to(setup, vt, old);
-    }
-
-    fn complete(&mut self, setup: &Setup, pending: Option<u32>)
-        requires room { length (complete setup.now (terminal_fact pending) (trail self.old)) ≤ self.old.journal.reach }
-        ensures marked { trail self.new ≡ complete setup.now (terminal_fact pending) (trail self.old) }
-        ensures journal { self.new.journal ≡ self.old.journal }
-    {
-        if let Some(vt) = pending {
-            if !self.is_awaiting() {
-                self.move_now(setup, vt);
-            }
-        }
-    }
-
-    /// The switch that is pending completes, once no pause is awaited.
-    pub fn settle_switch(&mut self, setup: &Setup)
-        requires room { length (settle_switch setup.now (trail self.old)) ≤ self.old.journal.reach }
-        ensures marked { trail self.new ≡ settle_switch setup.now (trail self.old) }
-        ensures journal { self.new.journal ≡ self.old.journal }
-    {
-        let pending = self.pending_terminal();
-        self.complete(setup, pending);
     }
 }

@@ -6,20 +6,22 @@ ghost use Rattle.std.specs.Io.BufRead.{Rests};
 ghost use Rattle.login_model.specs.Built.{is_built};
 ghost use Rattle.login_model.specs.Full.{connected_after, full, mark_count, marks_needed};
 ghost use Rattle.login_model.specs.Legal.{IsLegal, IsPlaced, IsAsked, answered, trail_of};
-ghost use Rattle.login_model.specs.Policy.{verdict};
+ghost use Rattle.login_model.specs.Policy.{verdict as policy_verdict};
 ghost use Rattle.login_model.specs.Setups.{IsSetup};
 ghost use Rattle.login_model.specs.Stopping.{is_stop, stopped};
 ghost use Rattle.login_model.specs.Where.{is_connected};
 ghost use Rattle.login_model.specs.declared.event.Event.TheVariants.{Disconnect};
+ghost use Rattle.login_core.specs.Board.{trail};
 ghost use Rattle.login_core.specs.Fullness.{always_fits};
 ghost use Rattle.login_core.specs.State.{CoreState, IsReady, IsRoomFor, IsSame, Appends, RoomGives, answer_next, stop_next};
 ghost use Rattle.login_core.specs.contracts.state.Core.{the_row};
 
 use crate::answering::answer_of;
-use crate::counts::marks_needed;
-use crate::fullness::{always_fits, connected_after, full};
-use crate::machine::Machine;
-use crate::texts::Texts;
+use crate::board::Board;
+use crate::room::counts::marks_needed;
+use crate::room::fullness::{always_fits, connected_after, full};
+use crate::room::ready::Ready;
+use crate::room::texts::Texts;
 use login_base::{ConnId, DevNo, HandleNo, LockNo, NoMemory, SeatName, SessId, Uid};
 use login_judge::judge;
 use login_model::{Answer, Count, Entry, Event, Fact, Journal, Key, Look, Setup, Verdict};
@@ -49,6 +51,19 @@ fn answer_for(event: &Event, ready: &mut Answer) -> Answer
     }
 }
 
+/// The verdict of an event: that which was found when room was made for it. A disconnect and the stop are
+/// judged here.
+fn verdict_for(board: &Board, setup: &Setup, ready: &Ready, event: &Event) -> Verdict
+    requires { always_fits event.now ≡ false → ready.now.verdict ≡ policy_verdict setup.now (trail board.now) event.now }
+    ensures { result ≡ policy_verdict setup.now (trail board.now) event.now }
+{
+    if always_fits(event) {
+        judge(board, setup, event)
+    } else {
+        ready.verdict
+    }
+}
+
 fn is_stop(event: &Event) -> bool
     ensures { result ≡ is_stop event.now }
 {
@@ -69,9 +84,9 @@ fn stop_after(stop: Option<u32>, event: &Event, number: u32) -> Option<u32>
 #[derive(Drop)]
 pub struct Core {
     setup: Setup,
-    machine: Machine,
+    board: Board,
     texts: Texts,
-    answer: Answer,
+    ready: Ready,
     stop: Option<u32>,
 }
 
@@ -83,14 +98,14 @@ impl Model for Core {
 
     ghost view = { λ c. record {
       setup = c.setup;
-      journal = c.machine.journal.items;
-      entries = c.machine.journal.entries;
-      reach = c.machine.journal.reach;
+      journal = c.board.journal.items;
+      entries = c.board.journal.entries;
+      reach = c.board.journal.reach;
       texts = c.texts;
-      answer = c.answer;
+      ready = c.ready;
     } };
 
-    ghost invariant = { λ c. IsCore c.setup c.machine c.texts c.stop };
+    ghost invariant = { λ c. IsCore c.setup c.board c.texts c.stop };
 }
 
 impl Core {
@@ -100,13 +115,16 @@ impl Core {
         ensures setup { IfOk result (λ core. core.setup ≡ setup) }
         ensures journal { IfOk result (λ core. core.journal ≡ []) }
     {
-        let mut machine = Machine::new(alloc);
-        machine.reserve(1, 0)?;
+        let mut board = Board::new(alloc);
+        board.reserve(1, 0)?;
         Ok(Core {
             setup,
-            machine,
+            board,
             texts: Texts::new(alloc),
-            answer: Answer::Nothing,
+            ready: Ready {
+                verdict: Verdict::Granted,
+                answer: Answer::Nothing,
+            },
             stop: None,
         })
     }
@@ -130,10 +148,11 @@ impl Core {
         if always_fits(event) {
             return Ok(());
         }
-        if let Some(count) = self.full(event) {
+        let verdict = judge(&self.board, &self.setup, event);
+        if let Some(count) = self.full(event, verdict) {
             return Err(Refused::Full(count));
         }
-        match self.make_ready(event) {
+        match self.make_ready(event, verdict) {
             Ok(()) => Ok(()),
             Err(NoMemory) => Err(Refused::NoMemory),
         }
@@ -151,29 +170,24 @@ impl Core {
     }
 
     /// Whether the journal is full for an event, and of what.
-    fn full(&self, event: &Event) -> Option<Count>
+    fn full(&self, event: &Event, verdict: Verdict) -> Option<Count>
+        requires { verdict ≡ policy_verdict self.now.setup (trail_of self.now.journal) event.now }
         ensures { result ≡ full self.now.setup self.now.journal event.now }
     {
-        let entries = self.machine.journal.journal().len() as u32;
-        full(
-            &self.machine,
-            &self.setup,
-            entries,
-            self.machine.made,
-            event,
-        )
+        let entries = self.board.journal.journal().len() as u32;
+        full(&self.board, entries, self.board.made, event, verdict)
     }
 
-    /// The answer of an event, whatever its verdict will be.
-    fn answer_to(&self, event: &Event) -> Result<Answer, NoMemory>
-        ensures { IfOk result (λ a. a ≡ answered self.now.setup (verdict self.now.setup (trail_of self.now.journal) event.now) event.now (trail_of self.now.journal)) }
+    /// The answer of an event with this verdict.
+    fn answer_to(&self, event: &Event, verdict: Verdict) -> Result<Answer, NoMemory>
+        ensures { IfOk result (λ a. a ≡ answered self.now.setup verdict event.now (trail_of self.now.journal)) }
     {
-        match judge(&self.machine, &self.setup, event) {
+        match verdict {
             Verdict::Granted => answer_of(
-                self.machine.alloc,
-                &self.machine,
+                self.board.alloc,
+                &self.board,
                 &self.setup,
-                self.machine.fresh_session(),
+                self.board.fresh_session(),
                 event,
             ),
             Verdict::Denied(_) => Ok(Answer::Nothing),
@@ -181,32 +195,35 @@ impl Core {
     }
 
     /// How many entries an event, the ends of all connections after it, and the stop need.
-    fn entries_for(&self, event: &Event) -> u64
+    fn entries_for(&self, event: &Event, verdict: Verdict) -> u64
+        requires { verdict ≡ policy_verdict self.now.setup (trail_of self.now.journal) event.now }
         ensures value { result ≡ connected_after self.now.setup (trail_of self.now.journal) event.now + 2 }
         ensures bound { result ≤ 2 ^ 33 + 2 }
     {
-        connected_after(&self.machine, &self.setup, event) + 2
+        connected_after(&self.board, event, verdict) + 2
     }
 
     /// How far the marks of an event and of all ends may reach.
     fn reach_for(&self) -> u64
         ensures { result ≡ marks_needed (trail_of self.now.journal) (mark_count self.now.journal) }
     {
-        marks_needed(&self.machine, self.machine.made)
+        marks_needed(&self.board, self.board.made)
     }
 
-    /// Takes the memory of an event and of the ends of all connections after it.
-    fn make_ready(&mut self, event: &Event) -> Result<(), NoMemory>
+    /// Takes the memory of an event with this verdict and of the ends of all connections after it.
+    fn make_ready(&mut self, event: &Event, verdict: Verdict) -> Result<(), NoMemory>
+        requires judged { verdict ≡ policy_verdict self.old.setup (trail_of self.old.journal) event.now }
         requires other { always_fits event.now ≡ false }
         requires small { full self.old.setup self.old.journal event.now ≡ None }
         ensures ready { OnOk result (IsRoomFor self.new event.now) }
         ensures same { IsSame self.old self.new }
     {
-        let entries = self.entries_for(event);
+        let entries = self.entries_for(event, verdict);
         let reach = self.reach_for();
-        self.machine.reserve(entries as u32, reach as u32)?;
+        self.board.reserve(entries as u32, reach as u32)?;
         self.texts.prepare(event)?;
-        self.answer = self.answer_to(event)?;
+        let answer = self.answer_to(event, verdict)?;
+        self.ready = Ready { verdict, answer };
         Ok(())
     }
 
@@ -220,14 +237,14 @@ impl Core {
         ensures legal { IsLegal self.old.setup (self.old.journal ++ result.now ∷ []) }
         ensures* after { sem 𝓛 (Rests the_row self.entry (λ core. Appends self.old result.now core)) }
     {
-        let verdict = judge(&self.machine, &self.setup, &event);
-        let answer = answer_for(&event, &mut self.answer);
-        self.machine
+        let verdict = verdict_for(&self.board, &self.setup, &self.ready, &event);
+        let answer = answer_for(&event, &mut self.ready.answer);
+        self.board
             .perform(&self.setup, &event, verdict, &mut self.texts);
-        let number = (self.machine.journal.journal().len() + 1) as u32;
+        let number = (self.board.journal.journal().len() + 1) as u32;
         self.stop = stop_after(self.stop, &event, number);
-        self.machine.close_entry(event, verdict, answer);
-        let journal = self.machine.journal.journal();
+        self.board.close_entry(event, verdict, answer);
+        let journal = self.board.journal.journal();
         journal.entry(journal.len() - 1)
     }
 
@@ -249,7 +266,7 @@ impl Core {
         ensures few_entries { length self.now.journal ≤ 200000 }
         ensures few_marks { mark_count self.now.journal ≤ 4000000 }
     {
-        self.machine.journal.journal()
+        self.board.journal.journal()
     }
 
     /// The setup that the core was made with.
@@ -265,38 +282,38 @@ impl Look for Core {
     ghost trail = { λ core. trail_of core.journal };
 
     fn fact(&self, key: &Key) -> &Fact {
-        self.machine.fact(key)
+        self.board.fact(key)
     }
 
     fn fresh_handle(&self) -> HandleNo {
-        self.machine.fresh_handle()
+        self.board.fresh_handle()
     }
 
     fn next_session(&self, after: Option<SessId>) -> Option<SessId> {
-        self.machine.next_session(after)
+        self.board.next_session(after)
     }
 
     fn next_user(&self, after: Option<Uid>) -> Option<Uid> {
-        self.machine.next_user(after)
+        self.board.next_user(after)
     }
 
     fn next_seat(&self, after: Option<SeatName>) -> Option<SeatName> {
-        self.machine.next_seat(after)
+        self.board.next_seat(after)
     }
 
     fn next_device(&self, after: Option<DevNo>) -> Option<DevNo> {
-        self.machine.next_device(after)
+        self.board.next_device(after)
     }
 
     fn next_taken(&self, session: SessId, after: Option<DevNo>) -> Option<DevNo> {
-        self.machine.next_taken(session, after)
+        self.board.next_taken(session, after)
     }
 
     fn next_lock(&self, after: Option<LockNo>) -> Option<LockNo> {
-        self.machine.next_lock(after)
+        self.board.next_lock(after)
     }
 
     fn next_conn(&self, after: Option<ConnId>) -> Option<ConnId> {
-        self.machine.next_conn(after)
+        self.board.next_conn(after)
     }
 }

@@ -8,7 +8,7 @@ ghost use Rattle.login_model.specs.Turning.{turn_to_next, turn_to_previous};
 ghost use Rattle.login_table.specs.Nearest.{is_lower};
 ghost use Rattle.login_core.specs.Places.{is_before, behind, around, is_open_on, place_of, places, current_place, nearer_place, nearer_open, turn_to_place, turn_to};
 
-use crate::machine::Machine;
+use crate::board::Board;
 use login_base::{SeatName, SessId};
 use login_model::{Key, Look, is_open_fact, seat0};
 use login_table::{active_on, current_vt, seat_of_session};
@@ -69,7 +69,7 @@ fn is_this_seat(seat: SeatName, name: Option<SeatName>) -> bool
 }
 
 #[tactic(auto, using(crate::proofs::Growing::growing))]
-impl Machine {
+impl Board {
     ghost use Rattle.login_core.specs.Board.{trail};
 
     /// Whether a session is on a seat, and open.

@@ -1,14 +1,18 @@
 use Rattle.std.proofs.Common.{◌+◌, ◌∙◌, ℕ, ap}
-use Rattle.login_model.specs.Full.{connected_after}
+use Rattle.login_model.specs.declared.rule.Verdict.{Verdict}
 use Rattle.login_model.specs.Legal.{trail_of}
 use Rattle.login_model.specs.Trail.{Trail}
 use Rattle.login_core.specs.State.{CoreState}
+use Rattle.login_core.specs.Fullness.{connected_by}
 use Rattle.login_core.proofs.Entries.{trail-is}
+use Rattle.login_core.proofs.Filling.{connected-is}
 use Rattle.login_core.proofs.state.Core.entries_for.Goals as goal
 
 pub returns-clause-value : goal.returns-clause-value
 returns-clause-value c =
     let e = c.args.event.now in
     ap (λ (n : ℕ). n + 2) (c.connected_after.ensures.value
-    ∙ ap (λ (t : Trail). connected_after c.self.inside.setup t e) (trail-is c.self.inside.machine c.self.invariant.no_marks)
-    ∙ ap (λ (s : CoreState). connected_after s.setup (trail_of s.journal) e) c.self.view_is)
+    ∙ ap (λ (t : Trail). connected_by c.args.verdict t e) (trail-is c.self.inside.board c.self.invariant.no_marks)
+    ∙ ap (λ (s : CoreState). connected_by c.args.verdict (trail_of s.journal) e) c.self.view_is
+    ∙ ap (λ (v : Verdict). connected_by v (trail_of c.args.self.now.journal) e) c.requires
+    ∙ connected-is c.args.self.now.setup (trail_of c.args.self.now.journal) e)

@@ -7,6 +7,6 @@ use Rattle.login_core.proofs.state.Core.journal.Goals as goal
 pub returns-clause-few_marks : goal.returns-clause-few_marks
 returns-clause-few_marks c =
     let e = ap (λ (s : CoreState). mark_count s.journal) c.self.view_is in
-    let n = marks-counted c.self.inside.machine.journal.items in
+    let n = marks-counted c.self.inside.board.journal.items in
     let h = c.self.invariant.few_marks in
     omega arith

@@ -1,6 +1,8 @@
 use Rattle.std.proofs.Common.{◌≡◌, ◌+◌, ◌∙◌, List, ap, sym, arith}
 use Rattle.login_model.specs.Full.{connected_after, full, mark_count, marks_needed}
-use Rattle.login_model.specs.Legal.{trail_of}
+use Rattle.login_model.specs.Legal.{answered, trail_of}
+use Rattle.login_model.specs.Policy.{verdict}
+use Rattle.login_model.specs.declared.rule.Verdict.{Verdict}
 use Rattle.login_model.specs.declared.mark.Entry.{Entry}
 use Rattle.login_model.proofs.RoomLaws.{room}
 use Rattle.login_core.specs.State.{CoreState}
@@ -32,6 +34,7 @@ returns-clause-ready c =
     let journal : now.journal ≡ es = sym (c.reserve.ensures.items ∙ ap (λ (s : CoreState). s.journal) c.self.view_is) in
     let connected = c.entries_for-entries.ensures.value ∙ (λ i. connected_after (setup i) (trail_of (journal i)) e + 2) in
     let reach = c.reach_for-reach.ensures ∙ ap (λ (js : List Entry). marks_needed (trail_of js) (mark_count js)) journal in
+    let judged = c.requires.judged ∙ (λ i. verdict (setup i) (trail_of (journal i)) e) in
     let bound = room (trail_of es) (mark_count es) in
     let counted = marks-counted es in
     let entries = c.in_ok-reserve.ensures.entries in
@@ -41,5 +44,6 @@ returns-clause-ready c =
       reach = omega arith;
       small = (λ i. full (sym setup i) (sym journal i) e) ∙ c.requires.small;
       texts = c.in_ok-prepare.ensures.ready;
-      answer = c.in_ok-self-inside.ensures;
+      judged = judged;
+      answer = c.in_ok-answer.ensures ∙ ap (λ (v : Verdict). answered U v e (trail_of es)) judged;
     }

@@ -7,7 +7,7 @@ use Rattle.login_core.proofs.state.Core.reach_for.Goals as goal
 
 pub returns : goal.returns
 returns c =
-    let m = c.self.inside.machine in
+    let m = c.self.inside.board in
     let t = trail-is m c.self.invariant.no_marks in
     let n = m.counted ∙ ap length t ∙ sym (marks-counted m.journal.items) in
     c.marks_needed.ensures ∙ (λ i. marks_needed (t i) (n i)) ∙ ap (λ (s : CoreState). marks_needed (trail_of s.journal) (mark_count s.journal)) c.self.view_is

@@ -6,6 +6,7 @@ use Rattle.login_model.specs.declared.mark.Entry.{Entry}
 use Rattle.login_model.specs.declared.setup.Setup.{Setup}
 use Rattle.login_core.specs.Fullness.{always_fits}
 use Rattle.login_core.specs.State.{CoreState, IsReady, refusal}
+use Rattle.login_core.proofs.Judged.{judged-outside}
 use Rattle.login_core.proofs.state.Core.room.Goals as goal
 
 not-so : false ≡ true → ⊥
@@ -27,6 +28,12 @@ always-ready c (Connect b u) h = absurd (not-so h)
 always-ready c (Calls r) h = absurd (not-so h)
 always-ready c (Happens x) h = absurd (not-so h)
 always-ready c (Tick m) h = absurd (not-so h)
+
+pub full-requires : goal.full-requires
+full-requires c = judged-outside c.self.inside.board _ c.args.self.now c.judge-verdict.result c.args.event.now c.self.invariant.no_marks refl c.self.view_is c.judge-verdict.ensures
+
+pub make_ready-requires-clause-judged : goal.make_ready-requires-clause-judged
+make_ready-requires-clause-judged c = judged-outside c.self.inside.board _ c.args.self.now c.judge-verdict.result c.args.event.now c.self.invariant.no_marks refl c.self.view_is c.judge-verdict.ensures
 
 pub returns-then-always_fits-clause-gives : goal.returns-then-always_fits-clause-gives
 returns-then-always_fits-clause-gives c =

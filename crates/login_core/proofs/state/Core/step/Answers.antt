@@ -12,15 +12,17 @@ use Rattle.login_model.proofs.SoundLaws.{legal-is-sound}
 use Rattle.login_core.specs.Board.{trail}
 use Rattle.login_core.specs.Inside.{IsCore}
 use Rattle.login_core.specs.Kept.{HaveTexts}
-use Rattle.login_core.specs.Machine.{so_far, entry_of}
+use Rattle.login_core.specs.UnderWay.{so_far, entry_of}
 use Rattle.login_core.specs.State.{CoreState, IsReady, answer_next, stop_next}
-use Rattle.login_core.specs.declared.machine.Machine.{Machine}
-use Rattle.login_core.specs.declared.texts.Texts.{Texts}
+use Rattle.login_core.specs.declared.board.Board.{Board}
+use Rattle.login_core.specs.declared.room.ready.Ready.{Ready}
+use Rattle.login_core.specs.declared.room.texts.Texts.{Texts}
 use Rattle.login_core.proofs.Entries.{Steps, last-is, legal-closed, trail-is}
+use Rattle.login_core.proofs.Judged.{judged-inside, ready-judged}
 use Rattle.login_core.proofs.Stepping.{Stepping, answered-next, core-closed, has-entry, ready-texts, stays-within}
 use Rattle.login_core.proofs.state.Core.step.Goals as goal
 
-stepping : (U : Setup) (m : Machine) (x : Texts) (a : Answer) (stop : Option ℕ) (now : CoreState) (e : Event) (v : Verdict) → IsCore U m x stop → record { setup = U; journal = m.journal.items; entries = m.journal.entries; reach = m.journal.reach; texts = x; answer = a } ≡ now
+stepping : (U : Setup) (m : Board) (x : Texts) (a : Ready) (stop : Option ℕ) (now : CoreState) (e : Event) (v : Verdict) → IsCore U m x stop → record { setup = U; journal = m.journal.items; entries = m.journal.entries; reach = m.journal.reach; texts = x; ready = a } ≡ now
     → IsPlaced now.journal e → IsReady now e → v ≡ verdict U (trail m) e → Stepping U m x a stop e v
 stepping U m x a stop now e v k w p r h =
     let P : CoreState → Type 0 = λ s. IsPlaced s.journal e in
@@ -33,44 +35,50 @@ stepping U m x a stop now e v k w p r h =
       sound = (legal-is-sound U).after m.journal.items k.legal;
     }
 
+-- the verdict that room was made with, if it was
+pub verdict_for-verdict-requires : goal.verdict_for-verdict-requires
+verdict_for-verdict-requires c = λ f.
+    judged-inside c.self.inside.board _ c.args.self.now c.self.inside.ready.verdict c.args.event c.self.invariant.no_marks refl c.self.view_is
+    (ap (λ (s : CoreState). s.ready.verdict) c.self.view_is ∙ ready-judged c.args.self.now c.args.event f c.requires.ready)
+
 pub perform-requires-clause-sound : goal.perform-requires-clause-sound
 perform-requires-clause-sound c =
-    let m = c.self.inside.machine in
-    let s = stepping c.self.inside.setup m c.self.inside.texts c.self.inside.answer c.self.inside.stop c.args.self.now c.args.event c.judge-verdict.result c.self.invariant c.self.view_is c.requires.placed c.requires.ready c.judge-verdict.ensures in
+    let m = c.self.inside.board in
+    let s = stepping c.self.inside.setup m c.self.inside.texts c.self.inside.ready c.self.inside.stop c.args.self.now c.args.event c.verdict_for-verdict.result c.self.invariant c.self.view_is c.requires.placed c.requires.ready c.verdict_for-verdict.ensures in
     let P : Trail → Type 0 = IsSound in
     subst P (sym (trail-is m c.self.invariant.no_marks)) s.sound
 
 pub perform-requires-clause-ready : goal.perform-requires-clause-ready
 perform-requires-clause-ready c =
-    let m = c.self.inside.machine in
-    let s = stepping c.self.inside.setup m c.self.inside.texts c.self.inside.answer c.self.inside.stop c.args.self.now c.args.event c.judge-verdict.result c.self.invariant c.self.view_is c.requires.placed c.requires.ready c.judge-verdict.ensures in
+    let m = c.self.inside.board in
+    let s = stepping c.self.inside.setup m c.self.inside.texts c.self.inside.ready c.self.inside.stop c.args.self.now c.args.event c.verdict_for-verdict.result c.self.invariant c.self.view_is c.requires.placed c.requires.ready c.verdict_for-verdict.ensures in
     ready-texts _ c.args.event s.ready
 
 pub perform-requires-clause-texts : goal.perform-requires-clause-texts
 perform-requires-clause-texts c =
     let P : Trail → Type 0 = HaveTexts c.self.inside.texts in
-    subst P (sym (trail-is c.self.inside.machine c.self.invariant.no_marks)) c.self.invariant.kept_texts
+    subst P (sym (trail-is c.self.inside.board c.self.invariant.no_marks)) c.self.invariant.kept_texts
 
 pub perform-requires-clause-room : goal.perform-requires-clause-room
 perform-requires-clause-room c =
     let U = c.self.inside.setup in
-    let m = c.self.inside.machine in
-    let v = c.judge-verdict.result in
-    let s = stepping U m c.self.inside.texts c.self.inside.answer c.self.inside.stop c.args.self.now c.args.event v c.self.invariant c.self.view_is c.requires.placed c.requires.ready c.judge-verdict.ensures in
+    let m = c.self.inside.board in
+    let v = c.verdict_for-verdict.result in
+    let s = stepping U m c.self.inside.texts c.self.inside.ready c.self.inside.stop c.args.self.now c.args.event v c.self.invariant c.self.view_is c.requires.placed c.requires.ready c.verdict_for-verdict.ensures in
     let P : Trail → Type 0 = λ t. length (stepped U v c.args.event t) ≤ m.journal.reach in
-    subst P (sym (trail-is m c.self.invariant.no_marks)) (stays-within U m c.self.inside.texts c.self.inside.answer c.self.inside.stop c.args.event v s)
+    subst P (sym (trail-is m c.self.invariant.no_marks)) (stays-within U m c.self.inside.texts c.self.inside.ready c.self.inside.stop c.args.event v s)
 
 pub close_entry-requires : goal.close_entry-requires
 close_entry-requires c =
     let U = c.self.inside.setup in
-    let m = c.self.inside.machine in
-    let v = c.judge-verdict.result in
-    let s = stepping U m c.self.inside.texts c.self.inside.answer c.self.inside.stop c.args.self.now c.args.event v c.self.invariant c.self.view_is c.requires.placed c.requires.ready c.judge-verdict.ensures in
+    let m = c.self.inside.board in
+    let v = c.verdict_for-verdict.result in
+    let s = stepping U m c.self.inside.texts c.self.inside.ready c.self.inside.stop c.args.self.now c.args.event v c.self.invariant c.self.view_is c.requires.placed c.requires.ready c.verdict_for-verdict.ensures in
     let P : ℕ → Type 0 = λ n. 0 < n in
-    subst P (sym (ap (λ l. l.entries) c.perform.ensures.journal)) (has-entry U m c.self.inside.texts c.self.inside.answer c.self.inside.stop c.args.event v s)
+    subst P (sym (ap (λ l. l.entries) c.perform.ensures.journal)) (has-entry U m c.self.inside.texts c.self.inside.ready c.self.inside.stop c.args.event v s)
 
 -- the entry that is closed
-steps : (U : Setup) (m n : Machine) (x : Texts) (ready a : Answer) (stop : Option ℕ) (e : Event) (v : Verdict) → Stepping U m x ready stop e v → a ≡ answer_next e ready → n.journal ≡ m.journal → trail n ≡ stepped U v e (trail m)
+steps : (U : Setup) (m n : Board) (x : Texts) (ready : Ready) (a : Answer) (stop : Option ℕ) (e : Event) (v : Verdict) → Stepping U m x ready stop e v → a ≡ answer_next e ready.answer → n.journal ≡ m.journal → trail n ≡ stepped U v e (trail m)
     → Steps U m.journal.items e v a n.marks.items
 steps U m n x ready a stop e v s h j k =
     let t = trail-is m s.core.no_marks in
@@ -84,16 +92,16 @@ steps U m n x ready a stop e v s h j k =
 pub invariant_of-self : goal.invariant_of-self
 invariant_of-self c =
     let U = c.self.inside.setup in
-    let m = c.self.inside.machine in
+    let m = c.self.inside.board in
     let n = c.perform.new.self in
     let x = c.self.inside.texts in
-    let v = c.judge-verdict.result in
-    let a = c.self.inside.answer in
+    let v = c.verdict_for-verdict.result in
+    let a = c.self.inside.ready in
     let b = c.answer_for-answer.result in
     let e = c.args.event in
     let stop = c.self.inside.stop in
     let ms = n.marks.items in
-    let s = stepping U m x a stop c.args.self.now e v c.self.invariant c.self.view_is c.requires.placed c.requires.ready c.judge-verdict.ensures in
+    let s = stepping U m x a stop c.args.self.now e v c.self.invariant c.self.view_is c.requires.placed c.requires.ready c.verdict_for-verdict.ensures in
     let w = steps U m n x a b stop e v s c.answer_for-answer.ensures c.perform.ensures.journal c.perform.ensures.marked in
     let P : Trail → Type 0 = λ t. HaveTexts c.perform.new.texts (stepped U v e t) in
     let Q : Trail → Type 0 = HaveTexts c.perform.new.texts in
@@ -108,16 +116,16 @@ invariant_of-self c =
 pub returns : goal.returns
 returns c =
     let U = c.self.inside.setup in
-    let m = c.self.inside.machine in
+    let m = c.self.inside.board in
     let n = c.perform.new.self in
     let x = c.self.inside.texts in
-    let v = c.judge-verdict.result in
-    let a = c.self.inside.answer in
+    let v = c.verdict_for-verdict.result in
+    let a = c.self.inside.ready in
     let b = c.answer_for-answer.result in
     let stop = c.self.inside.stop in
     let old = c.args.self.now in
     let ms = n.marks.items in
-    let s = stepping U m x a stop old c.args.event v c.self.invariant c.self.view_is c.requires.placed c.requires.ready c.judge-verdict.ensures in
+    let s = stepping U m x a stop old c.args.event v c.self.invariant c.self.view_is c.requires.placed c.requires.ready c.verdict_for-verdict.ensures in
     let w = steps U m n x a b stop c.args.event v s c.answer_for-answer.ensures c.perform.ensures.journal c.perform.ensures.marked in
     let e : Entry = entry_of c.args.event v b ms in
     let items = c.close_entry.ensures.entry ∙ ap (λ l. l.items ++ e ∷ []) c.perform.ensures.journal in

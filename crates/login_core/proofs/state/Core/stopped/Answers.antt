@@ -17,5 +17,5 @@ returns-in-Disconnect c = sym (stopped-never c.args.self.now.journal c.in-Discon
 
 pub returns-in_default : goal.returns-in_default
 returns-in_default c =
-    c.self.invariant.stop_is ∙ stop-before c.self.inside.machine.journal.items c.args.event.now (no-disconnect c.args.event.now c.in_default.not-Disconnect)
+    c.self.invariant.stop_is ∙ stop-before c.self.inside.board.journal.items c.args.event.now (no-disconnect c.args.event.now c.in_default.not-Disconnect)
     ∙ ap (λ (s : CoreState). stopped s.journal c.args.event.now) c.self.view_is

@@ -8,4 +8,4 @@ use Rattle.login_core.proofs.state.CoreLook.fact.Goals as goal
 pub returns : goal.returns
 returns c =
     c.fact.ensures ∙ ap (λ (t : Trail). value t c.args.key.now)
-    (trail-is c.self.inside.machine c.self.invariant.no_marks ∙ ap (λ (s : CoreState). trail_of s.journal) c.self.view_is)
+    (trail-is c.self.inside.board c.self.invariant.no_marks ∙ ap (λ (s : CoreState). trail_of s.journal) c.self.view_is)

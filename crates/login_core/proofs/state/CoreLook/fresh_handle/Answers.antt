@@ -8,4 +8,4 @@ use Rattle.login_core.proofs.state.CoreLook.fresh_handle.Goals as goal
 pub returns : goal.returns
 returns c =
     c.fresh_handle.ensures ∙ ap next_handle
-    (trail-is c.self.inside.machine c.self.invariant.no_marks ∙ ap (λ (s : CoreState). trail_of s.journal) c.self.view_is)
+    (trail-is c.self.inside.board c.self.invariant.no_marks ∙ ap (λ (s : CoreState). trail_of s.journal) c.self.view_is)

@@ -10,4 +10,4 @@ use Rattle.login_core.proofs.state.CoreLook.next_lock.Goals as goal
 pub returns : goal.returns
 returns c =
     let P : Trail → Type 0 = λ t. IsNext lock_lt (is_lock t) c.args.after c.next_lock.result in
-    subst P (trail-is c.self.inside.machine c.self.invariant.no_marks ∙ ap (λ (s : CoreState). trail_of s.journal) c.self.view_is) c.next_lock.ensures
+    subst P (trail-is c.self.inside.board c.self.invariant.no_marks ∙ ap (λ (s : CoreState). trail_of s.journal) c.self.view_is) c.next_lock.ensures

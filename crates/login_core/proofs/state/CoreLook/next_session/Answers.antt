@@ -10,4 +10,4 @@ use Rattle.login_core.proofs.state.CoreLook.next_session.Goals as goal
 pub returns : goal.returns
 returns c =
     let P : Trail → Type 0 = λ t. IsNext session_lt (is_session t) c.args.after c.next_session.result in
-    subst P (trail-is c.self.inside.machine c.self.invariant.no_marks ∙ ap (λ (s : CoreState). trail_of s.journal) c.self.view_is) c.next_session.ensures
+    subst P (trail-is c.self.inside.board c.self.invariant.no_marks ∙ ap (λ (s : CoreState). trail_of s.journal) c.self.view_is) c.next_session.ensures

@@ -1,0 +1,49 @@
+use Rattle.std.proofs.Common.{sym, subst}
+use Rattle.login_base.specs.SessionId.{session_of}
+use Rattle.login_model.specs.Procedure.{shut}
+use Rattle.login_model.specs.Trail.{Trail}
+use Rattle.login_model.specs.Where.{sessions_of, sessions_on}
+use Rattle.login_model.proofs.Carried.{close-carried, direct_call-carried, each-carried, if_some-carried, shut-carried}
+use Rattle.login_model.proofs.Tame.{Tame, tame}
+use Rattle.login_core.specs.Board.{trail}
+use Rattle.login_core.proofs.TextsKept.{going-later, texts-later}
+use Rattle.login_core.proofs.board.Board.direct_call.Goals as goal
+
+pub returns-in-Terminate-clause-texts : goal.returns-in-Terminate-clause-texts
+returns-in-Terminate-clause-texts c =
+    let t = trail c.args.self.now in
+    let P : Trail → Type 0 = Tame t in
+    let p = subst P (sym c.terminate_id.ensures.marked) (if_some-carried tame shut (shut-carried tame) (session_of c.in-Terminate.id) t) in
+    record { closing = c.terminate_id.ensures.copies; gone = going-later c.args.texts.now.gone.items t (trail c.terminate_id.new.self) p.sessions c.requires.texts.gone }
+
+pub returns-in-TerminateUser-clause-texts : goal.returns-in-TerminateUser-clause-texts
+returns-in-TerminateUser-clause-texts c =
+    let t = trail c.args.self.now in
+    let P : Trail → Type 0 = Tame t in
+    let p = subst P (sym c.terminate_user.ensures.marked) (each-carried tame shut (shut-carried tame) (sessions_of t c.in-TerminateUser.user.0) t) in
+    record { closing = c.terminate_user.ensures.copies; gone = going-later c.args.texts.now.gone.items t (trail c.terminate_user.new.self) p.sessions c.requires.texts.gone }
+
+pub returns-in-TerminateSeat-clause-texts : goal.returns-in-TerminateSeat-clause-texts
+returns-in-TerminateSeat-clause-texts c =
+    let t = trail c.args.self.now in
+    let P : Trail → Type 0 = Tame t in
+    let p = subst P (sym c.terminate_on.ensures.marked) (each-carried tame shut (shut-carried tame) (sessions_on t c.in-TerminateSeat.seat) t) in
+    record { closing = c.terminate_on.ensures.copies; gone = going-later c.args.texts.now.gone.items t (trail c.terminate_on.new.self) p.sessions c.requires.texts.gone }
+
+pub returns-in-Close-clause-texts : goal.returns-in-Close-clause-texts
+returns-in-Close-clause-texts c =
+    let t = trail c.args.self.now in
+    let P : Trail → Type 0 = Tame t in
+    let p = subst P (sym c.close_kept.ensures.marked) (close-carried tame c.in-Close.handle t) in
+    record { closing = c.close_kept.ensures.copies; gone = going-later c.args.texts.now.gone.items t (trail c.close_kept.new.self) p.sessions c.requires.texts.gone }
+
+pub returns-in_default : goal.returns-in_default
+returns-in_default c =
+    let t = trail c.args.self.now in
+    let P : Trail → Type 0 = Tame t in
+    let p = subst P (sym c.call_plain.ensures.marked) (direct_call-carried tame c.args.setup.now c.args.who c.args.call.now t (λ x e. absurd (c.in_default.not-Create x e))) in
+    record {
+      marked = c.call_plain.ensures.marked;
+      journal = c.call_plain.ensures.journal;
+      texts = texts-later c.args.texts.now t (trail c.call_plain.new.self) p.sessions c.requires.texts;
+    }

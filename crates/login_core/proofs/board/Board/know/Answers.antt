@@ -1,0 +1,39 @@
+use Rattle.std.proofs.Common.{arith, ◌∙◌, ap, Bool}
+use Rattle.login_model.specs.declared.fact.Key.TheVariants.{User}
+use Rattle.login_model.specs.declared.fact.Fact.TheVariants.{Known}
+use Rattle.login_model.specs.Trail.{value, put}
+use Rattle.login_model.specs.Procedure.{know, tell_new_user}
+use Rattle.login_core.specs.Board.{trail}
+use Rattle.login_core.specs.Told.{is_absent, absent_or_known}
+use Rattle.login_core.proofs.Told.{greeted}
+use Rattle.login_core.proofs.Growing.{fits}
+use Rattle.login_model.proofs.Grows.{tell_new_user-grows}
+use Rattle.login_core.proofs.board.Board.know.Goals as goal
+
+pub returns-clause-marked : goal.returns-clause-marked
+unfolding know
+returns-clause-marked c =
+    let u = c.args.user in
+    let t = trail c.args.self.now in
+    c.tell_new_user.ensures.marked
+    ∙ ap (tell_new_user u (absent_or_known c.is_absent-was_absent.result)) c.put_known.ensures.marked
+    ∙ ap (λ (b : Bool). tell_new_user u (absent_or_known b) (put (User u) Known t)) (c.is_absent-was_absent.ensures ∙ ap is_absent c.fact.ensures)
+    ∙ greeted u (value t (User u)) (put (User u) Known t)
+
+pub put_known-requires : goal.put_known-requires
+unfolding know
+put_known-requires c =
+    let u = c.args.user in
+    let t = trail c.args.self.now in
+    let g = tell_new_user-grows u (value t (User u)) (put (User u) Known t) in
+    record { room = omega (arith, c.requires.room) }
+
+pub tell_new_user-requires : goal.tell_new_user-requires
+unfolding know
+tell_new_user-requires c =
+    let u = c.args.user in
+    let t = trail c.args.self.now in
+    let e = ap (tell_new_user u (absent_or_known c.is_absent-was_absent.result)) c.put_known.ensures.marked
+    ∙ ap (λ (b : Bool). tell_new_user u (absent_or_known b) (put (User u) Known t)) (c.is_absent-was_absent.ensures ∙ ap is_absent c.fact.ensures)
+    ∙ greeted u (value t (User u)) (put (User u) Known t) in
+    record { room = fits _ (know u t) c.args.self.now.journal c.put_known.new.self.journal e c.put_known.ensures.journal c.requires.room }

@@ -1,0 +1,18 @@
+use Rattle.std.proofs.Common.{◌∙◌, sym, subst}
+use Rattle.login_model.specs.Trail.{Trail}
+use Rattle.login_model.proofs.Carried.{shut-carried}
+use Rattle.login_model.proofs.Tame.{Tame, tame}
+use Rattle.login_core.specs.Board.{trail}
+use Rattle.login_core.proofs.ShutLaws.{kept-shut}
+use Rattle.login_core.proofs.board.Board.shut_kept.Goals as goal
+
+pub returns-clause-copies : goal.returns-clause-copies
+returns-clause-copies c =
+    let s = c.args.session in
+    let t = trail c.args.self.now in
+    let P : Trail → Type 0 = Tame t in
+    let p = subst P (sym c.shut.ensures.marked) (shut-carried tame s t) in
+    record {
+      kept = kept-shut s t (trail c.shut.new.self) c.args.closing.now.items c.take-copies.new.self.items c.shut.ensures.marked c.take-copies.ensures.others c.requires.copies.kept;
+      made = λ r e. c.take-copies.ensures.fewer r (c.requires.copies.made r (sym (p.sessions r).texts ∙ e));
+    }

@@ -1,0 +1,7 @@
+-- Doing the same with each of some names.
+use Rattle.std.specs.Prelude.{◌≡◌, Bool, true}
+use Rattle.login_model.specs.Trail.{Trail}
+
+-- what is done with a name leaves alone which of the names above it are chosen
+abbrev pub SparesAbove : {A : Type 0} → (A → A → Bool) → (Trail → A → Bool) → (A → Trail → Trail) → Type 0
+SparesAbove {A} lt there f = (d e : A) (t : Trail) → lt d e ≡ true → there (f d t) e ≡ there t e

@@ -1,0 +1,125 @@
+// Doing the same with each of some names, in order.
+
+ghost use Rattle.std.specs.Prelude.{◌≡◌, ◌≤◌, Bool, List, length, filter};
+ghost use Rattle.login_model.specs.Trail.{Trail};
+ghost use Rattle.login_model.specs.Names.{IsNext, device_lt, names, insert_some};
+ghost use Rattle.login_model.specs.Devices.{taken_in, is_taken};
+ghost use Rattle.login_model.specs.Procedure.{each};
+ghost use Rattle.login_model.proofs.Keys.{both};
+ghost use Rattle.login_model.proofs.InOrder.{Enumerates, enumerated, taken-enumerated};
+ghost use Rattle.login_model.proofs.Grows.{Grows};
+ghost use Rattle.login_table.specs.Listed.{is_there, listed};
+ghost use Rattle.login_core.specs.Chosen.{is_chosen};
+ghost use Rattle.login_core.specs.Rounds.{SparesAbove};
+ghost use Rattle.login_core.specs.Board.{trail};
+
+use crate::board::Board;
+use crate::board::choosing::Test;
+use login_base::{DevNo, SessId};
+use login_model::Look;
+use login_table::Listed;
+
+/// Names of one kind that are told one after the other.
+pub trait Choice<N> {
+    ghost lt: { N → N → Bool };
+
+    /// Whether a name is one of them, after these marks.
+    ghost is_in: { Self → Trail → N → Bool };
+
+    /// They and others, ascending.
+    ghost among: { Self → Trail → List N };
+
+    /// The next of them.
+    fn next(&self, board: &Board, above: Option<N>) -> Option<N>
+        ensures { IsNext lt (is_in self.now (trail board.now)) above result };
+
+    ghost whole: { (c : Self) (t : Trail) → Enumerates lt (is_in c t) (among c t) };
+}
+
+/// What is done with each of some names.
+pub trait Task<N> {
+    ghost does: { Self → N → Trail → Trail };
+
+    /// Does it with one name.
+    fn run(&self, board: &mut Board, name: N)
+        requires room { length (does self.now name (trail board.old)) ≤ board.old.journal.reach }
+        ensures marked { trail board.new ≡ does self.now name (trail board.old) }
+        ensures journal { board.new.journal ≡ board.old.journal };
+
+    ghost adds: { (x : Self) (n : N) (t : Trail) → Grows t (does x n t) };
+}
+
+/// The devices that a session has taken.
+#[derive(Drop)]
+pub struct TakenBy(pub SessId);
+
+impl Choice<DevNo> for TakenBy {
+    ghost lt = { device_lt };
+
+    ghost is_in = { λ c t d. is_taken t c.0 d };
+
+    ghost among = { λ c t. names device_lt (taken_in c.0) t };
+
+    ghost whole = { λ c t. taken-enumerated t c.0 };
+
+    fn next(&self, board: &Board, above: Option<DevNo>) -> Option<DevNo>
+        ensures { IsNext device_lt (is_taken (trail board.now) self.now.0) above result }
+    {
+        board.next_taken(self.0, above)
+    }
+}
+
+/// Those names of a kind that are there and meet a test.
+#[derive(Drop)]
+struct ThatMeet<T>(T);
+
+impl<N: Listed, T: Test<N> + Drop> Choice<N> for ThatMeet<T> {
+    ghost lt = { N.lt };
+
+    ghost is_in = { λ c t n. is_chosen (is_there N.key_of N.is_fact t) (T.meets c.0 t) n };
+
+    ghost among = { λ c t. insert_some N.lt N.first (names N.lt N.name_in t) };
+
+    ghost whole = { λ c t. (
+        let all = enumerated N.lt N.order N.name_in N.key_of N.is_fact N.first N.keys t in
+        record {
+          order = all.order;
+          ascending = all.ascending;
+          complete = λ n e. all.complete n (both (is_there N.key_of N.is_fact t n) (T.meets c.0 t n) e).0;
+        }
+        ) };
+
+    fn next(&self, board: &Board, above: Option<N>) -> Option<N>
+        ensures { IsNext N.lt (is_chosen (is_there N.key_of N.is_fact (trail board.now)) (T.meets self.now.0 (trail board.now))) above result }
+    {
+        board.next_that(&self.0, above)
+    }
+}
+
+impl Board {
+    ghost use Rattle.login_core.specs.Board.{trail};
+
+    /// A task is done with each name of a choice, in order. It leaves those above a name in the choice.
+    pub fn for_each<N: Copy, C: Choice<N>, X: Task<N>>(&mut self, choice: &C, task: &X)
+        requires spares { SparesAbove C.lt (C.is_in choice.now) (X.does task.now) }
+        requires room { length (each (X.does task.now) (filter (C.is_in choice.now (trail self.old)) (C.among choice.now (trail self.old))) (trail self.old)) ≤ self.old.journal.reach }
+        ensures marked { trail self.new ≡ each (X.does task.now) (filter (C.is_in choice.now (trail self.old)) (C.among choice.now (trail self.old))) (trail self.old) }
+        ensures journal { self.new.journal ≡ self.old.journal }
+    {
+        let mut above = None;
+        while let Some(name) = choice.next(self, above) {
+            task.run(self, name);
+            above = Some(name);
+        }
+    }
+
+    /// A task is done with each name of a kind that is there and meets a test, in order.
+    pub fn for_each_that<N: Listed, T: Test<N> + Drop, X: Task<N>>(&mut self, test: T, task: &X)
+        requires spares { SparesAbove N.lt (λ t. is_chosen (is_there N.key_of N.is_fact t) (T.meets test t)) (X.does task.now) }
+        requires room { length (each (X.does task.now) (filter (T.meets test (trail self.old)) (listed N.lt N.name_in N.key_of N.is_fact N.first (trail self.old))) (trail self.old)) ≤ self.old.journal.reach }
+        ensures marked { trail self.new ≡ each (X.does task.now) (filter (T.meets test (trail self.old)) (listed N.lt N.name_in N.key_of N.is_fact N.first (trail self.old))) (trail self.old) }
+        ensures journal { self.new.journal ≡ self.old.journal }
+    {
+        self.for_each(&ThatMeet(test), task);
+    }
+}

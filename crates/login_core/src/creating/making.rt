@@ -1,0 +1,112 @@
+// How sessions are created.
+
+ghost use Rattle.std.specs.Prelude.{◌≡◌, ◌≤◌, Some, None, length};
+ghost use Rattle.login_model.specs.Trail.{put};
+ghost use Rattle.login_model.specs.Fresh.{next_session, next_handle};
+ghost use Rattle.login_model.specs.Start.{seat0};
+ghost use Rattle.login_model.specs.Where.{active_on};
+ghost use Rattle.login_model.specs.Procedure.{take_seat};
+ghost use Rattle.login_model.specs.Creating.{appear_on, create};
+ghost use Rattle.login_core.specs.Texts.{session_texts};
+
+use crate::board::Board;
+use crate::creating::created::{created_session, seat_of};
+use crate::room::copies::Copies;
+use login_base::{ConnId, HandleNo, SeatName, SessId};
+use login_model::{Creation, Fact, Key, Look, Notice, Owner, Session, seat0};
+use login_table::{active_on, is_active};
+
+#[tactic(auto, using(crate::proofs::Growing::growing, crate::proofs::Appearing::appearing))]
+impl Board {
+    ghost use Rattle.login_core.specs.Board.{trail};
+
+    /// Another session is the active one of its seat, which has no virtual terminals.
+    fn replace_active(&mut self, seat: SeatName, session: SessId)
+        requires room { length (take_seat seat session (active_on (trail self.old) seat) (trail self.old)) ≤ self.old.journal.reach }
+        ensures marked { trail self.new ≡ take_seat seat session (active_on (trail self.old) seat) (trail self.old) }
+        ensures journal { self.new.journal ≡ self.old.journal }
+    {
+        let old = active_on(self, seat);
+        self.take_seat(seat, session, old);
+    }
+
+    fn appear_at(&mut self, seat: SeatName, session: SessId)
+        requires room { length (appear_on (Some seat) session (trail self.old)) ≤ self.old.journal.reach }
+        ensures marked { trail self.new ≡ appear_on (Some seat) session (trail self.old) }
+        ensures journal { self.new.journal ≡ self.old.journal }
+    {
+        if seat.as_slice() == seat0().as_slice() {
+            if is_active(self, session) {
+                self.tell_all(Notice::Active(seat0(), None, Some(session)));
+            }
+        } else {
+            self.replace_active(seat, session);
+        }
+    }
+
+    /// A new session of seat0 is active where its terminal is the current one, and all are told so; on
+    /// another seat it becomes the active one.
+    fn appear_on(&mut self, seat: Option<SeatName>, session: SessId)
+        requires room { length (appear_on seat session (trail self.old)) ≤ self.old.journal.reach }
+        ensures marked { trail self.new ≡ appear_on seat session (trail self.old) }
+        ensures journal { self.new.journal ≡ self.old.journal }
+    {
+        if let Some(seat) = seat {
+            self.appear_at(seat, session);
+        }
+    }
+
+    /// A session is as it is created. It comes twice: for the mark and for the facts.
+    fn put_session(&mut self, session: SessId, created: Session, copy: Session)
+        requires copy { copy ≡ created }
+        requires room { length (put (Key.Sess session) (Fact.Session created) (trail self.old)) ≤ self.old.journal.reach }
+        ensures marked { trail self.new ≡ put (Key.Sess session) (Fact.Session created) (trail self.old) }
+        ensures journal { self.new.journal ≡ self.old.journal }
+    {
+        self.put(
+            Key::Sess(session),
+            Fact::Session(created),
+            Fact::Session(copy),
+        );
+    }
+
+    /// A session of this number is created, whose fifo is the handle of this number.
+    #[tactic(auto, using(crate::proofs::Growing::growing, crate::proofs::Appearing::appearing), unfolding(login_model::specs::Creating::create))]
+    fn create_numbered(
+        &mut self,
+        who: ConnId,
+        creation: &Creation,
+        session: SessId,
+        fifo: HandleNo,
+        copies: Copies,
+    )
+        requires mark { copies.mark ≡ session_texts creation.now }
+        requires fact { copies.fact ≡ session_texts creation.now }
+        requires room { length (create who creation.now session fifo (trail self.old)) ≤ self.old.journal.reach }
+        ensures marked { trail self.new ≡ create who creation.now session fifo (trail self.old) }
+        ensures journal { self.new.journal ≡ self.old.journal }
+    {
+        let Copies { mark, fact } = copies;
+        let created = created_session(who, creation, fifo, mark);
+        let copy = created_session(who, creation, fifo, fact);
+        let seat = seat_of(creation.seat.as_slice());
+        self.know(creation.uid);
+        self.put_owner(fifo, Owner::Fifo(who, session));
+        self.put_session(session, created, copy);
+        self.tell_all(Notice::SessionNew(session));
+        self.appear_on(seat, session);
+    }
+
+    /// A session is created, with the next number and the next handle. Its texts come as two copies.
+    pub fn create(&mut self, who: ConnId, creation: &Creation, copies: Copies)
+        requires mark { copies.mark ≡ session_texts creation.now }
+        requires fact { copies.fact ≡ session_texts creation.now }
+        requires room { length (create who creation.now (next_session (trail self.old)) (next_handle (trail self.old)) (trail self.old)) ≤ self.old.journal.reach }
+        ensures marked { trail self.new ≡ create who creation.now (next_session (trail self.old)) (next_handle (trail self.old)) (trail self.old) }
+        ensures journal { self.new.journal ≡ self.old.journal }
+    {
+        let session = self.fresh_session();
+        let fifo = self.fresh_handle();
+        self.create_numbered(who, creation, session, fifo, copies);
+    }
+}

@@ -1,0 +1,11 @@
+// What granted events do by themselves.
+
+pub mod activating;
+pub mod calls;
+pub mod controlling;
+pub mod disconnecting;
+pub mod ending;
+pub mod handles;
+pub mod leaving;
+pub mod performing;
+pub mod session_calls;

@@ -1,0 +1,115 @@
+// How handles close.
+
+ghost use Rattle.std.specs.Prelude.{◌≡◌, ◌≤◌, if◌then◌else◌, true, length};
+ghost use Rattle.login_model.specs.Trail.{value, put};
+ghost use Rattle.login_model.specs.Where.{is_open};
+ghost use Rattle.login_model.specs.Procedure.{untake, shut};
+ghost use Rattle.login_model.specs.Direct.{is_this_handle, close_handle, close_owned, close};
+ghost use Rattle.login_core.specs.Texts.{AreSome};
+ghost use Rattle.login_core.specs.Handles.{owner_in, owner_fact, AreForClosing};
+
+use crate::board::Board;
+use crate::room::copies::Copies;
+use login_base::{DevNo, HandleNo, LockNo, SessId};
+use login_model::{Fact, Key, Look, Owner};
+
+pub(crate) fn owner_in(fact: &Fact) -> Option<Owner>
+    ensures { result ≡ owner_in fact.now }
+{
+    match fact {
+        Fact::Owned(owner) => Some(*owner),
+        _ => None,
+    }
+}
+
+fn is_this_handle(handle: HandleNo, fact: &Fact) -> bool
+    ensures { result ≡ is_this_handle handle fact.now }
+{
+    match fact {
+        Fact::Handle(other) => other.0 == handle.0,
+        _ => false,
+    }
+}
+
+#[tactic(auto, using(crate::proofs::Growing::growing))]
+impl Board {
+    ghost use Rattle.login_core.specs.Board.{trail};
+
+    /// Nobody has the handle any more.
+    fn close_handle(&mut self, handle: HandleNo)
+        requires room { length (close_handle handle (trail self.old)) ≤ self.old.journal.reach }
+        ensures marked { trail self.new ≡ close_handle handle (trail self.old) }
+        ensures journal { self.new.journal ≡ self.old.journal }
+    {
+        self.put_owner(handle, Owner::Closed);
+    }
+
+    /// The session that the handle kept open is shut.
+    fn close_fifo(&mut self, handle: HandleNo, session: SessId, closing: Option<Copies>)
+        requires closing { is_open (trail self.old) session ≡ true → AreSome (value (trail self.old) (Key.Sess session)) closing }
+        requires room { length (shut session (close_handle handle (trail self.old))) ≤ self.old.journal.reach }
+        ensures marked { trail self.new ≡ shut session (close_handle handle (trail self.old)) }
+        ensures journal { self.new.journal ≡ self.old.journal }
+    {
+        self.close_handle(handle);
+        self.shut(session, closing);
+    }
+
+    /// The lock that the handle kept is gone.
+    fn close_lock(&mut self, handle: HandleNo, lock: LockNo)
+        requires room { length (close_handle handle (put (Key.Lock lock) Fact.Absent (trail self.old))) ≤ self.old.journal.reach }
+        ensures marked { trail self.new ≡ close_handle handle (put (Key.Lock lock) Fact.Absent (trail self.old)) }
+        ensures journal { self.new.journal ≡ self.old.journal }
+    {
+        self.put_absent(Key::Lock(lock));
+        self.close_handle(handle);
+    }
+
+    /// A device that is taken with this handle is not taken.
+    fn untake_with(&mut self, handle: HandleNo, session: SessId, device: DevNo)
+        requires room { length (if is_this_handle handle (value (trail self.old) (Key.Taken session device)) then untake session device (trail self.old) else trail self.old) ≤ self.old.journal.reach }
+        ensures marked { trail self.new ≡ (if is_this_handle handle (value (trail self.old) (Key.Taken session device)) then untake session device (trail self.old) else trail self.old) }
+        ensures journal { self.new.journal ≡ self.old.journal }
+    {
+        if is_this_handle(handle, self.fact(&Key::Taken(session, device))) {
+            self.untake(session, device);
+        }
+    }
+
+    fn close_device(&mut self, handle: HandleNo, session: SessId, device: DevNo)
+        requires room { length (close_handle handle (if is_this_handle handle (value (trail self.old) (Key.Taken session device)) then untake session device (trail self.old) else trail self.old)) ≤ self.old.journal.reach }
+        ensures marked { trail self.new ≡ close_handle handle (if is_this_handle handle (value (trail self.old) (Key.Taken session device)) then untake session device (trail self.old) else trail self.old) }
+        ensures journal { self.new.journal ≡ self.old.journal }
+    {
+        self.untake_with(handle, session, device);
+        self.close_handle(handle);
+    }
+
+    fn close_owned(&mut self, handle: HandleNo, owner: Option<Owner>, closing: Option<Copies>)
+        requires closing { AreForClosing (trail self.old) (owner_fact owner) closing }
+        requires room { length (close_owned handle (owner_fact owner) (trail self.old)) ≤ self.old.journal.reach }
+        ensures marked { trail self.new ≡ close_owned handle (owner_fact owner) (trail self.old) }
+        ensures journal { self.new.journal ≡ self.old.journal }
+    {
+        if let Some(owner) = owner {
+            match owner {
+                Owner::Fifo(_, session) => self.close_fifo(handle, session, closing),
+                Owner::Lock(_, lock) => self.close_lock(handle, lock),
+                Owner::Device(_, session, device) => self.close_device(handle, session, device),
+                Owner::Closed => {}
+            }
+        }
+    }
+
+    /// A handle is closed, and what it kept goes with it. An open session that it kept open needs the
+    /// copies of its texts.
+    pub fn close(&mut self, handle: HandleNo, closing: Option<Copies>)
+        requires closing { AreForClosing (trail self.old) (value (trail self.old) (Key.Owner handle)) closing }
+        requires room { length (close handle (trail self.old)) ≤ self.old.journal.reach }
+        ensures marked { trail self.new ≡ close handle (trail self.old) }
+        ensures journal { self.new.journal ≡ self.old.journal }
+    {
+        let owner = owner_in(self.fact(&Key::Owner(handle)));
+        self.close_owned(handle, owner, closing);
+    }
+}

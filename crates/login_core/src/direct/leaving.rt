@@ -1,0 +1,237 @@
+// How users linger and leave, and sessions end.
+
+ghost use Rattle.std.specs.Prelude.{◌≡◌, ◌≤◌, not, true, length};
+ghost use Rattle.login_model.specs.Trail.{value, put, tell_all};
+ghost use Rattle.login_model.proofs.Grows.{forget-grows};
+ghost use Rattle.login_model.specs.Where.{is_open, sessions_of, moment_in, now};
+ghost use Rattle.login_model.specs.Procedure.{each, is_empty, is_kept, forget, leave, set_phase, shut};
+ghost use Rattle.login_model.specs.Direct.{leave_known, begin_linger, end_linger, linger, owner_of, exit, is_overdue_fact, overdue, tick};
+ghost use Rattle.login_core.specs.Texts.{AreCopies, AreSome};
+ghost use Rattle.login_core.specs.Leaving.{is_known, is_overdue};
+
+use crate::board::Board;
+use crate::board::choosing::{OfUser, Test};
+use crate::board::rounds::Task;
+use crate::room::copies::Copies;
+use login_base::{Millis, SessId, Uid};
+use login_model::{Fact, Key, Look, Notice, Phase, Setup, is_set};
+use login_table::find_session;
+
+fn is_known(fact: &Fact) -> bool
+    ensures { result ≡ is_known fact.now }
+{
+    match fact {
+        Fact::Known => true,
+        _ => false,
+    }
+}
+
+fn moment_in(fact: &Fact) -> u64
+    ensures { result ≡ moment_in fact.now }
+{
+    match fact {
+        Fact::Moment(moment) => moment.0,
+        _ => 0,
+    }
+}
+
+/// The user whose session it is.
+pub(crate) fn owner_of(fact: &Fact) -> Uid
+    ensures { result ≡ owner_of fact.now }
+{
+    match fact {
+        Fact::Session(session) => session.uid,
+        _ => Uid(0),
+    }
+}
+
+/// Whether a user's delay is over at a moment.
+fn is_overdue_fact(setup: &Setup, moment: u64, fact: &Fact) -> bool
+    ensures { result ≡ is_overdue_fact setup.now moment fact.now }
+{
+    match fact {
+        Fact::Leaving(since) => { setup.conf.user_stop_delay.0 <= moment.saturating_sub(since.0) }
+        _ => false,
+    }
+}
+
+/// The user's delay is over at a moment.
+#[derive(Drop)]
+struct Overdue<'a> {
+    setup: &'a Setup,
+    moment: u64,
+}
+
+impl<'a> Test<Uid> for Overdue<'a> {
+    ghost meets = { λ o t u. is_overdue o.setup.now o.moment t u };
+
+    fn is_met<F: Look>(&self, facts: &F, user: Uid) -> bool {
+        is_overdue_fact(self.setup, self.moment, facts.fact(&Key::User(user)))
+    }
+}
+
+/// A user is absent.
+#[derive(Drop)]
+struct Forget;
+
+impl Task<Uid> for Forget {
+    ghost does = { λ x u t. forget u t };
+
+    ghost adds = { λ x u t. forget-grows u t };
+
+    fn run(&self, board: &mut Board, user: Uid) {
+        board.forget(user);
+    }
+}
+
+#[tactic(auto, using(crate::proofs::Growing::growing, crate::proofs::Departing::leaving))]
+impl Board {
+    ghost use Rattle.login_core.specs.Board.{trail};
+
+    /// Whether a user has a session that is not gone.
+    fn has_session(&self, user: Uid) -> bool
+        ensures { result ≡ not (is_empty (sessions_of (trail self.now) user.0)) }
+    {
+        find_session(self, &OfUser(user)).is_some()
+    }
+
+    /// Whether a session keeps a user, or the user lingers.
+    pub fn is_kept(&self, user: Uid) -> bool
+        ensures { result ≡ is_kept (trail self.now) user }
+    {
+        self.has_session(user) || is_set(self.fact(&Key::Linger(user)))
+    }
+
+    /// The moment that the clock reached last, in milliseconds.
+    fn now(&self) -> u64
+        ensures { result ≡ now (trail self.now) }
+    {
+        moment_in(self.fact(&Key::Now))
+    }
+
+    /// A user is leaving since the moment that it is.
+    fn begin_leaving(&mut self, user: Uid)
+        requires room { length (put (Key.User user) (Fact.Leaving (record { 0 = now (trail self.old) })) (trail self.old)) ≤ self.old.journal.reach }
+        ensures marked { trail self.new ≡ put (Key.User user) (Fact.Leaving (record { 0 = now (trail self.old) })) (trail self.old) }
+        ensures journal { self.new.journal ≡ self.old.journal }
+    {
+        let since = Millis(self.now());
+        self.put_leaving(user, since);
+    }
+
+    /// A user whom nothing keeps is absent after the delay of the configuration, which begins now.
+    #[tactic(auto, unfolding(login_model::specs::Procedure::leave))]
+    pub fn leave(&mut self, setup: &Setup, user: Uid)
+        requires room { length (leave setup.now user (trail self.old)) ≤ self.old.journal.reach }
+        ensures marked { trail self.new ≡ leave setup.now user (trail self.old) }
+        ensures journal { self.new.journal ≡ self.old.journal }
+    {
+        if !self.is_kept(user) {
+            if setup.conf.user_stop_delay.0 == 0 {
+                self.forget(user);
+            } else {
+                self.begin_leaving(user);
+            }
+        }
+    }
+
+    /// A user who is known leaves if nothing keeps them.
+    fn leave_known(&mut self, setup: &Setup, user: Uid)
+        requires room { length (leave_known setup.now user (value (trail self.old) (Key.User user)) (trail self.old)) ≤ self.old.journal.reach }
+        ensures marked { trail self.new ≡ leave_known setup.now user (value (trail self.old) (Key.User user)) (trail self.old) }
+        ensures journal { self.new.journal ≡ self.old.journal }
+    {
+        if is_known(self.fact(&Key::User(user))) {
+            self.leave(setup, user);
+        }
+    }
+
+    /// A user lingers, and is known.
+    fn begin_linger(&mut self, user: Uid)
+        requires room { length (begin_linger user (trail self.old)) ≤ self.old.journal.reach }
+        ensures marked { trail self.new ≡ begin_linger user (trail self.old) }
+        ensures journal { self.new.journal ≡ self.old.journal }
+    {
+        self.put_flag(Key::Linger(user), true);
+        self.know(user);
+    }
+
+    /// A user lingers no more, and leaves if nothing else keeps them.
+    fn end_linger(&mut self, setup: &Setup, user: Uid)
+        requires room { length (end_linger setup.now user (trail self.old)) ≤ self.old.journal.reach }
+        ensures marked { trail self.new ≡ end_linger setup.now user (trail self.old) }
+        ensures journal { self.new.journal ≡ self.old.journal }
+    {
+        self.put_flag(Key::Linger(user), false);
+        self.leave_known(setup, user);
+    }
+
+    /// A user lingers, or does so no more.
+    pub fn linger(&mut self, setup: &Setup, user: Uid, lingers: bool)
+        requires room { length (linger setup.now user lingers (trail self.old)) ≤ self.old.journal.reach }
+        ensures marked { trail self.new ≡ linger setup.now user lingers (trail self.old) }
+        ensures journal { self.new.journal ≡ self.old.journal }
+    {
+        if lingers {
+            self.begin_linger(user);
+        } else {
+            self.end_linger(setup, user);
+        }
+    }
+
+    /// The users whose delay is over at a moment are absent.
+    #[tactic(auto, using(crate::proofs::Growing::growing), unfolding(login_model::specs::Direct::overdue, login_model::specs::Where::users))]
+    fn forget_overdue(&mut self, setup: &Setup, moment: u64)
+        requires room { length (each forget (overdue setup.now (trail self.old) moment) (trail self.old)) ≤ self.old.journal.reach }
+        ensures marked { trail self.new ≡ each forget (overdue setup.now (trail self.old) moment) (trail self.old) }
+        ensures journal { self.new.journal ≡ self.old.journal }
+    {
+        self.for_each_that(Overdue { setup, moment }, &Forget);
+    }
+
+    /// The clock stands at a moment.
+    fn put_now(&mut self, moment: Millis)
+        requires room { length (put Key.Now (Fact.Moment moment) (trail self.old)) ≤ self.old.journal.reach }
+        ensures marked { trail self.new ≡ put Key.Now (Fact.Moment moment) (trail self.old) }
+        ensures journal { self.new.journal ≡ self.old.journal }
+    {
+        self.put(Key::Now, Fact::Moment(moment), Fact::Moment(moment));
+    }
+
+    /// The clock stands at a moment, and users whose delay is over are absent.
+    pub fn tick(&mut self, setup: &Setup, moment: Millis)
+        requires room { length (tick setup.now moment (trail self.old)) ≤ self.old.journal.reach }
+        ensures marked { trail self.new ≡ tick setup.now moment (trail self.old) }
+        ensures journal { self.new.journal ≡ self.old.journal }
+    {
+        self.put_now(moment);
+        self.forget_overdue(setup, moment.0);
+    }
+
+    /// A session closes, if it is open, and is gone, and all are told. Its texts come as copies for both.
+    fn remove_session(&mut self, session: SessId, closing: Option<Copies>, gone: Copies)
+        requires closing { is_open (trail self.old) session ≡ true → AreSome (value (trail self.old) (Key.Sess session)) closing }
+        requires gone { AreCopies (value (trail self.old) (Key.Sess session)) gone }
+        requires room { length (tell_all (Notice.SessionRemoved session) (set_phase session Phase.Gone (shut session (trail self.old)))) ≤ self.old.journal.reach }
+        ensures marked { trail self.new ≡ tell_all (Notice.SessionRemoved session) (set_phase session Phase.Gone (shut session (trail self.old))) }
+        ensures journal { self.new.journal ≡ self.old.journal }
+    {
+        self.shut(session, closing);
+        self.set_phase(session, Phase::Gone, gone);
+        self.tell_all(Notice::SessionRemoved(session));
+    }
+
+    /// The last process of a session is gone. The copies of its texts are for its closing, if it is open,
+    /// and for its end.
+    pub fn exit(&mut self, setup: &Setup, session: SessId, closing: Option<Copies>, gone: Copies)
+        requires closing { is_open (trail self.old) session ≡ true → AreSome (value (trail self.old) (Key.Sess session)) closing }
+        requires gone { AreCopies (value (trail self.old) (Key.Sess session)) gone }
+        requires room { length (exit setup.now session (trail self.old)) ≤ self.old.journal.reach }
+        ensures marked { trail self.new ≡ exit setup.now session (trail self.old) }
+        ensures journal { self.new.journal ≡ self.old.journal }
+    {
+        let owner = owner_of(self.fact(&Key::Sess(session)));
+        self.remove_session(session, closing, gone);
+        self.leave(setup, owner);
+    }
+}

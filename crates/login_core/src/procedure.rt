@@ -1,0 +1,7 @@
+// The procedures of which events are made.
+
+pub mod closing;
+pub mod forcing;
+pub mod fronting;
+pub mod giving_back;
+pub mod users;

@@ -1,0 +1,72 @@
+// The copies of sessions' texts that are made before they are needed.
+
+ghost use Rattle.std.specs.Prelude.{◌≡◌, OnOk, IfOk, Some, None};
+ghost use Rattle.login_base.specs.declared.ids.SessId.{SessId as SessionId};
+ghost use Rattle.login_core.specs.Kept.{AreReady, AreFresh, copies_in};
+
+use crate::room::copies::{Copies, copies_of};
+use crate::room::kept::Kept;
+use login_base::NoMemory;
+use login_model::{Call, Creation, Event};
+use std::alloc::Global;
+
+/// The texts of a session that is created, for its whole life.
+#[derive(Drop)]
+pub struct FreshTexts {
+    pub created: Copies,
+    pub closing: Copies,
+    pub gone: Copies,
+}
+
+/// The copies with which open sessions close, those with which sessions go, and those of the session
+/// that is created next.
+#[derive(Drop)]
+pub struct Texts {
+    pub closing: Kept,
+    pub gone: Kept,
+    pub fresh: Option<FreshTexts>,
+}
+
+/// The copies of a creation's texts.
+fn fresh_of(creation: &Creation) -> Result<FreshTexts, NoMemory>
+    ensures { IfOk result (λ f. AreFresh creation.now (Some f)) }
+{
+    let created = copies_of(creation)?;
+    let closing = copies_of(creation)?;
+    let gone = copies_of(creation)?;
+    Ok(FreshTexts {
+        created,
+        closing,
+        gone,
+    })
+}
+
+impl Texts {
+    /// No copies. It takes no memory.
+    pub fn new(alloc: Global) -> Texts
+        ensures closing { (s : SessionId) → copies_in result.closing.items s ≡ None }
+        ensures gone { (s : SessionId) → copies_in result.gone.items s ≡ None }
+    {
+        Texts {
+            closing: Kept::new(alloc),
+            gone: Kept::new(alloc),
+            fresh: None,
+        }
+    }
+
+    /// Makes the copies that an event needs.
+    pub fn prepare(&mut self, event: &Event) -> Result<(), NoMemory>
+        ensures ready { OnOk result (AreReady event.now self.new) }
+        ensures closing { self.new.closing.items ≡ self.old.closing.items }
+        ensures gone { self.new.gone.items ≡ self.old.gone.items }
+    {
+        if let Event::Call(request) = event {
+            if let Call::Create(creation) = &request.call {
+                self.closing.reserve()?;
+                self.gone.reserve()?;
+                self.fresh = Some(fresh_of(creation)?);
+            }
+        }
+        Ok(())
+    }
+}

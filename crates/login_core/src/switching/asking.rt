@@ -1,0 +1,192 @@
+// How seat0 is asked to go to another virtual terminal.
+
+ghost use Rattle.std.specs.Prelude.{◌≡◌, ◌+◌, ◌*◌, ◌≤◌, length};
+ghost use Rattle.login_model.specs.Trail.{value, put};
+ghost use Rattle.login_model.specs.Start.{seat0};
+ghost use Rattle.login_model.specs.Where.{active_on};
+ghost use Rattle.login_model.specs.Devices.{taken_devices};
+ghost use Rattle.login_model.specs.Procedure.{if_some, yes, no, tell_controller, resume};
+ghost use Rattle.login_model.specs.Switching.{await_handle, await_device, await_devices, unawait_devices, is_pending_fact, ask_switch, withdraw_switch, request};
+ghost use Rattle.login_model.specs.declared.fact.Key.TheVariants.{Taken, Awaited};
+ghost use Rattle.login_model.proofs.Grows.{put-grows, await_handle-grows};
+ghost use Rattle.login_core.specs.Told.{handle_fact};
+
+use crate::board::Board;
+use crate::board::rounds::{TakenBy, Task};
+use login_base::{DevNo, HandleNo, SessId};
+use login_model::{Fact, Key, Look, Notice, PauseKind, seat0};
+use login_table::{active_on, current_vt};
+
+fn is_pending_fact(fact: &Fact) -> bool
+    ensures { result ≡ is_pending_fact fact.now }
+{
+    match fact {
+        Fact::Number(_) => true,
+        _ => false,
+    }
+}
+
+/// The pause of a session's device is awaited, if it is live.
+#[derive(Drop)]
+struct Await(SessId);
+
+impl Task<DevNo> for Await {
+    ghost does = { λ x d t. await_device x.0 d t };
+
+    ghost adds = { λ x d t. await_handle-grows x.0 d (value t (Taken x.0 d)) t };
+
+    fn run(&self, board: &mut Board, device: DevNo) {
+        board.await_device(self.0, device);
+    }
+}
+
+/// The pause of a session's device is not awaited.
+#[derive(Drop)]
+struct Unawait(SessId);
+
+impl Task<DevNo> for Unawait {
+    ghost does = { λ x d t. put (Awaited x.0 d) no t };
+
+    ghost adds = { λ x d t. put-grows (Awaited x.0 d) no t };
+
+    fn run(&self, board: &mut Board, device: DevNo) {
+        board.put_flag(Key::Awaited(self.0, device), false);
+    }
+}
+
+#[tactic(auto, using(crate::proofs::Growing::growing))]
+impl Board {
+    ghost use Rattle.login_core.specs.Board.{trail};
+
+    /// A live device is to be let go of: that is awaited, and the controller is told.
+    fn await_live(&mut self, session: SessId, device: DevNo)
+        requires room { length (tell_controller (value (trail self.old) (Key.Ctl session)) (Notice.Pause session device PauseKind.Pause) (put (Key.Awaited session device) yes (trail self.old))) ≤ self.old.journal.reach }
+        ensures marked { trail self.new ≡ tell_controller (value (trail self.old) (Key.Ctl session)) (Notice.Pause session device PauseKind.Pause) (put (Key.Awaited session device) yes (trail self.old)) }
+        ensures journal { self.new.journal ≡ self.old.journal }
+    {
+        let controller = self.controller(session);
+        self.put_flag(Key::Awaited(session, device), true);
+        self.tell_controller(controller, Notice::Pause(session, device, PauseKind::Pause));
+    }
+
+    fn await_handle(&mut self, session: SessId, device: DevNo, taken: Option<HandleNo>)
+        requires room { length (await_handle session device (handle_fact taken) (trail self.old)) ≤ self.old.journal.reach }
+        ensures marked { trail self.new ≡ await_handle session device (handle_fact taken) (trail self.old) }
+        ensures journal { self.new.journal ≡ self.old.journal }
+    {
+        if let Some(handle) = taken {
+            if self.is_live(handle) {
+                self.await_live(session, device);
+            }
+        }
+    }
+
+    fn await_device(&mut self, session: SessId, device: DevNo)
+        requires room { length (await_device session device (trail self.old)) ≤ self.old.journal.reach }
+        ensures marked { trail self.new ≡ await_device session device (trail self.old) }
+        ensures journal { self.new.journal ≡ self.old.journal }
+    {
+        let taken = self.handle_of(session, device);
+        self.await_handle(session, device, taken);
+    }
+
+    /// The pauses of a session's live devices are awaited.
+    #[tactic(auto, using(crate::proofs::Growing::growing), unfolding(login_model::specs::Switching::await_devices, login_model::specs::Devices::taken_devices))]
+    fn await_devices(&mut self, session: SessId)
+        requires room { length (await_devices session (trail self.old)) ≤ self.old.journal.reach }
+        ensures marked { trail self.new ≡ await_devices session (trail self.old) }
+        ensures journal { self.new.journal ≡ self.old.journal }
+    {
+        self.for_each(&TakenBy(session), &Await(session));
+    }
+
+    /// No pause of a session's devices is awaited.
+    #[tactic(auto, using(crate::proofs::Growing::growing), unfolding(login_model::specs::Switching::unawait_devices, login_model::specs::Devices::taken_devices))]
+    fn unawait_devices(&mut self, session: SessId)
+        requires room { length (unawait_devices session (trail self.old)) ≤ self.old.journal.reach }
+        ensures marked { trail self.new ≡ unawait_devices session (trail self.old) }
+        ensures journal { self.new.journal ≡ self.old.journal }
+    {
+        self.for_each(&TakenBy(session), &Unawait(session));
+    }
+
+    fn await_some(&mut self, session: Option<SessId>)
+        requires room { length (if_some await_devices session (trail self.old)) ≤ self.old.journal.reach }
+        ensures marked { trail self.new ≡ if_some await_devices session (trail self.old) }
+        ensures journal { self.new.journal ≡ self.old.journal }
+    {
+        if let Some(session) = session {
+            self.await_devices(session);
+        }
+    }
+
+    fn unawait_some(&mut self, session: Option<SessId>)
+        requires room { length (if_some unawait_devices session (trail self.old)) ≤ self.old.journal.reach }
+        ensures marked { trail self.new ≡ if_some unawait_devices session (trail self.old) }
+        ensures journal { self.new.journal ≡ self.old.journal }
+    {
+        if let Some(session) = session {
+            self.unawait_devices(session);
+        }
+    }
+
+    /// Another terminal is asked for, and the pauses of the active session's devices are awaited.
+    fn begin_switch(&mut self, vt: u32)
+        requires room { length (if_some await_devices (active_on (trail self.old) seat0) (put Key.Pending (Fact.Number vt) (trail self.old))) ≤ self.old.journal.reach }
+        ensures marked { trail self.new ≡ if_some await_devices (active_on (trail self.old) seat0) (put Key.Pending (Fact.Number vt) (trail self.old)) }
+        ensures journal { self.new.journal ≡ self.old.journal }
+    {
+        let active = active_on(self, seat0());
+        self.put_number(Key::Pending, vt);
+        self.await_some(active);
+    }
+
+    /// A switch goes to another terminal, or begins.
+    fn ask_switch(&mut self, vt: u32, was_pending: bool)
+        requires room { length (ask_switch vt was_pending (trail self.old)) ≤ self.old.journal.reach }
+        ensures marked { trail self.new ≡ ask_switch vt was_pending (trail self.old) }
+        ensures journal { self.new.journal ≡ self.old.journal }
+    {
+        if was_pending {
+            self.put_number(Key::Pending, vt);
+        } else {
+            self.begin_switch(vt);
+        }
+    }
+
+    /// No switch is pending, no pause is awaited, and the active session goes on.
+    fn withdraw_switch(&mut self)
+        requires room { length (withdraw_switch (trail self.old)) ≤ self.old.journal.reach }
+        ensures marked { trail self.new ≡ withdraw_switch (trail self.old) }
+        ensures journal { self.new.journal ≡ self.old.journal }
+    {
+        let active = active_on(self, seat0());
+        self.put_absent(Key::Pending);
+        self.unawait_some(active);
+        self.resume_some(active);
+    }
+
+    /// Whether a switch of virtual terminals is pending.
+    fn is_pending(&self) -> bool
+        ensures { result ≡ is_pending_fact (value (trail self.now) Key.Pending) }
+    {
+        is_pending_fact(self.fact(&Key::Pending))
+    }
+
+    /// Another terminal is asked for; the current one withdraws a switch that is pending.
+    #[tactic(auto, unfolding(login_model::specs::Switching::request))]
+    pub fn request(&mut self, vt: u32)
+        requires room { length (request vt (trail self.old)) ≤ self.old.journal.reach }
+        ensures marked { trail self.new ≡ request vt (trail self.old) }
+        ensures journal { self.new.journal ≡ self.old.journal }
+    {
+        let is_pending = self.is_pending();
+        if vt == current_vt(self) {
+            if is_pending {
+                self.withdraw_switch();
+            }
+        } else {
+            self.ask_switch(vt, is_pending);
+        }
+    }
+}
