@@ -28,9 +28,10 @@ is_command() {
     [[ $# == 1 && $1 == replay ]]
 }
 
-# The program's line for words that are no command, as its source has it.
+# The program's line for words that are no command, as its sources have it.
 usage_line() {
-    grep -rhom1 'usage: login [^"\\]*' "$top/crates/login_prog/src" | head -n 1
+    local lines
+    lines=$(grep -rhom1 'usage: login [^"\\]*' "$top"/crates/*/src) && echo "${lines%%$'\n'*}"
 }
 
 # The crates that the program is made of, lowest first.
@@ -87,7 +88,7 @@ build() {
 }
 
 if ! is_command "$@"; then
-    line=$(usage_line 2>/dev/null) || die "not run: the usage line is not in its source"
+    line=$(usage_line 2>/dev/null) || die "not run: the usage line is not in the sources"
     echo "$line" >&2
     exit 1
 fi
