@@ -1,7 +1,7 @@
 # What the counts of instructions share; each script of them sources this. A program of bench/programs is
 # built beside a copy of the crates. The programs are kept as texts, since the gate takes each file of
 # the language for a part of a crate. A program is proved first, and so is each crate that it needs, which takes
-# some minutes where they were not proved on this machine before. The counts are those of callgrind
+# up to an hour where they were not proved on this machine before. The counts are those of callgrind
 # (valgrind), so they do not depend on what else runs.
 
 top=$(cd "$(dirname "$(readlink -f "${BASH_SOURCE[0]}")")/.." && pwd)
