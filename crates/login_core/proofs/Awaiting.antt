@@ -13,11 +13,10 @@ use Rattle.login_model.specs.Where.{is_set}
 use Rattle.login_model.specs.Trail.{Trail, value}
 use Rattle.login_model.specs.Devices.{is_awaited_among, is_awaiting}
 use Rattle.login_model.proofs.Keys.{test}
-use Rattle.login_model.proofs.Loops.{awaiting-none}
-use Rattle.login_table.specs.Stands.{Stands}
+use Rattle.login_laws.proofs.Loops.{awaiting-none}
 use Rattle.login_table.specs.Rows.{as_trail}
 use Rattle.login_table.specs.declared.rows.Row.{Row}
-use Rattle.login_core.specs.Facts.{is_take_key}
+use Rattle.login_core.specs.Facts.{Tables, TablesStand}
 use Rattle.login_core.specs.Awaiting.{is_awaited_key}
 
 among-none : (t : Trail) → is_awaited_among t [] ≡ false
@@ -77,8 +76,8 @@ both-ways true b f g = sym (f refl)
 both-ways false true f g = g refl
 both-ways false false f g = refl
 
-pub awaiting-standing : (rows t : Trail) → Stands is_take_key rows t → is_awaiting rows ≡ is_awaiting t
-awaiting-standing rows t s =
-    both-ways (is_awaiting rows) (is_awaiting t)
-    (moved rows t (λ r d. s (Awaited r d) refl))
-    (moved t rows (λ r d. sym (s (Awaited r d) refl)))
+pub awaiting-standing : (f : Tables) (t : Trail) → TablesStand f t → is_awaiting f.takes ≡ is_awaiting t
+awaiting-standing f t s =
+    both-ways (is_awaiting f.takes) (is_awaiting t)
+    (moved f.takes t (λ r d. s.facts (Awaited r d)))
+    (moved t f.takes (λ r d. sym (s.facts (Awaited r d))))

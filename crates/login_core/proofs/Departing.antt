@@ -15,11 +15,12 @@ use Rattle.login_model.specs.Trail.{Trail, value, put}
 use Rattle.login_model.specs.Where.{is_user, is_user_fact, is_user_in, users, sessions, sessions_of}
 use Rattle.login_model.specs.Procedure.{is_empty, forget, leave}
 use Rattle.login_model.specs.Direct.{leave_known, is_overdue_fact, overdue}
-use Rattle.login_model.proofs.Grows.{Grows, grows-refl, leave-grows}
+use Rattle.login_laws.proofs.Grows.{Grows, grows-refl, leave-grows}
 use Rattle.login_model.proofs.Keys.{test, same-user}
 use Rattle.login_model.proofs.NameLaws.{user_order}
 use Rattle.login_model.proofs.InOrder.{rest-all, users-enumerated}
-use Rattle.login_core.specs.Leaving.{is_known, is_overdue}
+use Rattle.login_core.specs.Leaving.{is_overdue}
+use Rattle.login_model.specs.Facts.{is_known}
 use Rattle.login_core.proofs.Among.{among, left-same}
 use Rattle.login_core.proofs.Frames.{Keeps, keeps-then, keeps-put, keeps-say, put-other}
 use Rattle.login_core.proofs.Going.{Tour, left, KeepsAbove}

@@ -13,7 +13,7 @@ use Rattle.login_model.specs.Trail.{Trail, after}
 use Rattle.login_model.specs.Policy.{verdict}
 use Rattle.login_model.specs.Legal.{after_all, trail_of, IsPlaced, IsLegal, IsLegalAfter, IsLegalEntry, stepped, answered}
 use Rattle.login_model.specs.Stopping.{is_stop, stop_from}
-use Rattle.login_model.proofs.JournalLaws.{length-after}
+use Rattle.login_laws.proofs.JournalLaws.{length-after}
 use Rattle.login_core.specs.declared.board.Board.{Board}
 use Rattle.login_core.specs.Board.{trail}
 use Rattle.login_core.specs.UnderWay.{so_far, entry_of}
@@ -35,7 +35,7 @@ so_far-is es ms = refl
 pub record Steps (U : Setup) (journal : List Entry) (e : Event) (v : Verdict) (a : Answer) (ms : List Mark) : Type 0 where
   pub placed : IsPlaced journal e
   pub verdict_is : v ≡ verdict U (trail_of journal) e
-  pub answer_is : a ≡ answered U v e (trail_of journal)
+  pub answer_is : a ≡ answered U v e journal
   pub marks_are : so_far journal ms ≡ stepped U v e (trail_of journal)
 
 pub legal-closed : (U : Setup) (journal : List Entry) (e : Event) (v : Verdict) (a : Answer) (ms : List Mark) → IsLegal U journal → Steps U journal e v a ms → IsLegal U (journal ++ entry_of e v a ms ∷ [])

@@ -3,7 +3,7 @@ use Rattle.std.proofs.Common.{◌≡◌, ◌+◌, ◌<◌, ◌≤◌, Bool, true
 use Rattle.login_model.specs.Trail.{Trail}
 use Rattle.login_model.specs.Names.{IsNext}
 use Rattle.login_model.specs.Procedure.{each}
-use Rattle.login_model.proofs.Grows.{Grows, each-grows}
+use Rattle.login_laws.proofs.Grows.{Grows, each-grows}
 use Rattle.login_model.proofs.InOrder.{Enumerates, rest, rest-none, rest-next, rest-stays}
 use Rattle.login_core.specs.declared.board.Board.{Board}
 use Rattle.login_core.specs.Board.{trail}

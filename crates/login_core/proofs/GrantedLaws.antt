@@ -7,7 +7,7 @@ use Rattle.login_base.specs.declared.ids.SessId.{SessId}
 use Rattle.login_model.specs.Fresh.{next_session}
 use Rattle.login_model.specs.MadeWith.{texts_in}
 use Rattle.login_model.specs.Policy.{call_rules, hardware_rules, on_session, only_session, verdict}
-use Rattle.login_model.specs.Sound.{IsSound}
+use Rattle.login_laws.specs.Sound.{IsSound}
 use Rattle.login_model.specs.Trail.{Trail, value}
 use Rattle.login_model.specs.Where.{is_seat, is_session}
 use Rattle.login_model.specs.declared.call.Call.{Call}
@@ -20,7 +20,7 @@ use Rattle.login_model.specs.declared.hardware.Hardware.TheVariants.{Exit}
 use Rattle.login_model.specs.declared.rule.Rule.TheVariants.{NoSuchSeat, NoSuchSession}
 use Rattle.login_model.specs.declared.rule.Verdict.TheVariants.{Granted}
 use Rattle.login_model.specs.declared.setup.Setup.{Setup}
-use Rattle.login_model.proofs.Granted.{NoneBroken, granted-rules, holds-rule}
+use Rattle.login_laws.proofs.Granted.{NoneBroken, granted-rules, holds-rule}
 use Rattle.login_model.proofs.Keys.{both}
 use Rattle.login_core.specs.Calls.{ExitsHere, NamesSeat}
 
@@ -38,14 +38,14 @@ exits-at : (t : Trail) (o : Option SessId) → NoneBroken (on_session (only_sess
 exits-at t None h = tt
 exits-at t (Some s) h = holds-rule (is_session t s) NoSuchSession h.0
 
-exits-by : (t : Trail) (x : Hardware) → NoneBroken (hardware_rules t x) → ExitsHere t x
-exits-by t (Exit id) h = exits-at t (session_of id) h
-exits-by t _ h = tt
+exits-by : (U : Setup) (t : Trail) (x : Hardware) → NoneBroken (hardware_rules U t x) → ExitsHere t x
+exits-by U t (Exit id) h = exits-at t (session_of id) h
+exits-by U t _ h = tt
 
 -- a granted exit is of a session that is not gone
 pub exits : (U : Setup) (t : Trail) (x : Hardware) → verdict U t (Happens x) ≡ Granted → ExitsHere t x
-exits U t x g = exits-by t x (granted-rules U t (Happens x) g)
+exits U t x g = exits-by U t x (granted-rules U t (Happens x) g)
 
 -- nothing is known of the next session
-pub unmade : (t : Trail) → IsSound t → texts_in (value t (Sess (next_session t))) ≡ None
-unmade t s = ap texts_in (s.between.unused.sessions (Sess (next_session t)) (next_session t) refl (omega arith))
+pub unmade : (U : Setup) (t : Trail) → IsSound U t → texts_in (value t (Sess (next_session t))) ≡ None
+unmade U t s = ap texts_in (s.between.unused_sessions (Sess (next_session t)) (next_session t) refl (omega arith))

@@ -2,7 +2,7 @@
 use Rattle.std.proofs.Common.{◌≡◌, ◌≤◌, length, ap, arith}
 use Rattle.login_model.specs.Trail.{Trail}
 use Rattle.login_core.specs.Ledger.{LedgerState}
-use Rattle.login_model.proofs.Grows.{put-grows, tell_all-grows, tell_controller-grows, kill-grows, untake-grows, release-grows, revoke-grows, set_phase-grows, vacate-grows, leave_seat-grows, force-grows, resume-grows, know-grows, forget-grows, shut-grows}
+use Rattle.login_laws.proofs.Grows.{put-grows, tell_all-grows, tell_controller-grows, kill-grows, untake-grows, release-grows, revoke-grows, set_phase-grows, vacate-grows, leave_seat-grows, force-grows, resume-grows, know-grows, forget-grows, shut-grows}
 
 pub ruleset growing = (put-grows, tell_all-grows, tell_controller-grows, kill-grows, untake-grows, release-grows, revoke-grows, set_phase-grows, vacate-grows, leave_seat-grows, force-grows, resume-grows, know-grows, forget-grows, shut-grows)
 

@@ -3,7 +3,6 @@ use Rattle.std.proofs.Common.{◌≡◌, [], true, false, ap, sym, ◌∙◌}
 use Rattle.login_model.specs.declared.event.Event.{Event}
 use Rattle.login_model.specs.declared.event.Event.TheVariants.{Connect, Disconnect, Call as Calls, Hardware as Happens, Tick, Stop}
 use Rattle.login_model.specs.declared.rule.Verdict.{Verdict}
-use Rattle.login_model.specs.declared.setup.Setup.{Setup}
 use Rattle.login_model.specs.Legal.{trail_of}
 use Rattle.login_model.specs.Policy.{verdict}
 use Rattle.login_model.specs.Trail.{Trail}

@@ -4,10 +4,10 @@ use Rattle.login_base.specs.declared.ids.ConnId.{ConnId}
 use Rattle.login_model.specs.Direct.{direct, direct_call}
 use Rattle.login_model.specs.Full.{connected_after, entries_needed, full, is_granted, mark_count, marks_needed, over}
 use Rattle.login_model.specs.Legal.{stepped, trail_of}
-use Rattle.login_model.specs.Need.{IsDisconnect, most_marks, most_rise, need}
+use Rattle.login_laws.specs.Need.{IsDisconnect, most_marks, most_rise, need}
 use Rattle.login_model.specs.Policy.{verdict}
 use Rattle.login_model.specs.Settle.{settle}
-use Rattle.login_model.specs.Sound.{IsSound}
+use Rattle.login_laws.specs.Sound.{IsSound}
 use Rattle.login_model.specs.Trail.{Trail}
 use Rattle.login_model.specs.Where.{connections, is_connected}
 use Rattle.login_model.specs.declared.call.Call.{Call}
@@ -24,10 +24,10 @@ use Rattle.login_model.specs.declared.rule.Verdict.TheVariants.{Granted, Denied}
 use Rattle.login_model.specs.declared.setup.Setup.{Setup}
 use Rattle.login_model.specs.Fresh.{next_session, next_handle}
 use Rattle.login_model.specs.Creating.{create, created_session}
-use Rattle.login_model.proofs.Comings.{IsNew, IsTame, comes-connections, connect-connections, disconnect-connections, event-comes, event-tame, tame-connections}
-use Rattle.login_model.proofs.EventMarks.{other}
-use Rattle.login_model.proofs.NeedLaws.{ends}
-use Rattle.login_model.proofs.RoomLaws.{stop-stays}
+use Rattle.login_laws.proofs.Comings.{IsNew, IsTame, comes-connections, connect-connections, disconnect-connections, event-comes, event-tame, tame-connections}
+use Rattle.login_laws.proofs.EventMarks.{other}
+use Rattle.login_laws.proofs.NeedLaws.{ends}
+use Rattle.login_laws.proofs.RoomLaws.{stop-stays}
 use Rattle.login_core.specs.Fullness.{always_fits}
 use Rattle.login_core.specs.Inside.{stop_need}
 
@@ -76,17 +76,17 @@ small U before (Tick m) f h = small-by U before (Tick m) h
 abbrev pub Within : ℕ → Trail → Type 0
 Within limit t = length t + need t ≤ limit
 
-pub other-within : (U : Setup) (e : Event) (t : Trail) (limit : ℕ) → IsSound t → (IsDisconnect e → ⊥) → length t + need t + most_marks t + most_rise t ≤ limit → Within limit (stepped U (verdict U t e) e t)
+pub other-within : (U : Setup) (e : Event) (t : Trail) (limit : ℕ) → IsSound U t → (IsDisconnect e → ⊥) → length t + need t + most_marks t + most_rise t ≤ limit → Within limit (stepped U (verdict U t e) e t)
 other-within U e t limit s n h =
     let w = other U t e s n in
     let a = w.marks in
     let b = w.need_rises in
     omega arith
 
-pub disconnect-within : (U : Setup) (c : ConnId) (t : Trail) (limit : ℕ) → IsSound t → is_connected t c ≡ true → Within limit t → Within limit (stepped U Granted (Disconnect c) t)
+pub disconnect-within : (U : Setup) (c : ConnId) (t : Trail) (limit : ℕ) → IsSound U t → is_connected t c ≡ true → Within limit t → Within limit (stepped U Granted (Disconnect c) t)
 disconnect-within U c t limit s h w = let e = ends U t c s h in omega arith
 
-pub stop-within : (U : Setup) (t : Trail) (limit : ℕ) → IsSound t → Within limit t → Within limit (stepped U Granted Stop t)
+pub stop-within : (U : Setup) (t : Trail) (limit : ℕ) → IsSound U t → Within limit t → Within limit (stepped U Granted Stop t)
 stop-within U t limit s w = let e = ap (λ (u : Trail). length u + need u) (stop-stays U t s) in omega arith
 
 -- ---- connections
@@ -153,7 +153,7 @@ pub record Made (U : Setup) (entries reach count : ℕ) (t : Trail) (e : Event) 
   pub few_entries : count + connected_after U t e + 2 ≤ 200000
   pub few_marks : length t + need t + most_marks t + most_rise t ≤ 4000000
 
-pub kept-other : (U : Setup) (entries reach count : ℕ) (t : Trail) (e : Event) (v : Verdict) → IsSound t → (IsDisconnect e → ⊥) → v ≡ verdict U t e → Made U (entries + 1) reach count t e
+pub kept-other : (U : Setup) (entries reach count : ℕ) (t : Trail) (e : Event) (v : Verdict) → IsSound U t → (IsDisconnect e → ⊥) → v ≡ verdict U t e → Made U (entries + 1) reach count t e
     → Kept entries reach (count + 1) None (stepped U v e t)
 kept-other U entries reach count t e v s n h m =
     let c = connected U t e v n h in
@@ -175,7 +175,7 @@ stop-granted : (U : Setup) (t : Trail) → verdict U t Stop ≡ Granted
 unfolding verdict
 stop-granted U t = refl
 
-pub kept-disconnect : (U : Setup) (entries reach count : ℕ) (stop : Option ℕ) (t : Trail) (c : ConnId) (v : Verdict) → IsSound t → is_connected t c ≡ true → v ≡ verdict U t (Disconnect c)
+pub kept-disconnect : (U : Setup) (entries reach count : ℕ) (stop : Option ℕ) (t : Trail) (c : ConnId) (v : Verdict) → IsSound U t → is_connected t c ≡ true → v ≡ verdict U t (Disconnect c)
     → Kept (entries + 1) reach count stop t → Kept entries reach (count + 1) stop (stepped U v (Disconnect c) t)
 kept-disconnect U entries reach count stop t c v s here h k =
     let P : Verdict → Type 0 = λ w. Kept entries reach (count + 1) stop (stepped U w (Disconnect c) t) in
@@ -189,7 +189,7 @@ kept-disconnect U entries reach count stop t c v s here h k =
       few_marks = disconnect-within U c t 4000000 s here k.few_marks;
     })
 
-pub kept-stop : (U : Setup) (entries reach count n : ℕ) (t : Trail) (v : Verdict) → IsSound t → v ≡ verdict U t Stop → Kept (entries + 1) reach count None t → Kept entries reach (count + 1) (Some n) (stepped U v Stop t)
+pub kept-stop : (U : Setup) (entries reach count n : ℕ) (t : Trail) (v : Verdict) → IsSound U t → v ≡ verdict U t Stop → Kept (entries + 1) reach count None t → Kept entries reach (count + 1) (Some n) (stepped U v Stop t)
 kept-stop U entries reach count n t v s h k =
     let P : Verdict → Type 0 = λ w. Kept entries reach (count + 1) (Some n) (stepped U w Stop t) in
     let g = ap (λ (u : Trail). length (connections u)) (stop-stays U t s) in

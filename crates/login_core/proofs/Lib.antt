@@ -1,4 +1,8 @@
 pub mod Counting
+pub mod CountLaws
+pub mod PairLaws
+pub mod CountedLaws
+pub mod HomeLaws
 pub mod Standing
 pub mod Placed
 pub mod Told
@@ -26,7 +30,6 @@ pub mod ShutLaws
 pub mod NearestPlace
 pub mod SeatPlaces
 pub mod Turned
-pub mod Taking
 pub mod Filling
 pub mod TextsClose
 pub mod GrantedLaws

@@ -23,7 +23,7 @@ use Rattle.login_model.specs.Procedure.{each, if_some, no, kill, untake, release
 use Rattle.login_model.specs.Direct.{is_fifo_of, fifo_of, kept_open_by}
 use Rattle.login_model.proofs.Keys.{test, same-number}
 use Rattle.login_model.proofs.Values.{upd-same, value-put}
-use Rattle.login_model.proofs.SessionSteps.{closing-not-open}
+use Rattle.login_laws.proofs.SessionSteps.{closing-not-open}
 use Rattle.login_core.specs.declared.room.copies.Copies.{Copies}
 use Rattle.login_core.specs.declared.room.kept.KeptRow.{KeptRow}
 use Rattle.login_core.specs.Texts.{AreSome}

@@ -1,5 +1,5 @@
 -- The tables stand for one more mark.
-use Rattle.std.proofs.Common.{◌≡◌, ℕ, ◌+◌, Bool, true, false, cond, Option, Some, None, List, [], ◌∷◌, ◌++◌, length, refl, ap, sym, subst, ◌∙◌}
+use Rattle.std.proofs.Common.{◌≡◌, ◌+◌, Bool, true, false, cond, Option, Some, None, List, [], ◌∷◌, ◌++◌, length, refl, ap, sym, subst, ◌∙◌}
 use Rattle.login_model.specs.declared.fact.Key.{Key}
 use Rattle.login_model.specs.declared.fact.Fact.{Fact}
 use Rattle.login_model.specs.declared.mark.Mark.{Mark}
@@ -7,20 +7,19 @@ use Rattle.login_model.specs.declared.mark.Mark.TheVariants.{Set, Say}
 use Rattle.login_model.specs.declared.mark.Whom.{Whom}
 use Rattle.login_model.specs.declared.mark.Notice.{Notice}
 use Rattle.login_model.specs.declared.mark.Entry.{Entry}
-use Rattle.login_model.specs.Same.{same_key, same_fact}
+use Rattle.login_model.specs.Same.{same_fact}
 use Rattle.login_model.specs.Trail.{Trail, value, after, put}
-use Rattle.login_model.specs.Fresh.{fresh_session, fresh_handle}
 use Rattle.login_model.specs.Names.{IsNext}
 use Rattle.login_model.specs.Legal.{after_all, trail_of}
-use Rattle.login_table.specs.Stands.{Stands}
 use Rattle.login_table.specs.Listed.{is_there}
-use Rattle.login_table.proofs.Standing.{value-set}
-use Rattle.users_linger.specs.Own.{is_user_key}
-use Rattle.sessions.specs.Own.{is_session_key}
-use Rattle.seats_vts.specs.Own.{is_seat_key}
-use Rattle.login_core.specs.Facts.{Tables, TablesStand, StandFor, is_take_key, is_other_key, opens, gives}
+use Rattle.login_core.specs.declared.board.home.Home.{Home}
+use Rattle.login_core.specs.declared.room.counts.Counts.{Counts}
+use Rattle.login_core.specs.Counts.{AreCounted}
+use Rattle.login_core.specs.Facts.{Tables, TablesStand, StandFor, table}
+use Rattle.login_core.specs.Home.{home}
 use Rattle.login_core.specs.UnderWay.{so_far}
-use Rattle.login_core.proofs.Counting.{sessions-set, handles-set, sessions-say, handles-say}
+use Rattle.login_core.proofs.CountedLaws.{counted-say}
+use Rattle.login_core.proofs.Counting.{sessions-say, handles-say}
 
 value-say : (k : Key) (w : Whom) (n : Notice) (t : Trail) → value (Say w n ∷ t) k ≡ value t k
 unfolding value
@@ -34,17 +33,23 @@ pub closed : (f : Tables) (t : Trail) → TablesStand f t → StandFor f t
 unfolding StandFor
 closed f t s = s
 
--- a notice changes no fact
-pub stands-say : (owns : Key → Bool) (rows t : Trail) (w : Whom) (n : Notice) → Stands owns rows t → Stands owns rows (Say w n ∷ t)
-stands-say owns rows t w n s k own = s k own ∙ sym (value-say k w n t)
+-- with the same rows, counts and numbers they stand for the same marks
+pub stands-same : (f g : Tables) (t : Trail) → ((h : Home) → table g h ≡ table f h) → g.counts ≡ f.counts → g.session ≡ f.session → g.handle ≡ f.handle → StandFor f t → StandFor g t
+stands-same f g t rows counts session handle stands =
+    let s = opened f t stands in
+    let P : Counts → Type 0 = λ c. AreCounted c t in
+    closed g t (record {
+      facts = λ k. ap (λ (u : Trail). value u k) (rows (home k)) ∙ s.facts k;
+      counts = subst P (sym counts) s.counts;
+      session = session ∙ s.session;
+      handle = handle ∙ s.handle;
+    })
 
+-- a notice changes no fact
 pub stand-say : (f : Tables) (t : Trail) (w : Whom) (n : Notice) → StandFor f t → StandFor f (Say w n ∷ t)
 stand-say f t w n stands = let s = opened f t stands in closed f (Say w n ∷ t) (record {
-  users = stands-say is_user_key f.users t w n s.users;
-  sessions = stands-say is_session_key f.sessions t w n s.sessions;
-  seats = stands-say is_seat_key f.seats t w n s.seats;
-  takes = stands-say is_take_key f.takes t w n s.takes;
-  others = stands-say is_other_key f.others t w n s.others;
+  facts = λ k. s.facts k ∙ sym (value-say k w n t);
+  counts = counted-say f.counts w n t s.counts;
   session = s.session ∙ sym (sessions-say w n t);
   handle = s.handle ∙ sym (handles-say w n t);
 })
@@ -55,10 +60,10 @@ next-same lt p q above None e h = λ a i j. h a (e a ∙ i) j
 next-same lt p q above (Some a) e h = (sym (e a) ∙ h.0, h.1, λ b i j. h.2 b (e b ∙ i) j)
 
 -- the next name of those that a table keeps
-pub next-standing : {A : Type 0} (lt : A → A → Bool) (key_of : A → Key) (is_fact : Fact → Bool) (owns : Key → Bool) (rows t : Trail) (above next : Option A)
-    → ((a : A) → owns (key_of a) ≡ true) → Stands owns rows t → IsNext lt (is_there key_of is_fact rows) above next → IsNext lt (is_there key_of is_fact t) above next
-next-standing lt key_of is_fact owns rows t above next own s h =
-    next-same lt (is_there key_of is_fact rows) (is_there key_of is_fact t) above next (λ a. ap is_fact (s (key_of a) (own a))) h
+pub next-standing : {A : Type 0} (lt : A → A → Bool) (key_of : A → Key) (is_fact : Fact → Bool) (rows t : Trail) (above next : Option A)
+    → ((a : A) → value rows (key_of a) ≡ value t (key_of a)) → IsNext lt (is_there key_of is_fact rows) above next → IsNext lt (is_there key_of is_fact t) above next
+next-standing lt key_of is_fact rows t above next s h =
+    next-same lt (is_there key_of is_fact rows) (is_there key_of is_fact t) above next (λ a. ap is_fact (s a)) h
 
 -- the marks so far
 pub after-more : (t : Trail) (ms : List Mark) (m : Mark) → after t (ms ++ m ∷ []) ≡ m ∷ after t ms

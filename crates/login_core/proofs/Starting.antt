@@ -3,7 +3,9 @@ use Rattle.std.proofs.Common.{◌≡◌, ◌≤◌, ◌+◌, true, false, None, 
 use Rattle.login_base.specs.declared.ids.SessId.{SessId}
 use Rattle.login_model.specs.Full.{taken_by}
 use Rattle.login_model.specs.Legal.{IsLegal, trail_of}
-use Rattle.login_model.specs.Need.{need}
+use Rattle.login_laws.specs.Need.{need}
+use Rattle.login_laws.specs.Quiet.{IsQuiet}
+use Rattle.login_laws.proofs.Quiet.{start-quiet}
 use Rattle.login_model.specs.Names.{names}
 use Rattle.login_model.specs.Setups.{IsSetup}
 use Rattle.login_model.specs.Stopping.{stop_from}
@@ -47,6 +49,7 @@ core-new U m x u j k n a b =
     record {
       set_up = u;
       legal = subst P (sym j) tt;
+      quiet = subst IsQuiet (sym t) start-quiet;
       no_marks = k;
       stop_is = ap (stop_from 1) (sym j);
       entries = omega arith;

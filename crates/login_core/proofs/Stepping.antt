@@ -1,11 +1,13 @@
 -- What a step keeps.
-use Rattle.std.proofs.Common.{◌≡◌, ◌≤◌, ◌<◌, ◌+◌, ◌-◌, ℕ, Bool, false, cond, Option, Some, None, List, [], ◌∷◌, ◌++◌, length, refl, ap, sym, subst, ◌∙◌, arith}
+use Rattle.std.proofs.Common.{◌≡◌, ◌≤◌, ◌<◌, ◌+◌, ◌-◌, ℕ, Bool, true, false, cond, Option, Some, None, List, [], ◌∷◌, ◌++◌, length, refl, ap, sym, subst, ◌∙◌, arith}
 use Rattle.login_base.specs.declared.ids.ConnId.{ConnId}
 use Rattle.login_model.specs.Full.{mark_count}
 use Rattle.login_model.specs.Legal.{IsLegal, IsPlaced, answered, stepped, trail_of}
-use Rattle.login_model.specs.Need.{IsDisconnect, need}
+use Rattle.login_laws.specs.Need.{IsDisconnect, need}
 use Rattle.login_model.specs.Policy.{verdict}
-use Rattle.login_model.specs.Sound.{IsSound}
+use Rattle.login_laws.specs.Quiet.{IsQuiet}
+use Rattle.login_laws.specs.Sound.{IsSound}
+use Rattle.login_model.specs.Built.{is_built, is_built_call}
 use Rattle.login_model.specs.Stopping.{is_stop, stop_from, stopped}
 use Rattle.login_model.specs.Trail.{Trail}
 use Rattle.login_model.specs.Where.{connections}
@@ -14,18 +16,22 @@ use Rattle.login_model.specs.declared.answer.Answer.{Answer}
 use Rattle.login_model.specs.declared.answer.Answer.TheVariants.{Nothing}
 use Rattle.login_model.specs.declared.rule.Verdict.TheVariants.{Granted, Denied}
 use Rattle.login_model.specs.declared.event.Event.{Event}
+use Rattle.login_model.specs.declared.call.Call.{Call}
+use Rattle.login_model.specs.declared.call.Call.TheVariants.{ReadInput}
 use Rattle.login_model.specs.declared.event.Event.TheVariants.{Connect, Disconnect, Call as Calls, Hardware as Happens, Tick, Stop}
+use Rattle.login_model.specs.declared.event.Request.{Request}
 use Rattle.login_model.specs.declared.mark.Entry.{Entry}
 use Rattle.login_model.specs.declared.mark.Mark.{Mark}
 use Rattle.login_model.specs.declared.rule.Verdict.{Verdict}
 use Rattle.login_model.specs.declared.setup.Setup.{Setup}
-use Rattle.login_model.proofs.Comings.{disconnect-connections}
-use Rattle.login_model.proofs.RoomLaws.{room}
+use Rattle.login_laws.proofs.Comings.{disconnect-connections}
+use Rattle.login_laws.proofs.Quiet.{stepped-quiet}
+use Rattle.login_laws.proofs.RoomLaws.{room}
 use Rattle.login_core.specs.Fullness.{always_fits}
 use Rattle.login_core.specs.Inside.{IsCore, stop_need}
 use Rattle.login_core.specs.Kept.{AreReady, HaveTexts}
 use Rattle.login_core.specs.UnderWay.{entry_of}
-use Rattle.login_core.specs.State.{CoreState, IsReady, IsRoomFor, answer_next, stop_next}
+use Rattle.login_core.specs.State.{AnswersCall, AnswersWith, CoreState, HasAnswer, IsReady, IsRoomFor, answer_next, stop_next}
 use Rattle.login_core.specs.declared.board.Board.{Board}
 use Rattle.login_core.specs.declared.room.ready.Ready.{Ready}
 use Rattle.login_core.specs.declared.room.texts.Texts.{Texts}
@@ -42,7 +48,8 @@ pub record Stepping (U : Setup) (m : Board) (x : Texts) (a : Ready) (stop : Opti
   pub placed : IsPlaced m.journal.items e
   pub ready : IsReady (seen U m x a) e
   pub verdict_is : v ≡ verdict U (trail_of m.journal.items) e
-  pub sound : IsSound (trail_of m.journal.items)
+  pub sound : IsSound U (trail_of m.journal.items)
+  pub built : is_built e ≡ true
 
 pub stopped-never : (es : List Entry) (c : ConnId) → stopped es (Disconnect c) ≡ None
 unfolding stopped
@@ -145,27 +152,48 @@ stays-within U m x a stop e v s =
     let r = k.reach_kept in
     omega arith
 
-disconnect-answer : (U : Setup) (c : ConnId) (t : Trail) (v : Verdict) → Nothing ≡ answered U v (Disconnect c) t
+disconnect-answer : (U : Setup) (c : ConnId) (t : List Entry) (v : Verdict) → Nothing ≡ answered U v (Disconnect c) t
 unfolding answer
 disconnect-answer U c t Granted = refl
 disconnect-answer U c t (Denied r) = refl
 
-stop-answer : (U : Setup) (t : Trail) (v : Verdict) → Nothing ≡ answered U v Stop t
+stop-answer : (U : Setup) (t : List Entry) (v : Verdict) → Nothing ≡ answered U v Stop t
 unfolding answer
 stop-answer U t Granted = refl
 stop-answer U t (Denied r) = refl
 
-other-answer : (U : Setup) (m : Board) (x : Texts) (a : Ready) (stop : Option ℕ) (e : Event) (v : Verdict) → IsRoomFor (seen U m x a) e → Stepping U m x a stop e v → a.answer ≡ answered U v e (trail_of m.journal.items)
-other-answer U m x a stop e v r s = r.answer ∙ ap (λ (w : Verdict). answered U w e (trail_of m.journal.items)) (sym s.verdict_is)
+-- where the answer is the event's, it was made ready
+answers-call : (c : CoreState) (r : Request) (x : Call) → AnswersWith c (Calls r) → AnswersCall c r x
+answers-call c r (ReadInput b) h = tt
+answers-call c r _ h = h
+
+pub has-answer : (c : CoreState) (e : Event) → AnswersWith c e → HasAnswer c e
+has-answer c (Calls r) h = answers-call c r r.call h
+has-answer c _ h = h
+
+-- and the other way round, of an event that is built
+call-answer : (c : CoreState) (r : Request) (x : Call) → is_built_call x ≡ true → AnswersCall c r x → AnswersWith c (Calls r)
+call-answer c r (ReadInput b) i h = absurd (not-built i)
+  where
+    not-built : false ≡ true → ⊥
+    not-built k = cc
+call-answer c r _ i h = h
+
+ready-answer : (c : CoreState) (e : Event) → is_built e ≡ true → HasAnswer c e → AnswersWith c e
+ready-answer c (Calls r) i h = call-answer c r r.call i h
+ready-answer c _ i h = h
+
+other-answer : (U : Setup) (m : Board) (x : Texts) (a : Ready) (stop : Option ℕ) (e : Event) (v : Verdict) → IsRoomFor (seen U m x a) e → Stepping U m x a stop e v → a.answer ≡ answered U v e m.journal.items
+other-answer U m x a stop e v r s = ready-answer (seen U m x a) e s.built r.answer ∙ ap (λ (w : Verdict). answered U w e m.journal.items) (sym s.verdict_is)
 
 -- the answer that was made ready is the event's
-pub answered-next : (U : Setup) (m : Board) (x : Texts) (a : Ready) (stop : Option ℕ) (e : Event) (v : Verdict) → Stepping U m x a stop e v → answer_next e a.answer ≡ answered U v e (trail_of m.journal.items)
+pub answered-next : (U : Setup) (m : Board) (x : Texts) (a : Ready) (stop : Option ℕ) (e : Event) (v : Verdict) → Stepping U m x a stop e v → answer_next e a.answer ≡ answered U v e m.journal.items
 answered-next U m x a stop (Connect c u) v s = other-answer U m x a stop (Connect c u) v s.ready s
 answered-next U m x a stop (Calls r) v s = other-answer U m x a stop (Calls r) v s.ready s
 answered-next U m x a stop (Happens y) v s = other-answer U m x a stop (Happens y) v s.ready s
 answered-next U m x a stop (Tick n) v s = other-answer U m x a stop (Tick n) v s.ready s
-answered-next U m x a stop (Disconnect c) v s = disconnect-answer U c (trail_of m.journal.items) v
-answered-next U m x a stop Stop v s = stop-answer U (trail_of m.journal.items) v
+answered-next U m x a stop (Disconnect c) v s = disconnect-answer U c m.journal.items v
+answered-next U m x a stop Stop v s = stop-answer U m.journal.items v
 
 -- the board after the entry is closed is one of a core again
 pub core-closed : (U : Setup) (m n : Board) (x y : Texts) (a : Ready) (b : Answer) (stop next : Option ℕ) (e : Event) (v : Verdict) (ms : List Mark) → Stepping U m x a stop e v → Steps U m.journal.items e v b ms
@@ -190,6 +218,7 @@ core-closed U m n x y a b stop next e v ms s w j k l r o h =
     record {
       set_up = s.core.set_up;
       legal = subst P (sym j) (legal-closed U es e v b ms s.core.legal w);
+      quiet = subst IsQuiet (sym trail) (stepped-quiet U v e t s.built s.core.quiet);
       no_marks = k;
       stop_is = o ∙ ap (λ (p : Option ℕ). stop_next p e (length es + 1)) s.core.stop_is ∙ sym (stop-closed es d) ∙ ap (stop_from 1) (sym j);
       entries = omega arith;

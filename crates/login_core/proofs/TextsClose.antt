@@ -9,8 +9,8 @@ use Rattle.login_model.specs.declared.fact.Fact.{Fact}
 use Rattle.login_model.specs.declared.fact.Fact.TheVariants.{Owned}
 use Rattle.login_model.specs.declared.fact.Key.TheVariants.{Owner}
 use Rattle.login_model.specs.declared.fact.Owner.TheVariants as owner
-use Rattle.login_model.proofs.Carried.{close-carried}
-use Rattle.login_model.proofs.Tame.{Tame, tame}
+use Rattle.login_laws.proofs.Carried.{close-carried}
+use Rattle.login_laws.proofs.Tame.{Tame, tame, tame-unlocks}
 use Rattle.login_core.specs.Calls.{fifo_session}
 use Rattle.login_core.specs.Kept.{AreClosing, copies_in}
 use Rattle.login_core.specs.declared.room.kept.KeptRow.{KeptRow}
@@ -32,7 +32,7 @@ pub closing-fifo : (h : HandleNo) (s : SessId) (t u : Trail) (rows left : List K
 closing-fifo h s t u rows left e f others fewer c =
     let v = close_handle h t in
     let P : Trail → Type 0 = Tame t in
-    let p = subst P (sym e) (close-carried tame h t) in
+    let p = subst P (sym e) (close-carried tame tame-unlocks h t) in
     let q = tame.put (Owner h) (Owned owner.Closed) t refl in
     let d = closing-later rows t v q.sessions c in
     record {
@@ -44,4 +44,4 @@ closing-fifo h s t u rows left e f others fewer c =
 pub closing-other : (h : HandleNo) (t u : Trail) (rows : List KeptRow) → u ≡ close h t → AreClosing rows t → AreClosing rows u
 closing-other h t u rows e c =
     let P : Trail → Type 0 = Tame t in
-    closing-later rows t u (subst P (sym e) (close-carried tame h t)).sessions c
+    closing-later rows t u (subst P (sym e) (close-carried tame tame-unlocks h t)).sessions c

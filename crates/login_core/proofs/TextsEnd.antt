@@ -14,9 +14,9 @@ use Rattle.login_model.specs.declared.mark.Notice.TheVariants.{SessionRemoved}
 use Rattle.login_model.specs.declared.mark.Whom.TheVariants.{All}
 use Rattle.login_model.specs.declared.session.Phase.TheVariants.{Gone}
 use Rattle.login_model.specs.declared.setup.Setup.{Setup}
-use Rattle.login_model.proofs.Carried.{ends-carried, exit-carried, leave-carried}
+use Rattle.login_laws.proofs.Carried.{ends-carried, exit-carried, leave-carried}
 use Rattle.login_model.proofs.Keys.{same-session}
-use Rattle.login_model.proofs.Tame.{Tame, later-along, later-trans, open-here, other, tame}
+use Rattle.login_laws.proofs.Tame.{Tame, later-along, later-trans, open-here, other, tame, tame-unlocks}
 use Rattle.login_model.proofs.Values.{same-refl, value-put, values-say, Facts}
 use Rattle.login_core.specs.declared.room.copies.Copies.{Copies}
 use Rattle.login_core.specs.declared.room.kept.KeptRow.{KeptRow}
@@ -93,6 +93,6 @@ pub disconnect-later : (c : ConnId) (t : Trail) → AllLater t (disconnect c t)
 unfolding disconnect
 disconnect-later c t = λ s.
     let u = unlock c (end_sessions c (each release (controlled_by t c) t)) in
-    let p = ends-carried tame c t in
+    let p = ends-carried tame tame-unlocks c t in
     let q = later-along (value u (Sess s)) (value (put (Conn c) fact.Absent u) (Sess s)) (other (Conn c) (Sess s) fact.Absent u refl) in
     later-trans (value t (Sess s)) (value u (Sess s)) (value (put (Conn c) fact.Absent u) (Sess s)) (p.sessions s) q

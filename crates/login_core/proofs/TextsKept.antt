@@ -9,9 +9,9 @@ use Rattle.login_model.specs.declared.fact.Fact.{Fact}
 use Rattle.login_model.specs.declared.fact.Fact.TheVariants as fact
 use Rattle.login_model.specs.declared.fact.Key.TheVariants.{Sess}
 use Rattle.login_model.specs.declared.session.SessionTexts.{SessionTexts}
-use Rattle.login_model.proofs.Comings.{Comes}
+use Rattle.login_laws.proofs.Comings.{Comes}
 use Rattle.login_model.proofs.Keys.{same-session}
-use Rattle.login_model.proofs.Tame.{Later}
+use Rattle.login_laws.proofs.Tame.{Later}
 use Rattle.login_model.proofs.Values.{same-refl}
 use Rattle.login_core.specs.declared.room.copies.Copies.{Copies}
 use Rattle.login_core.specs.declared.room.kept.KeptRow.{KeptRow}

@@ -14,7 +14,8 @@ use Rattle.login_model.specs.Switching.{await_handle, complete}
 use Rattle.login_model.specs.declared.setup.Setup.{Setup}
 use Rattle.login_model.specs.Direct.{control_from}
 use Rattle.login_base.specs.declared.ids.ConnId.{ConnId}
-use Rattle.login_core.specs.Told.{handle_in, handle_fact, controller_in, controller_fact, kind_in, kind_fact, is_absent, absent_or_known, terminal_in, terminal_fact}
+use Rattle.login_core.specs.Told.{handle_fact, controller_fact, kind_fact, absent_or_known, terminal_fact}
+use Rattle.login_model.specs.Facts.{handle_in, controller_in, kind_in, is_absent, number_in_fact}
 
 pub told : (f : Fact) (n : Notice) (t : Trail) → tell_controller (controller_fact (controller_in f)) n t ≡ tell_controller f n t
 told (Controller c) n t = refl
@@ -53,6 +54,6 @@ pub taken-from : (f : Fact) (c : ConnId) (s : SessId) (t : Trail) → control_fr
 taken-from (Controller b) c s t = refl
 taken-from _ c s t = refl
 
-pub completed : (U : Setup) (f : Fact) (t : Trail) → complete U (terminal_fact (terminal_in f)) t ≡ complete U f t
+pub completed : (U : Setup) (f : Fact) (t : Trail) → complete U (terminal_fact (number_in_fact f)) t ≡ complete U f t
 completed U (Number v) t = refl
 completed U _ t = refl

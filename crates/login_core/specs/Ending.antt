@@ -5,7 +5,7 @@ use Rattle.login_base.specs.declared.ids.ConnId.{ConnId}
 use Rattle.login_model.specs.declared.fact.Key.TheVariants as key
 use Rattle.login_model.specs.Trail.{Trail, value}
 use Rattle.login_model.specs.Names.{session_lt}
-use Rattle.login_model.specs.Where.{is_session, is_open, sessions}
+use Rattle.login_model.specs.Where.{is_open, sessions}
 use Rattle.login_model.specs.Procedure.{shut}
 use Rattle.login_model.specs.Direct.{is_fifo_of, fifo_of}
 

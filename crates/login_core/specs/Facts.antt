@@ -1,45 +1,43 @@
 -- The facts in their tables.
 use denote.Struct.Props.{props}
-use Rattle.std.specs.Prelude.{ℕ, ◌≡◌, ◌≤◌, ◌||◌, not, Bool, true, false, if◌then◌else◌, List, [], ◌∷◌}
+use Rattle.std.specs.Prelude.{ℕ, ◌≡◌, ◌+◌, ◌<◌, ◌^◌, if◌then◌else◌, length}
 use Rattle.login_model.specs.declared.fact.Key.{Key}
-use Rattle.login_model.specs.declared.fact.Key.TheVariants.{Sess, Owner, Taken, Awaited}
+use Rattle.login_model.specs.declared.fact.Key.TheVariants.{Sess, Owner}
 use Rattle.login_model.specs.declared.fact.Fact.{Fact}
-use Rattle.login_model.specs.Trail.{Trail}
+use Rattle.login_model.specs.Trail.{Trail, value}
 use Rattle.login_model.specs.Fresh.{fresh_session, fresh_handle, is_open_fact, is_owned_fact}
-use Rattle.login_table.specs.Stands.{Stands}
-use Rattle.users_linger.specs.Own.{is_user_key}
-use Rattle.sessions.specs.Own.{is_session_key}
-use Rattle.seats_vts.specs.Own.{is_seat_key}
+use Rattle.login_core.specs.declared.board.home.Home.{Home}
+use Rattle.login_core.specs.declared.board.home.Home.TheVariants.{Users, Sessions, Seats, Takes, Others}
+use Rattle.login_core.specs.declared.room.counts.Counts.{Counts}
+use Rattle.login_core.specs.Counts.{AreCounted}
+use Rattle.login_core.specs.Home.{home}
 
--- the keys about devices that a session has taken, and about pauses that are awaited
-abbrev pub is_take_key : Key → Bool
-is_take_key (Taken s d) = true
-is_take_key (Awaited s d) = true
-is_take_key _ = false
-
--- all other keys
-abbrev pub is_other_key : Key → Bool
-is_other_key k = not (is_user_key k || is_session_key k || is_seat_key k || is_take_key k)
-
--- what facts are seen as: what each table has, as settings; the numbers of the next session and the next
--- handle; and how many more settings go in without memory
+-- what facts are seen as: what each table has, as settings; how many there are of what needs room; the numbers
+-- of the next session and the next handle; and how many more settings go in without memory
 pub record Tables : Type 0 where
   pub users : Trail
   pub sessions : Trail
   pub seats : Trail
   pub takes : Trail
   pub others : Trail
+  pub counts : Counts
   pub session : ℕ
   pub handle : ℕ
   pub spare : ℕ
 
--- each table stands for the marks, and the numbers are those that they leave
+-- the settings of one table
+abbrev pub table : Tables → Home → Trail
+table f Users = f.users
+table f Sessions = f.sessions
+table f Seats = f.seats
+table f Takes = f.takes
+table f Others = f.others
+
+-- each fact is the one that the marks leave, in the table where it has its home; the counts are those of what is
+-- there, and the numbers are those that the marks leave
 pub record TablesStand (f : Tables) (t : Trail) : Type 0 where
-  pub users : Stands is_user_key f.users t
-  pub sessions : Stands is_session_key f.sessions t
-  pub seats : Stands is_seat_key f.seats t
-  pub takes : Stands is_take_key f.takes t
-  pub others : Stands is_other_key f.others t
+  pub facts : (k : Key) → value (table f (home k)) k ≡ value t k
+  pub counts : AreCounted f.counts t
   pub session : f.session ≡ fresh_session t
   pub handle : f.handle ≡ fresh_handle t
 
@@ -51,6 +49,12 @@ StandFor f t = TablesStand f t
 pub StandFor-prop : (f : Tables) (t : Trail) → IsProp (StandFor f t)
 unfolding StandFor
 StandFor-prop f t = hlevel props
+
+-- they are those that some marks leave, so few that one more can be numbered
+pub record StandForFew (f : Tables) : Type 0 where
+  pub marks : Trail
+  pub stand : StandFor f marks
+  pub few : length marks + 2 < 2 ^ 32
 
 -- how many sessions a setting opens
 abbrev pub opens : Key → Fact → ℕ

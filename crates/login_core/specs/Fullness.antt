@@ -8,6 +8,7 @@ use Rattle.login_model.specs.declared.event.Event.TheVariants.{Connect, Disconne
 use Rattle.login_model.specs.Trail.{Trail}
 use Rattle.login_model.specs.Where.{connections}
 use Rattle.login_model.specs.Full.{is_granted, marks_needed, over}
+use Rattle.login_model.specs.Limits.{entries_limit, marks_limit}
 
 -- whether an event is one for which the journal never is full
 abbrev pub always_fits : Event → Bool
@@ -23,5 +24,5 @@ connected_by v t _ = length (connections t)
 -- the first count that is above its limit
 abbrev pub full_by : Verdict → Trail → ℕ → ℕ → Event → Option Count
 full_by v t entries marks e =
-    over 200000 Entries (entries + connected_by v t e + 2)
-    (over 4000000 Marks (marks_needed t marks) None)
+    over entries_limit Entries (entries + connected_by v t e + 2)
+    (over marks_limit Marks (marks_needed t marks) None)

@@ -10,11 +10,6 @@ use Rattle.login_model.specs.Where.{is_open}
 use Rattle.login_core.specs.declared.room.copies.Copies.{Copies}
 use Rattle.login_core.specs.Texts.{AreSome}
 
--- the owner that a fact tells
-abbrev pub owner_in : Fact → Option Owner
-owner_in (Owned o) = Some o
-owner_in _ = None
-
 abbrev pub owner_fact : Option Owner → Fact
 owner_fact (Some o) = Owned o
 owner_fact None = Absent

@@ -1,7 +1,8 @@
 -- What holds inside a core.
 use Rattle.std.specs.Prelude.{ℕ, ◌≡◌, ◌+◌, ◌≤◌, [], length, Option, Some, None}
 use Rattle.login_model.specs.Legal.{IsLegal, trail_of}
-use Rattle.login_model.specs.Need.{need}
+use Rattle.login_laws.specs.Need.{need}
+use Rattle.login_laws.specs.Quiet.{IsQuiet}
 use Rattle.login_model.specs.Setups.{IsSetup}
 use Rattle.login_model.specs.Stopping.{stop_from}
 use Rattle.login_model.specs.Where.{connections}
@@ -9,22 +10,24 @@ use Rattle.login_model.specs.declared.setup.Setup.{Setup}
 use Rattle.login_core.specs.Kept.{HaveTexts}
 use Rattle.login_core.specs.declared.board.Board.{Board}
 use Rattle.login_core.specs.declared.room.texts.Texts.{Texts}
+use Rattle.login_model.specs.Limits.{entries_limit, marks_limit}
 
 -- the entries that the stop still takes
 abbrev pub stop_need : Option ℕ → ℕ
 stop_need None = 1
 stop_need (Some n) = 0
 
--- The setup is one, the journal is legal under it, and no entry is under way. There is room for the end of each connection and for the
+-- The setup is one, the journal is legal under it, no operation is asked for, and no entry is under way. There is room for the end of each connection and for the
 -- stop: their entries, their marks, the texts of the sessions that close; and with them the journal stays
 -- within its limits.
 pub record IsCore (U : Setup) (m : Board) (texts : Texts) (stop : Option ℕ) : Type 0 where
   pub set_up : IsSetup U
   pub legal : IsLegal U m.journal.items
+  pub quiet : IsQuiet (trail_of m.journal.items)
   pub no_marks : m.marks.items ≡ []
   pub stop_is : stop ≡ stop_from 1 m.journal.items
   pub entries : length (connections (trail_of m.journal.items)) + stop_need stop ≤ m.journal.entries
   pub reach : length (trail_of m.journal.items) + need (trail_of m.journal.items) ≤ m.journal.reach
   pub kept_texts : HaveTexts texts (trail_of m.journal.items)
-  pub few_entries : length m.journal.items + length (connections (trail_of m.journal.items)) + stop_need stop ≤ 200000
-  pub few_marks : length (trail_of m.journal.items) + need (trail_of m.journal.items) ≤ 4000000
+  pub few_entries : length m.journal.items + length (connections (trail_of m.journal.items)) + stop_need stop ≤ entries_limit
+  pub few_marks : length (trail_of m.journal.items) + need (trail_of m.journal.items) ≤ marks_limit

@@ -1,17 +1,10 @@
 -- Which users are known, and which have left.
-use Rattle.std.specs.Prelude.{ℕ, Bool, true, false}
+use Rattle.std.specs.Prelude.{ℕ, Bool}
 use Rattle.login_base.specs.declared.ids.Uid.{Uid}
 use Rattle.login_model.specs.declared.fact.Key.TheVariants.{User}
-use Rattle.login_model.specs.declared.fact.Fact.{Fact}
-use Rattle.login_model.specs.declared.fact.Fact.TheVariants.{Known}
 use Rattle.login_model.specs.declared.setup.Setup.{Setup}
 use Rattle.login_model.specs.Trail.{Trail, value}
 use Rattle.login_model.specs.Direct.{is_overdue_fact}
-
--- the fact of a user who is known
-abbrev pub is_known : Fact → Bool
-is_known Known = true
-is_known _ = false
 
 -- whether a user's delay is over at a moment
 abbrev pub is_overdue : Setup → ℕ → Trail → Uid → Bool

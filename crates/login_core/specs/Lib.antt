@@ -1,6 +1,8 @@
 pub mod Texts
 pub mod Chosen
 pub mod Rounds
+pub mod Counts
+pub mod Home
 pub mod Facts
 pub mod Told
 pub mod Kept

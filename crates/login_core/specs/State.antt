@@ -2,12 +2,15 @@
 use Rattle.std.specs.Prelude.{ℕ, ◌≡◌, ◌+◌, ◌≤◌, List, [], ◌∷◌, ◌++◌, length, Option, Some, None, Result, Ok, Err, if◌then◌else◌}
 use Rattle.login_model.specs.Full.{connected_after, full}
 use Rattle.login_model.specs.Legal.{answered, trail_of}
-use Rattle.login_model.specs.Need.{most_marks, most_rise, need}
+use Rattle.login_laws.specs.Need.{most_marks, most_rise, need}
 use Rattle.login_model.specs.Policy.{verdict}
 use Rattle.login_model.specs.Stopping.{is_stop, stopped}
 use Rattle.login_model.specs.declared.answer.Answer.{Answer}
 use Rattle.login_model.specs.declared.event.Event.{Event}
-use Rattle.login_model.specs.declared.event.Event.TheVariants.{Disconnect, Stop}
+use Rattle.login_model.specs.declared.call.Call.{Call}
+use Rattle.login_model.specs.declared.call.Call.TheVariants.{ReadInput}
+use Rattle.login_model.specs.declared.event.Event.TheVariants.{Call as Calls, Disconnect, Stop}
+use Rattle.login_model.specs.declared.event.Request.{Request}
 use Rattle.login_model.specs.declared.mark.Entry.{Entry}
 use Rattle.login_model.specs.declared.setup.Setup.{Setup}
 use Rattle.login_model.specs.declared.answer.Answer.TheVariants.{Nothing}
@@ -29,6 +32,19 @@ pub record CoreState : Type 0 where
   pub texts : Texts
   pub ready : Ready
 
+-- the answer that was made ready is the event's
+abbrev pub AnswersWith : CoreState → Event → Type 0
+AnswersWith c e = c.ready.answer ≡ answered c.setup (verdict c.setup (trail_of c.journal) e) e c.journal
+
+-- each call's answer was made ready but a read's, which takes its inputs as it is stepped
+abbrev pub AnswersCall : CoreState → Request → Call → Type 0
+AnswersCall c r (ReadInput h) = Unit {0}
+AnswersCall c r _ = AnswersWith c (Calls r)
+
+abbrev pub HasAnswer : CoreState → Event → Type 0
+HasAnswer c (Calls r) = AnswersCall c r r.call
+HasAnswer c e = AnswersWith c e
+
 -- room was made for the event's entry and marks, and for all that connections and the stop need after it
 pub record IsRoomFor (c : CoreState) (e : Event) : Type 0 where
   pub entries : connected_after c.setup (trail_of c.journal) e + 2 ≤ c.entries
@@ -36,7 +52,7 @@ pub record IsRoomFor (c : CoreState) (e : Event) : Type 0 where
   pub small : full c.setup c.journal e ≡ None
   pub texts : AreReady e c.texts
   pub judged : c.ready.verdict ≡ verdict c.setup (trail_of c.journal) e
-  pub answer : c.ready.answer ≡ answered c.setup (verdict c.setup (trail_of c.journal) e) e (trail_of c.journal)
+  pub answer : HasAnswer c e
 
 -- the event can be stepped without memory; a disconnect and the stop always can
 abbrev pub IsReady : CoreState → Event → Type 0

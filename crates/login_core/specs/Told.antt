@@ -6,46 +6,22 @@ use Rattle.login_model.specs.declared.fact.Fact.{Fact}
 use Rattle.login_model.specs.declared.fact.Fact.TheVariants.{Absent, Handle, Controller, Device, Known, Number}
 use Rattle.login_model.specs.declared.hardware.DevKind.{DevKind}
 
--- the handle that a fact tells
-abbrev pub handle_in : Fact → Option HandleNo
-handle_in (Handle h) = Some h
-handle_in _ = None
-
 abbrev pub handle_fact : Option HandleNo → Fact
 handle_fact (Some h) = Handle h
 handle_fact None = Absent
-
--- the controller that a fact tells
-abbrev pub controller_in : Fact → Option ConnId
-controller_in (Controller c) = Some c
-controller_in _ = None
 
 abbrev pub controller_fact : Option ConnId → Fact
 controller_fact (Some c) = Controller c
 controller_fact None = Absent
 
--- the kind of device that a fact tells
-abbrev pub kind_in : Fact → Option DevKind
-kind_in (Device kind seat) = Some kind
-kind_in _ = None
-
 abbrev pub kind_fact : Option DevKind → Fact
 kind_fact (Some kind) = Device kind []
 kind_fact None = Absent
-
-abbrev pub is_absent : Fact → Bool
-is_absent Absent = true
-is_absent _ = false
 
 -- a user that is absent, or one that is not
 abbrev pub absent_or_known : Bool → Fact
 absent_or_known true = Absent
 absent_or_known false = Known
-
--- the terminal that a fact tells
-abbrev pub terminal_in : Fact → Option ℕ
-terminal_in (Number v) = Some v
-terminal_in _ = None
 
 abbrev pub terminal_fact : Option ℕ → Fact
 terminal_fact (Some v) = Number v

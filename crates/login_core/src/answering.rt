@@ -1,14 +1,16 @@
 // What a granted event is answered. The answer is made before the event's marks, since it may take memory.
 
-ghost use Rattle.std.specs.Prelude.{◌≡◌, IfOk, map};
+ghost use Rattle.std.specs.Prelude.{◌≡◌, true, IfOk, List, map};
 ghost use Rattle.login_model.specs.Fresh.{next_session, next_handle};
 ghost use Rattle.login_model.specs.Where.{sessions, users, seats};
 ghost use Rattle.login_model.specs.Creating.{seat_of};
-ghost use Rattle.login_model.specs.Answers.{name_among, user_name, session_row, known_user, session_answer, seat_answer, call_answer, answer};
+ghost use Rattle.login_model.specs.Answers.{name_among, user_name, session_row, known_user, session_answer, seat_answer, marks_answer, answer};
+ghost use Rattle.login_model.specs.Built.{is_built, is_built_call};
+ghost use Rattle.login_model.specs.Legal.{trail_of};
+ghost use Rattle.login_model.specs.declared.mark.Entry.{Entry};
 
 use crate::creating::created::seat_of;
-use crate::direct::leaving::owner_of;
-use login_base::{Items, NoMemory, SeatName, SessId, Uid, Word};
+use login_base::{ConnId, Items, NoMemory, SeatName, SessId, Uid, Word};
 use login_model::{
     Answer, Call, Created, Creation, Event, Fact, Key, KnownUser, Look, SessionRow, Setup, UserRow,
 };
@@ -46,7 +48,7 @@ fn session_row<F: Look>(
 ) -> Result<SessionRow, NoMemory>
     ensures { IfOk result (λ row. row ≡ session_row setup.now (F.trail facts.now) session) }
 {
-    let uid = owner_of(facts.fact(&Key::Sess(session)));
+    let uid = facts.fact(&Key::Sess(session)).user_or_root();
     let name = Word::from_slice(alloc, user_name(setup, uid.0))?;
     Ok(SessionRow {
         session,
@@ -160,10 +162,12 @@ fn call_answer<F: Look>(
     facts: &F,
     setup: &Setup,
     session: SessId,
+    who: ConnId,
     call: &Call,
 ) -> Result<Answer, NoMemory>
-    requires { session ≡ next_session (F.trail facts.now) }
-    ensures { IfOk result (λ a. a ≡ call_answer setup.now (F.trail facts.now) call.now) }
+    requires session { session ≡ next_session (F.trail facts.now) }
+    requires built { is_built_call call.now ≡ true }
+    ensures { IfOk result (λ a. a ≡ marks_answer setup.now (F.trail facts.now) who call.now) }
 {
     match call {
         Call::Create(creation) => Ok(Answer::Created(created(facts, session, creation))),
@@ -173,6 +177,8 @@ fn call_answer<F: Look>(
         Call::ListSessions => list_sessions(alloc, facts, setup),
         Call::ListUsers => list_users(alloc, facts, setup),
         Call::ListSeats => list_seats(alloc, facts),
+        Call::ListInhibitors | Call::Can(_) | Call::Inhibit(_) | Call::TakeDevice(..) =>
+            unreachable!(),
         _ => Ok(Answer::Nothing),
     }
 }
@@ -186,11 +192,14 @@ pub fn answer_of<F: Look>(
     session: SessId,
     event: &Event,
 ) -> Result<Answer, NoMemory>
-    requires { session ≡ next_session (F.trail facts.now) }
-    ensures { IfOk result (λ a. a ≡ answer setup.now (F.trail facts.now) event.now) }
+    requires session { session ≡ next_session (F.trail facts.now) }
+    requires built { is_built event.now ≡ true }
+    ensures { (before : List Entry) → trail_of before ≡ F.trail facts.now → IfOk result (λ a. a ≡ answer setup.now before event.now) }
 {
     match event {
-        Event::Call(request) => call_answer(alloc, facts, setup, session, &request.call),
+        Event::Call(request) => {
+            call_answer(alloc, facts, setup, session, request.who, &request.call)
+        }
         _ => Ok(Answer::Nothing),
     }
 }

@@ -2,6 +2,7 @@
 
 pub mod choosing;
 pub mod facts;
+pub mod home;
 pub mod rounds;
 pub mod setting;
 
@@ -9,9 +10,11 @@ ghost use Rattle.std.specs.Prelude.{◌≡◌, ◌+◌, ◌<◌, ◌≤◌, ◌^
 ghost use Rattle.login_model.specs.Trail.{put};
 ghost use Rattle.login_model.specs.Fresh.{next_session};
 ghost use Rattle.login_core.specs.UnderWay.{so_far, entry_of};
+ghost use Rattle.login_core.specs.Counts.{AreCounted};
 ghost use Rattle.login_core.specs.Facts.{StandFor, StandFor-prop};
 
 use crate::board::facts::Facts;
+use crate::room::counts::Counts;
 use crate::room::ledger::Ledger;
 use login_base::{ConnId, DevNo, HandleNo, LockNo, NoMemory, Reserved, SeatName, SessId, Uid};
 use login_model::{
@@ -82,6 +85,13 @@ impl Board {
         ensures { result ≡ next_session (trail self.now) }
     {
         self.facts.fresh_session()
+    }
+
+    /// How many there are of what needs room.
+    pub fn counts(&self) -> Counts
+        ensures { AreCounted result (trail self.now) }
+    {
+        self.facts.counts()
     }
 
     /// Sets a fact, unless it is so already. The fact comes twice: for the mark and for the facts.

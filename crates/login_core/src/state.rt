@@ -5,7 +5,8 @@ ghost use Rattle.std.specs.Borrow.{sem};
 ghost use Rattle.std.specs.Io.BufRead.{Rests};
 ghost use Rattle.login_model.specs.Built.{is_built};
 ghost use Rattle.login_model.specs.Full.{connected_after, full, mark_count, marks_needed};
-ghost use Rattle.login_model.specs.Legal.{IsLegal, IsPlaced, IsAsked, answered, trail_of};
+ghost use Rattle.login_laws.specs.Lawful.{IsLawful};
+ghost use Rattle.login_model.specs.Legal.{IsPlaced, IsAsked, answered, trail_of};
 ghost use Rattle.login_model.specs.Policy.{verdict as policy_verdict};
 ghost use Rattle.login_model.specs.Setups.{IsSetup};
 ghost use Rattle.login_model.specs.Stopping.{is_stop, stopped};
@@ -15,10 +16,10 @@ ghost use Rattle.login_core.specs.Board.{trail};
 ghost use Rattle.login_core.specs.Fullness.{always_fits};
 ghost use Rattle.login_core.specs.State.{CoreState, IsReady, IsRoomFor, IsSame, Appends, RoomGives, answer_next, stop_next};
 ghost use Rattle.login_core.specs.contracts.state.Core.{the_row};
+ghost use Rattle.login_model.specs.Limits.{entries_limit, marks_limit};
 
 use crate::answering::answer_of;
 use crate::board::Board;
-use crate::room::counts::marks_needed;
 use crate::room::fullness::{always_fits, connected_after, full};
 use crate::room::ready::Ready;
 use crate::room::texts::Texts;
@@ -54,7 +55,8 @@ fn answer_for(event: &Event, ready: &mut Answer) -> Answer
 /// The verdict of an event: that which was found when room was made for it. A disconnect and the stop are
 /// judged here.
 fn verdict_for(board: &Board, setup: &Setup, ready: &Ready, event: &Event) -> Verdict
-    requires { always_fits event.now ≡ false → ready.now.verdict ≡ policy_verdict setup.now (trail board.now) event.now }
+    requires built { is_built event.now ≡ true }
+    requires ready { always_fits event.now ≡ false → ready.now.verdict ≡ policy_verdict setup.now (trail board.now) event.now }
     ensures { result ≡ policy_verdict setup.now (trail board.now) event.now }
 {
     if always_fits(event) {
@@ -175,12 +177,19 @@ impl Core {
         ensures { result ≡ full self.now.setup self.now.journal event.now }
     {
         let entries = self.board.journal.journal().len() as u32;
-        full(&self.board, entries, self.board.made, event, verdict)
+        full(
+            self.board.counts(),
+            entries,
+            self.board.made,
+            event,
+            verdict,
+        )
     }
 
     /// The answer of an event with this verdict.
     fn answer_to(&self, event: &Event, verdict: Verdict) -> Result<Answer, NoMemory>
-        ensures { IfOk result (λ a. a ≡ answered self.now.setup verdict event.now (trail_of self.now.journal)) }
+        requires { is_built event.now ≡ true }
+        ensures { IfOk result (λ a. a ≡ answered self.now.setup verdict event.now self.now.journal) }
     {
         match verdict {
             Verdict::Granted => answer_of(
@@ -200,14 +209,14 @@ impl Core {
         ensures value { result ≡ connected_after self.now.setup (trail_of self.now.journal) event.now + 2 }
         ensures bound { result ≤ 2 ^ 33 + 2 }
     {
-        connected_after(&self.board, event, verdict) + 2
+        connected_after(self.board.counts(), event, verdict) + 2
     }
 
     /// How far the marks of an event and of all ends may reach.
     fn reach_for(&self) -> u64
         ensures { result ≡ marks_needed (trail_of self.now.journal) (mark_count self.now.journal) }
     {
-        marks_needed(&self.board, self.board.made)
+        self.board.counts().marks_needed(self.board.made)
     }
 
     /// Takes the memory of an event with this verdict and of the ends of all connections after it.
@@ -215,6 +224,7 @@ impl Core {
         requires judged { verdict ≡ policy_verdict self.old.setup (trail_of self.old.journal) event.now }
         requires other { always_fits event.now ≡ false }
         requires small { full self.old.setup self.old.journal event.now ≡ None }
+        requires built { is_built event.now ≡ true }
         ensures ready { OnOk result (IsRoomFor self.new event.now) }
         ensures same { IsSame self.old self.new }
     {
@@ -232,9 +242,8 @@ impl Core {
     pub fn step(&mut self, event: Event) -> &Entry
         requires ready { IsReady self.old event }
         requires placed { IsPlaced self.old.journal event }
-        requires built { is_built event ≡ true }
         ensures event { result.now.event ≡ event }
-        ensures legal { IsLegal self.old.setup (self.old.journal ++ result.now ∷ []) }
+        ensures lawful { IsLawful self.old.setup (self.old.journal ++ result.now ∷ []) }
         ensures* after { sem 𝓛 (Rests the_row self.entry (λ core. Appends self.old result.now core)) }
     {
         let verdict = verdict_for(&self.board, &self.setup, &self.ready, &event);
@@ -253,18 +262,18 @@ impl Core {
     pub fn close_link(&mut self, who: ConnId) -> &Entry
         requires connected { is_connected (trail_of self.old.journal) who ≡ true }
         ensures event { result.now.event ≡ Disconnect who }
-        ensures legal { IsLegal self.old.setup (self.old.journal ++ result.now ∷ []) }
+        ensures lawful { IsLawful self.old.setup (self.old.journal ++ result.now ∷ []) }
         ensures* after { sem 𝓛 (Rests the_row self.entry (λ core. Appends self.old result.now core)) }
     {
         self.step(Event::Disconnect(who))
     }
 
-    /// The journal, which is legal under the setup.
+    /// The journal, which is legal under the setup, with all that every legal journal has.
     pub fn journal(&self) -> &Journal
         ensures entries { result.now.items ≡ self.now.journal }
-        ensures legal { IsLegal self.now.setup self.now.journal }
-        ensures few_entries { length self.now.journal ≤ 200000 }
-        ensures few_marks { mark_count self.now.journal ≤ 4000000 }
+        ensures lawful { IsLawful self.now.setup self.now.journal }
+        ensures few_entries { length self.now.journal ≤ entries_limit }
+        ensures few_marks { mark_count self.now.journal ≤ marks_limit }
     {
         self.board.journal.journal()
     }

@@ -10,7 +10,7 @@ ghost use Rattle.login_core.specs.Places.{is_before, behind, around, is_open_on,
 
 use crate::board::Board;
 use login_base::{SeatName, SessId};
-use login_model::{Key, Look, is_open_fact, seat0};
+use login_model::{Key, Look, seat0};
 use login_table::{active_on, current_vt, seat_of_session};
 
 /// Which way a seat turns.
@@ -77,7 +77,7 @@ impl Board {
         ensures { result ≡ is_open_on (trail self.now) seat session }
     {
         is_this_seat(seat, seat_of_session(self, session))
-            && is_open_fact(self.fact(&Key::Sess(session)))
+            && self.fact(&Key::Sess(session)).is_open()
     }
 
     /// The place of a session on a seat: on seat0 its terminal, on another seat its number.

@@ -1,12 +1,11 @@
 // Whether values are those that a call takes.
 
-ghost use Rattle.std.specs.Prelude.{◌≡◌, ◌&&◌, codes, map};
-ghost use Rattle.std.specs.List.{list_any};
+ghost use Rattle.std.specs.Prelude.{◌≡◌, codes};
 ghost use Rattle.std.specs.Str.{bytes_eq};
-ghost use Rattle.login_model.specs.Policy.{broken_if, bad_arguments, is_one_of, is_type, is_class, is_vt, is_seat_or_none, fits_seat, fits_creation, is_signal, is_whom};
+ghost use Rattle.login_model.specs.Policy.{broken_if, bad_arguments, is_type, is_class, is_vt, is_seat_or_none, fits_seat, fits_creation, is_signal, is_whom};
 
 use login_base::{SeatName, Word};
-use login_model::{Creation, Rule};
+use login_model::{Class, Creation, KillWhom, Rule, SessionType, is_seat0};
 
 pub(crate) fn broken_if(broken: bool, rule: Rule) -> Option<Rule>
     ensures { result ≡ broken_if broken rule }
@@ -20,46 +19,18 @@ pub(crate) fn bad_arguments(fits: bool) -> Option<Rule>
     broken_if(!fits, Rule::BadArguments)
 }
 
-/// Whether a text is one of these names.
-fn is_one_of(names: &[&[u8]], text: &[u8]) -> bool
-    ensures { result ≡ is_one_of (map (λ name. name.now) names.now) text.now }
-{
-    match names.split_first() {
-        Some((name, names)) => *name == text || is_one_of(names, text),
-        None => false,
-    }
-}
-
+/// Whether a text names a type of sessions, or is empty.
 fn is_type(text: &[u8]) -> bool
     ensures { result ≡ is_type text.now }
 {
-    is_one_of(
-        &[
-            b"".as_slice(),
-            b"unspecified".as_slice(),
-            b"tty".as_slice(),
-            b"x11".as_slice(),
-            b"wayland".as_slice(),
-            b"mir".as_slice(),
-            b"web".as_slice(),
-        ],
-        text,
-    )
+    text.is_empty() || SessionType::read(text).is_some()
 }
 
+/// Whether a text names a class of sessions, or is empty.
 fn is_class(text: &[u8]) -> bool
     ensures { result ≡ is_class text.now }
 {
-    is_one_of(
-        &[
-            b"".as_slice(),
-            b"user".as_slice(),
-            b"greeter".as_slice(),
-            b"lock-screen".as_slice(),
-            b"background".as_slice(),
-        ],
-        text,
-    )
+    text.is_empty() || Class::read(text).is_some()
 }
 
 /// Whether there is a virtual terminal of this number.
@@ -73,13 +44,6 @@ fn is_seat_or_none(text: &[u8]) -> bool
     ensures { result ≡ is_seat_or_none text.now }
 {
     text.is_empty() || SeatName::read(text).is_ok()
-}
-
-/// Whether a text is the name of the seat with virtual terminals.
-pub(crate) fn is_seat0(text: &[u8]) -> bool
-    ensures { result ≡ bytes_eq text.now (codes "seat0") }
-{
-    text == b"seat0".as_slice()
 }
 
 fn fits_seat(seat: &[u8], vt: u32) -> bool
@@ -108,15 +72,13 @@ pub(crate) fn is_signal(signal: i32) -> bool
 pub(crate) fn is_leader(who: &Word) -> bool
     ensures { result ≡ bytes_eq who.now (codes "leader") }
 {
-    who.as_slice() == b"leader".as_slice()
+    who.as_slice() == KillWhom::Leader.name()
 }
 
 /// Whether a text says whom a signal is for.
 pub(crate) fn is_whom(who: &Word) -> bool
     ensures { result ≡ is_whom who.now }
 {
-    is_one_of(
-        &[b"".as_slice(), b"all".as_slice(), b"leader".as_slice()],
-        who.as_slice(),
-    )
+    let text = who.as_slice();
+    text.is_empty() || KillWhom::read(text).is_some()
 }

@@ -3,13 +3,12 @@
 ghost use Rattle.std.specs.Prelude.{◌≡◌, ◌&&◌, not, nat_le, length};
 ghost use Rattle.login_base.specs.Seat.{is_seat_name};
 ghost use Rattle.login_model.specs.Where.{sessions, connections, is_user, is_seat, is_this_seat, is_on_seat};
-ghost use Rattle.login_model.specs.Policy.{no_such_session, absent_user, no_such_seat, no_such_seat_of, is_closing_fact, session_closing, no_seat, session_not_on_seat, vt_busy, vt_busy_on, too_many_links, too_many_sessions};
+ghost use Rattle.login_model.specs.Policy.{no_such_session, absent_user, no_such_seat, no_such_seat_of, session_closing, no_seat, session_not_on_seat, vt_busy, vt_busy_on, too_many_links, too_many_sessions};
+ghost use Rattle.login_model.specs.Limits.{links_limit};
 
-use crate::arguments::{broken_if, is_seat0};
+use crate::arguments::broken_if;
 use login_base::{ConnId, SeatName, SessId, Uid, Word};
-use login_model::{
-    Fact, Key, Limit, Look, Phase, Rule, Setup, is_seat_fact, is_session_fact, is_user_fact,
-};
+use login_model::{Key, Limit, Look, Rule, Setup, is_seat0};
 use login_table::{are_at_least, seat_of_session, session_on};
 
 /// The most links that may be connected.
@@ -19,7 +18,7 @@ pub(crate) fn no_such_session<F: Look>(facts: &F, session: SessId) -> Option<Rul
     ensures { result ≡ no_such_session (F.trail facts.now) session }
 {
     broken_if(
-        !is_session_fact(facts.fact(&Key::Sess(session))),
+        !facts.fact(&Key::Sess(session)).is_session(),
         Rule::NoSuchSession,
     )
 }
@@ -28,7 +27,7 @@ pub(crate) fn absent_user<F: Look>(facts: &F, uid: u32) -> Option<Rule>
     ensures { result ≡ absent_user (F.trail facts.now) uid }
 {
     broken_if(
-        !is_user_fact(facts.fact(&Key::User(Uid(uid)))),
+        !facts.fact(&Key::User(Uid(uid))).is_user(),
         Rule::NoSuchUser,
     )
 }
@@ -38,7 +37,7 @@ fn is_seat<F: Look>(facts: &F, seat: &[u8]) -> bool
     ensures { result ≡ is_seat_name seat.now && is_seat (F.trail facts.now) seat.now }
 {
     match SeatName::read(seat) {
-        Ok(name) => is_seat_fact(facts.fact(&Key::Seat(name))),
+        Ok(name) => facts.fact(&Key::Seat(name)).is_seat(),
         Err(_) => false,
     }
 }
@@ -59,23 +58,11 @@ pub(crate) fn no_such_seat_of<F: Look>(facts: &F, seat: &[u8]) -> Option<Rule>
     }
 }
 
-fn is_closing_fact(fact: &Fact) -> bool
-    ensures { result ≡ is_closing_fact fact.now }
-{
-    match fact {
-        Fact::Session(session) => match session.phase {
-            Phase::Closing => true,
-            Phase::Open | Phase::Gone => false,
-        },
-        _ => false,
-    }
-}
-
 pub(crate) fn session_closing<F: Look>(facts: &F, session: SessId) -> Option<Rule>
     ensures { result ≡ session_closing (F.trail facts.now) session }
 {
     broken_if(
-        is_closing_fact(facts.fact(&Key::Sess(session))),
+        facts.fact(&Key::Sess(session)).is_closing(),
         Rule::SessionClosing,
     )
 }
@@ -124,7 +111,7 @@ pub(crate) fn vt_busy_on<F: Look>(facts: &F, seat: &Word, vt: u32) -> Option<Rul
 /// Whether as many links are connected as may be.
 #[tactic(auto, unfolding(login_model::specs::Where::connections))]
 fn are_links_full<F: Look>(facts: &F) -> bool
-    ensures { result ≡ nat_le 64 (length (connections (F.trail facts.now))) }
+    ensures { result ≡ nat_le links_limit (length (connections (F.trail facts.now))) }
 {
     are_at_least::<ConnId, F>(facts, LINKS)
 }

@@ -1,12 +1,12 @@
 // Verdicts on calls on a session that is named.
 
-ghost use Rattle.std.specs.Prelude.{◌≡◌};
-ghost use Rattle.login_model.specs.Policy.{on_session, only_session, activate_rules, activate_on_rules, lock_rules, kill_rules, terminate_rules, hint_rules, control_rules, uncontrol_rules, first_broken};
+ghost use Rattle.std.specs.Prelude.{◌≡◌, ◌∷◌, []};
+ghost use Rattle.login_model.specs.Policy.{no_leader, own_or_refused, own_or_challenge, session_uid, on_session, only_session, activate_rules, activate_on_rules, lock_rules, kill_rules, terminate_rules, hint_rules, control_rules, uncontrol_rules, first_broken};
 
 use crate::arguments::{bad_arguments, is_signal, is_whom};
 use crate::owners::{control_rule, no_leader, not_in_control, not_owner, session_uid};
 use crate::places::{no_seat, no_such_seat, no_such_session, session_closing, session_not_on_seat};
-use crate::standing::{own_or_challenge, own_or_refused};
+use crate::standing::judge_own;
 use login_base::{ConnId, SessId, Word};
 use login_model::{Action, Look, Rule, Setup, Verdict};
 
@@ -45,14 +45,20 @@ pub(crate) fn judge_activate<F: Look>(
     let Some(session) = session else {
         return NO_SESSION;
     };
-    let uid = session_uid(facts, session);
-    first_broken(&[
+    match first_broken(&[
         no_such_session(facts, session),
         session_closing(facts, session),
         no_seat(facts, session),
-        own_or_refused(facts, setup, who, uid, Action::ChangeVt),
-        own_or_challenge(facts, setup, who, uid, Action::ChangeVt),
-    ])
+    ]) {
+        Verdict::Granted => judge_own(
+            facts,
+            setup,
+            who,
+            session_uid(facts, session),
+            Action::ChangeVt,
+        ),
+        denied => denied,
+    }
 }
 
 pub(crate) fn judge_activate_on<F: Look>(
@@ -67,15 +73,21 @@ pub(crate) fn judge_activate_on<F: Look>(
     let Some(session) = session else {
         return NO_SESSION;
     };
-    let uid = session_uid(facts, session);
-    first_broken(&[
+    match first_broken(&[
         no_such_session(facts, session),
         no_such_seat(facts, seat.as_slice()),
         session_closing(facts, session),
         session_not_on_seat(facts, session, seat.as_slice()),
-        own_or_refused(facts, setup, who, uid, Action::ChangeVt),
-        own_or_challenge(facts, setup, who, uid, Action::ChangeVt),
-    ])
+    ]) {
+        Verdict::Granted => judge_own(
+            facts,
+            setup,
+            who,
+            session_uid(facts, session),
+            Action::ChangeVt,
+        ),
+        denied => denied,
+    }
 }
 
 /// Locking and unlocking.
@@ -90,13 +102,41 @@ pub(crate) fn judge_lock<F: Look>(
     let Some(session) = session else {
         return NO_SESSION;
     };
-    let uid = session_uid(facts, session);
-    first_broken(&[
+    match first_broken(&[
         no_such_session(facts, session),
         session_closing(facts, session),
-        own_or_refused(facts, setup, who, uid, Action::LockSessions),
-        own_or_challenge(facts, setup, who, uid, Action::LockSessions),
-    ])
+    ]) {
+        Verdict::Granted => judge_own(
+            facts,
+            setup,
+            who,
+            session_uid(facts, session),
+            Action::LockSessions,
+        ),
+        denied => denied,
+    }
+}
+
+/// The rules of a signal that are looked at last: the action that it takes, and whether the leader is there.
+fn judge_kill_own<F: Look>(
+    facts: &F,
+    setup: &Setup,
+    who: ConnId,
+    session: SessId,
+    whom: &Word,
+) -> Verdict
+    ensures { result ≡ first_broken (own_or_refused setup.now (F.trail facts.now) who (session_uid (F.trail facts.now) session) Action.Manage ∷ own_or_challenge setup.now (F.trail facts.now) who (session_uid (F.trail facts.now) session) Action.Manage ∷ no_leader (F.trail facts.now) session whom.now ∷ []) }
+{
+    match judge_own(
+        facts,
+        setup,
+        who,
+        session_uid(facts, session),
+        Action::Manage,
+    ) {
+        Verdict::Granted => first_broken(&[no_leader(facts, session, whom)]),
+        denied => denied,
+    }
 }
 
 pub(crate) fn judge_kill<F: Look>(
@@ -112,14 +152,13 @@ pub(crate) fn judge_kill<F: Look>(
     let Some(session) = session else {
         return NO_SESSION;
     };
-    let uid = session_uid(facts, session);
-    first_broken(&[
+    match first_broken(&[
         no_such_session(facts, session),
         bad_arguments(is_whom(whom) && is_signal(signal)),
-        own_or_refused(facts, setup, who, uid, Action::Manage),
-        own_or_challenge(facts, setup, who, uid, Action::Manage),
-        no_leader(facts, session, whom),
-    ])
+    ]) {
+        Verdict::Granted => judge_kill_own(facts, setup, who, session, whom),
+        denied => denied,
+    }
 }
 
 pub(crate) fn judge_terminate<F: Look>(
@@ -133,12 +172,16 @@ pub(crate) fn judge_terminate<F: Look>(
     let Some(session) = session else {
         return NO_SESSION;
     };
-    let uid = session_uid(facts, session);
-    first_broken(&[
-        no_such_session(facts, session),
-        own_or_refused(facts, setup, who, uid, Action::Manage),
-        own_or_challenge(facts, setup, who, uid, Action::Manage),
-    ])
+    match first_broken(&[no_such_session(facts, session)]) {
+        Verdict::Granted => judge_own(
+            facts,
+            setup,
+            who,
+            session_uid(facts, session),
+            Action::Manage,
+        ),
+        denied => denied,
+    }
 }
 
 /// The hints that a session gives.

@@ -1,10 +1,11 @@
 // The verdict of an event.
 
-ghost use Rattle.std.specs.Prelude.{◌≡◌, ◌∷◌, []};
+ghost use Rattle.std.specs.Prelude.{◌≡◌, true, ◌∷◌, []};
+ghost use Rattle.login_model.specs.Built.{is_built, is_built_call, is_built_hardware};
 ghost use Rattle.login_base.specs.SessionId.{session_of};
 ghost use Rattle.login_model.specs.Policy.{call_rules, hardware_rules, first_broken, verdict, bad_arguments, is_signal, absent_user, no_such_user, no_such_seat, meant_user, linger_action, action_refused, action_challenge, own_or_refused, own_or_challenge};
 
-use crate::arguments::{bad_arguments, fits_creation, is_seat0, is_signal, is_vt};
+use crate::arguments::{bad_arguments, fits_creation, is_signal, is_vt};
 use crate::owners::{clock_backwards, no_such_handle, no_such_user, nobody, not_root, not_yours};
 use crate::places::{
     absent_user, no_such_seat, no_such_seat_of, too_many_links, too_many_sessions, vt_busy_on,
@@ -13,11 +14,9 @@ use crate::session_calls::{
     first_broken, judge_activate, judge_activate_on, judge_control, judge_hint, judge_kill,
     judge_lock, judge_only, judge_terminate, judge_uncontrol,
 };
-use crate::standing::{
-    action_challenge, action_refused, linger_action, meant_user, own_or_challenge, own_or_refused,
-};
+use crate::standing::{judge_action, judge_own, linger_action, meant_user};
 use login_base::{ConnId, SessId, Word};
-use login_model::{Action, Call, Creation, Event, Hardware, Look, Rule, Setup, Verdict};
+use login_model::{Action, Call, Creation, Event, Hardware, Look, Rule, Setup, Verdict, is_seat0};
 
 fn judge_create<F: Look>(facts: &F, setup: &Setup, who: ConnId, creation: &Creation) -> Verdict
     ensures { result ≡ first_broken (call_rules setup.now (F.trail facts.now) who (Call.Create creation.now)) }
@@ -33,16 +32,6 @@ fn judge_create<F: Look>(facts: &F, setup: &Setup, who: ConnId, creation: &Creat
     ])
 }
 
-/// What needs an action alone.
-fn judge_action<F: Look>(facts: &F, setup: &Setup, who: ConnId, action: Action) -> Verdict
-    ensures { result ≡ first_broken (action_refused setup.now (F.trail facts.now) who action ∷ action_challenge setup.now (F.trail facts.now) who action ∷ []) }
-{
-    first_broken(&[
-        action_refused(facts, setup, who, action),
-        action_challenge(facts, setup, who, action),
-    ])
-}
-
 /// What needs a seat and an action.
 fn judge_seat<F: Look>(
     facts: &F,
@@ -53,43 +42,40 @@ fn judge_seat<F: Look>(
 ) -> Verdict
     ensures { result ≡ first_broken (no_such_seat (F.trail facts.now) seat.now ∷ action_refused setup.now (F.trail facts.now) who action ∷ action_challenge setup.now (F.trail facts.now) who action ∷ []) }
 {
-    first_broken(&[
-        no_such_seat(facts, seat.as_slice()),
-        action_refused(facts, setup, who, action),
-        action_challenge(facts, setup, who, action),
-    ])
+    match first_broken(&[no_such_seat(facts, seat.as_slice())]) {
+        Verdict::Granted => judge_action(facts, setup, who, action),
+        denied => denied,
+    }
 }
 
 fn judge_switch<F: Look>(facts: &F, setup: &Setup, who: ConnId, seat: &Word, vt: u32) -> Verdict
     ensures { result ≡ first_broken (call_rules setup.now (F.trail facts.now) who (Call.SwitchTo seat.now vt)) }
 {
-    first_broken(&[
+    match first_broken(&[
         no_such_seat(facts, seat.as_slice()),
         bad_arguments(is_seat0(seat.as_slice()) && is_vt(vt)),
-        action_refused(facts, setup, who, Action::ChangeVt),
-        action_challenge(facts, setup, who, Action::ChangeVt),
-    ])
+    ]) {
+        Verdict::Granted => judge_action(facts, setup, who, Action::ChangeVt),
+        denied => denied,
+    }
 }
 
 fn judge_terminate_user<F: Look>(facts: &F, setup: &Setup, who: ConnId, uid: u32) -> Verdict
     ensures { result ≡ first_broken (absent_user (F.trail facts.now) uid ∷ own_or_refused setup.now (F.trail facts.now) who uid Action.Manage ∷ own_or_challenge setup.now (F.trail facts.now) who uid Action.Manage ∷ []) }
 {
-    first_broken(&[
-        absent_user(facts, uid),
-        own_or_refused(facts, setup, who, uid, Action::Manage),
-        own_or_challenge(facts, setup, who, uid, Action::Manage),
-    ])
+    match first_broken(&[absent_user(facts, uid)]) {
+        Verdict::Granted => judge_own(facts, setup, who, uid, Action::Manage),
+        denied => denied,
+    }
 }
 
 fn judge_kill_user<F: Look>(facts: &F, setup: &Setup, who: ConnId, uid: u32, signal: i32) -> Verdict
     ensures { result ≡ first_broken (absent_user (F.trail facts.now) uid ∷ bad_arguments (is_signal signal) ∷ own_or_refused setup.now (F.trail facts.now) who uid Action.Manage ∷ own_or_challenge setup.now (F.trail facts.now) who uid Action.Manage ∷ []) }
 {
-    first_broken(&[
-        absent_user(facts, uid),
-        bad_arguments(is_signal(signal)),
-        own_or_refused(facts, setup, who, uid, Action::Manage),
-        own_or_challenge(facts, setup, who, uid, Action::Manage),
-    ])
+    match first_broken(&[absent_user(facts, uid), bad_arguments(is_signal(signal))]) {
+        Verdict::Granted => judge_own(facts, setup, who, uid, Action::Manage),
+        denied => denied,
+    }
 }
 
 fn judge_linger<F: Look>(facts: &F, setup: &Setup, who: ConnId, uid: u32) -> Verdict
@@ -99,14 +85,14 @@ fn judge_linger<F: Look>(facts: &F, setup: &Setup, who: ConnId, uid: u32) -> Ver
 {
     let user = meant_user(facts, who, uid);
     let action = linger_action(facts, who, user);
-    first_broken(&[
-        no_such_user(setup, user),
-        action_refused(facts, setup, who, action),
-        action_challenge(facts, setup, who, action),
-    ])
+    match first_broken(&[no_such_user(setup, user)]) {
+        Verdict::Granted => judge_action(facts, setup, who, action),
+        denied => denied,
+    }
 }
 
 fn judge_call<F: Look>(facts: &F, setup: &Setup, who: ConnId, call: &Call) -> Verdict
+    requires built { is_built_call call.now ≡ true }
     ensures { result ≡ first_broken (call_rules setup.now (F.trail facts.now) who call.now) }
 {
     match call {
@@ -152,37 +138,38 @@ fn judge_call<F: Look>(facts: &F, setup: &Setup, who: ConnId, call: &Call) -> Ve
         Call::NoMethod => Verdict::Denied(Rule::UnknownMethod),
         Call::BadArguments => Verdict::Denied(Rule::BadArguments),
         Call::ListSessions | Call::ListUsers | Call::ListSeats => Verdict::Granted,
-        Call::ListInhibitors | Call::Power(_) | Call::Can(_) | Call::Inhibit(_) => Verdict::Granted,
-        Call::TakeDevice(..) | Call::ReleaseDevice(..) | Call::PauseComplete(..) =>
-            Verdict::Granted,
-        Call::ReadInput(_) | Call::SetMode(..) => Verdict::Granted,
-        Call::GetProperty(_) | Call::GetAllProperties(..) | Call::SetProperty(_) =>
-            Verdict::Granted,
-        Call::Ping | Call::GetMachineId | Call::Hello | Call::NoCall => Verdict::Granted,
-        Call::GetNameOwner(_) | Call::AddMatch(_) | Call::RemoveMatch(_) => Verdict::Granted,
+        Call::NoCall => Verdict::Granted,
+        Call::ListInhibitors | Call::Power(_) | Call::Can(_) | Call::Inhibit(_) => unreachable!(),
+        Call::TakeDevice(..) | Call::ReleaseDevice(..) | Call::PauseComplete(..) => unreachable!(),
+        Call::ReadInput(_) | Call::SetMode(..) => unreachable!(),
+        Call::GetProperty(_) | Call::GetAllProperties(..) | Call::SetProperty(_) => unreachable!(),
+        Call::Ping | Call::GetMachineId | Call::Hello => unreachable!(),
+        Call::GetNameOwner(_) | Call::AddMatch(_) | Call::RemoveMatch(_) => unreachable!(),
     }
 }
 
-fn judge_hardware<F: Look>(facts: &F, hardware: &Hardware) -> Verdict
-    ensures { result ≡ first_broken (hardware_rules (F.trail facts.now) hardware.now) }
+fn judge_hardware<F: Look>(facts: &F, setup: &Setup, hardware: &Hardware) -> Verdict
+    requires built { is_built_hardware hardware.now ≡ true }
+    ensures { result ≡ first_broken (hardware_rules setup.now (F.trail facts.now) hardware.now) }
 {
     match hardware {
         Hardware::VtKey(vt) => first_broken(&[bad_arguments(is_vt(*vt))]),
         Hardware::Exit(id) => judge_only(facts, SessId::read(id.as_slice())),
-        _ => Verdict::Granted,
+        _ => unreachable!(),
     }
 }
 
-/// What the policy says to an event: the first rule that it breaks, else granted. It takes no memory. An
-/// event that is not built (`is_built`) has no rule yet, and is granted.
+/// What the policy says to an event that is built: the first rule that it breaks, else granted. It takes no
+/// memory.
 #[tactic(auto, unfolding(login_model::specs::Policy::verdict))]
 pub fn judge<F: Look>(facts: &F, setup: &Setup, event: &Event) -> Verdict
+    requires built { is_built event.now ≡ true }
     ensures { result ≡ verdict setup.now (F.trail facts.now) event.now }
 {
     match event {
         Event::Connect(_, _) => first_broken(&[too_many_links(facts)]),
         Event::Call(request) => judge_call(facts, setup, request.who, &request.call),
-        Event::Hardware(hardware) => judge_hardware(facts, hardware),
+        Event::Hardware(hardware) => judge_hardware(facts, setup, hardware),
         Event::Tick(moment) => first_broken(&[clock_backwards(facts, moment.0)]),
         _ => Verdict::Granted,
     }

@@ -5,30 +5,43 @@ use Rattle.login_model.specs.declared.call.Call.{Call}
 use Rattle.login_model.specs.declared.event.Event.{Event}
 use Rattle.login_model.specs.declared.hardware.Hardware.{Hardware}
 use Rattle.login_model.specs.declared.hardware.Hardware.TheVariants.{VtKey, Exit}
-use Rattle.login_model.specs.declared.event.Event.TheVariants.{Call as Calls, Hardware as Happens}
+use Rattle.login_model.specs.declared.event.Event.TheVariants.{Call as Calls, Hardware as Happens, Connect, Disconnect, Tick, Stop}
 use Rattle.login_model.specs.declared.call.Call.TheVariants as call
 
--- all calls but those about devices, locks, operations, properties, and what a bus answers
+-- the calls about users, sessions, seats and handles, and the messages that are none of the calls
 abbrev pub is_built_call : Call → Bool
-is_built_call call.ListInhibitors = false
-is_built_call (call.Power kind) = false
-is_built_call (call.Can kind) = false
-is_built_call (call.Inhibit x) = false
-is_built_call (call.TakeDevice id d) = false
-is_built_call (call.ReleaseDevice id d) = false
-is_built_call (call.PauseComplete id d) = false
-is_built_call (call.ReadInput h) = false
-is_built_call (call.SetMode h mode) = false
-is_built_call (call.GetProperty x) = false
-is_built_call (call.GetAllProperties path interface) = false
-is_built_call (call.SetProperty x) = false
-is_built_call call.Ping = false
-is_built_call call.GetMachineId = false
-is_built_call call.Hello = false
-is_built_call (call.GetNameOwner name) = false
-is_built_call (call.AddMatch rule) = false
-is_built_call (call.RemoveMatch rule) = false
-is_built_call _ = true
+is_built_call (call.Create x) = true
+is_built_call (call.GetSession id) = true
+is_built_call (call.GetUser u) = true
+is_built_call (call.GetSeat seat) = true
+is_built_call call.ListSessions = true
+is_built_call call.ListUsers = true
+is_built_call call.ListSeats = true
+is_built_call (call.Activate id) = true
+is_built_call (call.ActivateOnSeat id seat) = true
+is_built_call (call.Lock id) = true
+is_built_call (call.Unlock id) = true
+is_built_call call.LockAll = true
+is_built_call call.UnlockAll = true
+is_built_call (call.Kill id who signal) = true
+is_built_call (call.Terminate id) = true
+is_built_call (call.TerminateUser u) = true
+is_built_call (call.TerminateSeat seat) = true
+is_built_call (call.SetLinger u on) = true
+is_built_call (call.SetIdle id on) = true
+is_built_call (call.SetLocked id on) = true
+is_built_call (call.Control id force) = true
+is_built_call (call.Uncontrol id) = true
+is_built_call (call.SwitchTo seat vt) = true
+is_built_call (call.SwitchToNext seat) = true
+is_built_call (call.SwitchToPrevious seat) = true
+is_built_call (call.KillUser u signal) = true
+is_built_call (call.Close h) = true
+is_built_call call.NoCall = true
+is_built_call call.NoObject = true
+is_built_call call.NoMethod = true
+is_built_call call.BadArguments = true
+is_built_call _ = false
 
 -- a key for a terminal, and the end of a session
 abbrev pub is_built_hardware : Hardware → Bool
@@ -36,8 +49,11 @@ is_built_hardware (VtKey vt) = true
 is_built_hardware (Exit id) = true
 is_built_hardware _ = false
 
--- whether an event is built; the others have no rules and make no marks yet, so they would be granted: no core takes them
+-- whether an event is built; the others are in place nowhere
 abbrev pub is_built : Event → Bool
+is_built (Connect c u) = true
+is_built (Disconnect c) = true
 is_built (Calls r) = is_built_call r.call
 is_built (Happens x) = is_built_hardware x
-is_built _ = true
+is_built (Tick m) = true
+is_built Stop = true

@@ -1,25 +1,20 @@
 -- Which devices a session has taken, and how.
-use Rattle.std.specs.Prelude.{◌==◌, ◌||◌, Bool, true, false, if◌then◌else◌, Option, Some, None, List, [], ◌∷◌, filter}
+use Rattle.std.specs.Prelude.{◌==◌, ◌||◌, Bool, false, if◌then◌else◌, Option, Some, None, List, [], ◌∷◌, filter}
 use Rattle.login_base.specs.declared.ids.SessId.{SessId}
 use Rattle.login_base.specs.declared.ids.DevNo.{DevNo}
 use Rattle.login_base.specs.declared.ids.HandleNo.{HandleNo}
 use Rattle.login_model.specs.declared.fact.Key.{Key}
 use Rattle.login_model.specs.declared.fact.Key.TheVariants as key
-use Rattle.login_model.specs.declared.fact.Fact.{Fact}
-use Rattle.login_model.specs.declared.fact.Fact.TheVariants.{Handle}
 use Rattle.login_model.specs.declared.mark.Mark.TheVariants.{Set}
 use Rattle.login_model.specs.Trail.{Trail, value}
 use Rattle.login_model.specs.Names.{names, device_lt}
 use Rattle.login_model.specs.Where.{is_set}
+pub use Rattle.login_model.specs.Facts.{is_handle_fact}
 
 -- the device of a key about what a session has taken
 abbrev pub taken_in : SessId → Key → Option DevNo
 taken_in s (key.Taken r d) = if r.0 == s.0 then Some d else None
 taken_in s _ = None
-
-abbrev pub is_handle_fact : Fact → Bool
-is_handle_fact (Handle h) = true
-is_handle_fact _ = false
 
 -- whether a session has a device taken
 abbrev pub is_taken : Trail → SessId → DevNo → Bool

@@ -1,5 +1,5 @@
 -- What a granted event does by itself.
-use Rattle.std.specs.Prelude.{ℕ, ◌==◌, nat_le, ◌-◌, Bool, true, false, if◌then◌else◌, Option, Some, None, List, filter, codes}
+use Rattle.std.specs.Prelude.{ℕ, ◌==◌, Bool, true, false, if◌then◌else◌, Option, Some, None, List, filter, codes}
 use Rattle.std.specs.Str.{bytes_eq}
 use Rattle.login_base.specs.declared.ids.SessId.{SessId}
 use Rattle.login_base.specs.declared.ids.Uid.{Uid}
@@ -19,19 +19,25 @@ use Rattle.login_model.specs.declared.setup.Setup.{Setup}
 use Rattle.login_model.specs.declared.call.Call.{Call}
 use Rattle.login_model.specs.declared.call.Call.TheVariants as call
 use Rattle.login_model.specs.declared.hardware.Hardware.{Hardware}
-use Rattle.login_model.specs.declared.hardware.Hardware.TheVariants.{VtKey, Exit}
+use Rattle.login_model.specs.declared.hardware.Hardware.TheVariants.{Add, Remove, Input, VtKey, Exit, Key as HardKeyPressed, Dock, JobDone}
+use Rattle.login_model.specs.declared.conf.KeyAction.{KeyAction}
+use Rattle.login_model.specs.declared.conf.KeyAction.TheVariants as does
+use Rattle.login_model.specs.Locks.{asked_lock}
+use Rattle.login_model.specs.Power.{ask_operation, inhibit, is_blocked, job_done, key_action}
 use Rattle.login_model.specs.declared.event.Event.{Event}
 use Rattle.login_model.specs.declared.event.Event.TheVariants.{Connect, Disconnect, Call as Calls, Hardware as Happens, Tick, Stop}
 use Rattle.login_model.specs.declared.mark.Notice.TheVariants.{Lock, Unlock, SessionRemoved}
 use Rattle.login_model.specs.Trail.{Trail, value, put, tell_all}
 use Rattle.login_model.specs.Start.{seat0}
-use Rattle.login_model.specs.Fresh.{next_session, next_handle}
+use Rattle.login_model.specs.Fresh.{next_session, next_handle, next_lock}
 use Rattle.login_model.specs.Where.{sessions, open_sessions, sessions_on, sessions_of, seat_of_session, users, locks}
-use Rattle.login_model.specs.Policy.{controls, meant_user}
+use Rattle.login_model.specs.Policy.{controls, meant_user, uid_of}
 use Rattle.login_model.specs.Procedure.{each, if_some, yes, no, untake, release, oust, set_phase, shut, front, know, forget, leave}
 use Rattle.login_model.specs.Switching.{request}
 use Rattle.login_model.specs.Creating.{create}
+use Rattle.login_model.specs.Taking.{acknowledge, add_device, remove_device, set_mode, take_device}
 use Rattle.login_model.specs.Turning.{vt_in, turn_to_next, turn_to_previous}
+pub use Rattle.login_model.specs.Facts.{is_this_handle, is_fifo_of, fifo_of, is_held_by, owner_of, is_overdue_fact}
 
 -- a session is brought to its seat: on seat0 its terminal is asked for
 abbrev pub activate_on : Option (List ℕ) → SessId → Trail → Trail
@@ -79,10 +85,6 @@ control c s t = control_from (value t (key.Ctl s)) c s t
 abbrev pub close_handle : HandleNo → Trail → Trail
 close_handle h t = put (key.Owner h) (fact.Owned owner.Closed) t
 
-abbrev pub is_this_handle : HandleNo → Fact → Bool
-is_this_handle h (fact.Handle g) = g.0 == h.0
-is_this_handle h _ = false
-
 -- and what its owner's fact names goes with it: the session of a fifo is shut, a lock is gone, a device
 -- that is taken with it is not taken
 abbrev pub close_owned : HandleNo → Fact → Trail → Trail
@@ -120,27 +122,42 @@ direct_call U c (call.SwitchToNext seat) t = turn_to_next seat t
 direct_call U c (call.SwitchToPrevious seat) t = turn_to_previous seat t
 direct_call U c (call.KillUser u signal) t = each (λ s v. put (key.Sig s) (fact.Signal whom.All signal) v) (sessions_of t u.0) t
 direct_call U c (call.Close h) t = close h t
-direct_call U c _ t = t
+direct_call U c (call.TakeDevice id d) t = at_session (λ s u. take_device c s d (next_handle u) u) id t
+direct_call U c (call.ReleaseDevice id d) t = at_session (λ s u. untake s d u) id t
+direct_call U c (call.PauseComplete id d) t = at_session (λ s u. acknowledge s d u) id t
+direct_call U c (call.SetMode h mode) t = set_mode (value t (key.Owner h)) mode t
+direct_call U c (call.Power k) t = ask_operation k (is_blocked t k) t
+direct_call U c (call.Inhibit x) t = inhibit (asked_lock c (record { 0 = uid_of t c }) x) (next_lock t) (next_handle t) t
+direct_call U c (call.GetSession id) t = t
+direct_call U c (call.GetUser u) t = t
+direct_call U c (call.GetSeat seat) t = t
+direct_call U c call.ListSessions t = t
+direct_call U c call.ListUsers t = t
+direct_call U c call.ListSeats t = t
+direct_call U c call.ListInhibitors t = t
+direct_call U c (call.Can k) t = t
+direct_call U c (call.ReadInput h) t = t
+direct_call U c (call.GetProperty x) t = t
+direct_call U c (call.GetAllProperties path interface) t = t
+direct_call U c (call.SetProperty x) t = t
+direct_call U c call.Ping t = t
+direct_call U c call.GetMachineId t = t
+direct_call U c call.Hello t = t
+direct_call U c (call.GetNameOwner name) t = t
+direct_call U c (call.AddMatch rule) t = t
+direct_call U c (call.RemoveMatch rule) t = t
+direct_call U c call.NoCall t = t
+direct_call U c call.NoObject t = t
+direct_call U c call.NoMethod t = t
+direct_call U c call.BadArguments t = t
 
 -- the sessions that a connection controls, in order
 unfoldable pub controlled_by : Trail → ConnId → List SessId
 controlled_by t c = filter (controls t c) (sessions t)
 
-abbrev pub is_fifo_of : ConnId → Fact → Bool
-is_fifo_of c (fact.Owned (owner.Fifo b s)) = b.0 == c.0
-is_fifo_of c _ = false
-
-abbrev pub fifo_of : Fact → HandleNo
-fifo_of (fact.Session x) = x.fifo
-fifo_of _ = record { 0 = 0 }
-
 -- the open sessions whose fifo a connection owns, in order
 unfoldable pub kept_open_by : Trail → ConnId → List SessId
 kept_open_by t c = filter (λ s. is_fifo_of c (value t (key.Owner (fifo_of (value t (key.Sess s)))))) (open_sessions t)
-
-abbrev pub is_held_by : ConnId → Fact → Bool
-is_held_by c (fact.Lock l) = l.holder.0 == c.0
-is_held_by c _ = false
 
 -- the locks of a connection, in order
 unfoldable pub locks_of : Trail → ConnId → List LockNo
@@ -159,17 +176,9 @@ unlock c t = each (λ l u. put (key.Lock l) fact.Absent u) (locks_of t c) t
 unfoldable pub disconnect : ConnId → Trail → Trail
 disconnect c t = put (key.Conn c) fact.Absent (unlock c (end_sessions c (each release (controlled_by t c) t)))
 
-abbrev pub owner_of : Fact → Uid
-owner_of (fact.Session x) = x.uid
-owner_of _ = record { 0 = 0 }
-
 -- the last process of a session is gone
 unfoldable pub exit : Setup → SessId → Trail → Trail
 exit U s t = leave U (owner_of (value t (key.Sess s))) (tell_all (SessionRemoved s) (set_phase s Gone (shut s t)))
-
-abbrev pub is_overdue_fact : Setup → ℕ → Fact → Bool
-is_overdue_fact U m (fact.Leaving since) = nat_le U.conf.user_stop_delay.0 (m - since.0)
-is_overdue_fact U m _ = false
 
 -- the users whose delay is over at a moment, in order
 unfoldable pub overdue : Setup → Trail → ℕ → List Uid
@@ -179,12 +188,23 @@ overdue U t m = filter (λ u. is_overdue_fact U m (value t (key.User u))) (users
 unfoldable pub tick : Setup → Millis → Trail → Trail
 tick U m t = each forget (overdue U t m.0) (put key.Now (fact.Moment m) t)
 
+-- what a key brings about
+abbrev pub press : KeyAction → Trail → Trail
+press does.Ignore t = t
+press does.Lock t = each lock_session (open_sessions t) t
+press (does.Operation k) t = ask_operation k (is_blocked t k) t
+
 abbrev pub happen : Setup → Hardware → Trail → Trail
 happen U (VtKey vt) t = request vt t
 happen U (Exit id) t = at_session (exit U) id t
-happen U _ t = t
+happen U (Add d kind seat) t = add_device d kind seat t
+happen U (Remove d) t = remove_device d t
+happen U (HardKeyPressed k) t = press (key_action U t k) t
+happen U (Dock on) t = put key.Docked (fact.Flag on) t
+happen U JobDone t = job_done t
+happen U (Input d kind code value) t = t
 
--- the marks so far, and then those that a granted event makes by itself; what is not built makes none yet
+-- the marks so far, and then those that a granted event makes by itself
 unfoldable pub direct : Setup → Event → Trail → Trail
 direct U (Connect c u) t = put (key.Conn c) (fact.Connected u) t
 direct U (Disconnect c) t = disconnect c t

@@ -1,34 +1,13 @@
 -- Numbers that were not given out.
-use Rattle.std.specs.Prelude.{ℕ, ◌+◌, not, Bool, true, false, if◌then◌else◌, [], ◌∷◌}
+use Rattle.std.specs.Prelude.{ℕ, ◌+◌, if◌then◌else◌, [], ◌∷◌}
 use Rattle.login_base.specs.declared.ids.SessId.{SessId}
 use Rattle.login_base.specs.declared.ids.HandleNo.{HandleNo}
-use Rattle.login_model.specs.declared.fact.Key.TheVariants.{Sess, Owner}
-use Rattle.login_model.specs.declared.fact.Fact.{Fact}
-use Rattle.login_model.specs.declared.fact.Fact.TheVariants.{Session, Owned}
-use Rattle.login_model.specs.declared.fact.Owner.{Owner as OwnerFact}
-use Rattle.login_model.specs.declared.fact.Owner.TheVariants.{Closed}
-use Rattle.login_model.specs.declared.session.Phase.{Phase}
-use Rattle.login_model.specs.declared.session.Phase.TheVariants.{Open}
+use Rattle.login_base.specs.declared.ids.LockNo.{LockNo}
+use Rattle.login_model.specs.declared.fact.Key.TheVariants.{Sess, Owner, Lock}
 use Rattle.login_model.specs.declared.mark.Mark.TheVariants.{Set}
 use Rattle.login_model.specs.Trail.{Trail}
-
-abbrev pub is_open_phase : Phase → Bool
-is_open_phase Open = true
-is_open_phase _ = false
-
--- an open session's fact
-abbrev pub is_open_fact : Fact → Bool
-is_open_fact (Session x) = is_open_phase x.phase
-is_open_fact _ = false
-
-abbrev pub is_closed : OwnerFact → Bool
-is_closed Closed = true
-is_closed _ = false
-
--- the fact of a handle that someone has
-abbrev pub is_owned_fact : Fact → Bool
-is_owned_fact (Owned o) = not (is_closed o)
-is_owned_fact _ = false
+use Rattle.login_model.specs.Facts.{is_lock_fact}
+pub use Rattle.login_model.specs.Facts.{is_open_phase, is_open_fact, is_closed, is_owned_fact}
 
 -- 1 and the number of settings that open a session
 unfoldable pub fresh_session : Trail → ℕ
@@ -42,8 +21,17 @@ fresh_handle [] = 1
 fresh_handle (Set (Owner h) x ∷ t) = if is_owned_fact x then fresh_handle t + 1 else fresh_handle t
 fresh_handle (m ∷ t) = fresh_handle t
 
+-- 1 and the number of settings that make a lock stand
+unfoldable pub fresh_lock : Trail → ℕ
+fresh_lock [] = 1
+fresh_lock (Set (Lock l) x ∷ t) = if is_lock_fact x then fresh_lock t + 1 else fresh_lock t
+fresh_lock (m ∷ t) = fresh_lock t
+
 abbrev pub next_session : Trail → SessId
 next_session t = record { 0 = fresh_session t }
 
 abbrev pub next_handle : Trail → HandleNo
 next_handle t = record { 0 = fresh_handle t }
+
+abbrev pub next_lock : Trail → LockNo
+next_lock t = record { 0 = fresh_lock t }

@@ -2,25 +2,20 @@
 use Rattle.std.specs.Prelude.{ℕ, ◌+◌, ◌*◌, nat_lt, Bool, true, false, if◌then◌else◌, Option, Some, None, List, [], ◌∷◌, length, filter}
 use Rattle.login_base.specs.declared.ids.SessId.{SessId}
 use Rattle.login_model.specs.declared.fact.Key.TheVariants.{Ctl}
-use Rattle.login_model.specs.declared.fact.Fact.{Fact}
-use Rattle.login_model.specs.declared.fact.Fact.TheVariants.{Controller}
 use Rattle.login_model.specs.declared.mark.Entry.{Entry}
 use Rattle.login_model.specs.declared.count.Count.{Count}
 use Rattle.login_model.specs.declared.count.Count.TheVariants.{Entries, Marks}
 use Rattle.login_model.specs.declared.event.Event.{Event}
 use Rattle.login_model.specs.declared.event.Event.TheVariants.{Connect, Disconnect, Stop}
-use Rattle.login_model.specs.declared.rule.Verdict.{Verdict}
-use Rattle.login_model.specs.declared.rule.Verdict.TheVariants.{Granted, Denied}
 use Rattle.login_model.specs.declared.setup.Setup.{Setup}
 use Rattle.login_model.specs.Trail.{Trail, value}
 use Rattle.login_model.specs.Where.{connections, locks, open_sessions, sessions, users}
 use Rattle.login_model.specs.Devices.{taken_devices}
 use Rattle.login_model.specs.Policy.{verdict}
+pub use Rattle.login_model.specs.Reading.{is_granted}
+pub use Rattle.login_model.specs.Facts.{is_controlled_fact}
 use Rattle.login_model.specs.Legal.{trail_of}
-
-abbrev pub is_controlled_fact : Fact → Bool
-is_controlled_fact (Controller c) = true
-is_controlled_fact _ = false
+use Rattle.login_model.specs.Limits.{entries_limit, marks_limit}
 
 -- the sessions that some connection controls
 abbrev pub controlled_sessions : Trail → List SessId
@@ -38,10 +33,6 @@ taken_count t = taken_by t (sessions t)
 abbrev pub mark_count : List Entry → ℕ
 mark_count [] = 0
 mark_count (e ∷ es) = length e.marks + mark_count es
-
-abbrev pub is_granted : Verdict → Bool
-is_granted Granted = true
-is_granted (Denied r) = false
 
 -- the connections that are connected after an event
 abbrev pub connected_after : Setup → Trail → Event → ℕ
@@ -62,11 +53,11 @@ marks_needed t marks =
 abbrev pub over : ℕ → (ℕ → Count) → ℕ → Option Count → Option Count
 over limit what count other = if nat_lt limit count then Some (what count) else other
 
--- whether the journal is full for an event, and of what: 200000 entries, 4000000 marks; it never is for a
+-- whether the journal is full for an event, and of what: of entries, then of marks; it never is for a
 -- disconnect or the stop
 unfoldable pub full : Setup → List Entry → Event → Option Count
 full U before (Disconnect c) = None
 full U before Stop = None
 full U before e =
-    over 200000 Entries (entries_needed U before e)
-    (over 4000000 Marks (marks_needed (trail_of before) (mark_count before)) None)
+    over entries_limit Entries (entries_needed U before e)
+    (over marks_limit Marks (marks_needed (trail_of before) (mark_count before)) None)

@@ -11,6 +11,7 @@ use Rattle.login_model.specs.declared.answer.Answer.{Answer}
 use Rattle.login_model.specs.declared.answer.Answer.TheVariants.{Nothing}
 use Rattle.login_model.specs.declared.mark.Entry.{Entry}
 use Rattle.login_model.specs.Trail.{Trail, after}
+pub use Rattle.login_model.specs.Marks.{after_all, trail_of}
 use Rattle.login_model.specs.Texts.{IsText, texts, has_object, hardware_texts}
 use Rattle.login_model.specs.Where.{is_connected}
 use Rattle.login_model.specs.Policy.{verdict}
@@ -18,15 +19,8 @@ use Rattle.login_model.specs.Direct.{direct}
 use Rattle.login_model.specs.Answers.{answer}
 use Rattle.login_model.specs.Settle.{settle}
 use Rattle.login_model.specs.Stopping.{stopped}
-
--- the marks of these entries, after the marks so far
-abbrev pub after_all : Trail → List Entry → Trail
-after_all t [] = t
-after_all t (e ∷ es) = after_all (after t e.marks) es
-
--- the marks of a journal, the newest first
-abbrev pub trail_of : List Entry → Trail
-trail_of journal = after_all [] journal
+use Rattle.login_model.specs.Built.{is_built}
+use Rattle.login_model.specs.Limits.{text_limit}
 
 -- whether an event connects this connection
 abbrev pub connects : ConnId → Event → Type 0
@@ -43,14 +37,14 @@ IsUnused c before = AllByRecursion (λ (e : Entry). connects c e.event → ⊥) 
 abbrev pub Fits : List Entry → Event → Type 0
 Fits before (Connect c u) = (0 < c.0) × IsUnused c before
 Fits before (Disconnect c) = is_connected (trail_of before) c ≡ true
-Fits before (Calls r) = (is_connected (trail_of before) r.who ≡ true) × (0 < r.serial) × AllByRecursion (IsText 512) (texts r.call) × (has_object r.call ≡ true)
-Fits before (Hardware x) = AllByRecursion (IsText 512) (hardware_texts x)
+Fits before (Calls r) = (is_connected (trail_of before) r.who ≡ true) × (0 < r.serial) × AllByRecursion (IsText text_limit) (texts r.call) × (has_object r.call ≡ true)
+Fits before (Hardware x) = AllByRecursion (IsText text_limit) (hardware_texts x)
 Fits before (Tick m) = Unit {0}
 Fits before Stop = Unit {0}
 
--- the event may come after these entries; after the stop nothing does but disconnects
+-- the event may come after these entries: it is one that is built, and after the stop nothing comes but disconnects
 abbrev pub IsPlaced : List Entry → Event → Type 0
-IsPlaced before e = Fits before e × (stopped before e ≡ None)
+IsPlaced before e = Fits before e × (stopped before e ≡ None) × (is_built e ≡ true)
 
 -- an event that room may be asked for: one that may come next, or any that the stop refuses
 abbrev pub IsAsked : List Entry → Event → Type 0
@@ -61,15 +55,15 @@ abbrev pub stepped : Setup → Verdict → Event → Trail → Trail
 stepped U Granted e t = settle U (direct U e t)
 stepped U (Denied r) e t = t
 
-abbrev pub answered : Setup → Verdict → Event → Trail → Answer
-answered U Granted e t = answer U t e
-answered U (Denied r) e t = Nothing
+abbrev pub answered : Setup → Verdict → Event → List Entry → Answer
+answered U Granted e before = answer U before e
+answered U (Denied r) e before = Nothing
 
 -- the entry is the one that its event makes after these entries
 pub record IsLegalEntry (U : Setup) (before : List Entry) (e : Entry) : Type 0 where
   pub placed : IsPlaced before e.event
   pub verdict_is : e.verdict ≡ verdict U (trail_of before) e.event
-  pub answer_is : e.answer ≡ answered U e.verdict e.event (trail_of before)
+  pub answer_is : e.answer ≡ answered U e.verdict e.event before
   pub marks_are : after (trail_of before) e.marks ≡ stepped U e.verdict e.event (trail_of before)
 
 abbrev pub IsLegalAfter : Setup → List Entry → List Entry → Type 0
@@ -80,7 +74,7 @@ IsLegalAfter U before (e ∷ es) = IsLegalEntry U before e × IsLegalAfter U (be
 abbrev pub IsLegal : Setup → List Entry → Type 0
 IsLegal U journal = IsLegalAfter U [] journal
 
--- the journal of these events, in order
+-- the events of a journal, in order
 abbrev pub events_of : List Entry → List Event
 events_of [] = []
 events_of (e ∷ es) = e.event ∷ events_of es
@@ -91,14 +85,3 @@ abbrev pub AreInPlace : Setup → List Entry → List Event → Type 0
 AreInPlace U before [] = Unit {0}
 AreInPlace U before (e ∷ es) =
     IsPlaced before e × ((entry : Entry) → entry.event ≡ e → IsLegalEntry U before entry → AreInPlace U (before ++ entry ∷ []) es)
-
--- a legal journal of these events
-pub record HasJournal (U : Setup) (events : List Event) : Type 0 where
-  pub journal : List Entry
-  pub legal : IsLegal U journal
-  pub events_are : events_of journal ≡ events
-
--- the law: a list of events in place has exactly one legal journal
-pub record OneJournal : Type 0 where
-  pub one : (U : Setup) (a b : List Entry) → IsLegal U a → IsLegal U b → events_of a ≡ events_of b → a ≡ b
-  pub some : (U : Setup) (events : List Event) → AreInPlace U [] events → HasJournal U events

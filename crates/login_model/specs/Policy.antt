@@ -1,5 +1,5 @@
 -- The policy: one formula a rule, the ordered rules of each event, and the verdict.
-use Rattle.std.specs.Prelude.{ℕ, ℤ, pos, ◌==◌, ◌&&◌, ◌||◌, not, nat_le, nat_lt, Bool, true, false, if◌then◌else◌, Option, Some, None, List, [], ◌∷◌, length, codes}
+use Rattle.std.specs.Prelude.{ℕ, ℤ, pos, ◌==◌, ◌&&◌, ◌||◌, not, nat_le, nat_lt, Bool, true, false, if◌then◌else◌, Option, Some, None, List, [], ◌∷◌, ◌++◌, length, codes, find}
 use Rattle.std.specs.Option.{option_map, is_some}
 use Rattle.std.specs.List.{list_any}
 use Rattle.std.specs.Str.{bytes_eq}
@@ -11,63 +11,81 @@ use Rattle.login_base.specs.SessionId.{session_of}
 use Rattle.login_model.specs.declared.action.Action.{Action}
 use Rattle.login_model.specs.declared.action.Action.TheVariants as action
 use Rattle.login_model.specs.declared.fact.Key.TheVariants.{Conn, Sess, Ctl, Owner as OwnerKey}
-use Rattle.login_model.specs.declared.fact.Fact.{Fact}
-use Rattle.login_model.specs.declared.fact.Fact.TheVariants as fact
-use Rattle.login_model.specs.declared.fact.Owner.TheVariants as owner
-use Rattle.login_model.specs.declared.session.Phase.{Phase}
-use Rattle.login_model.specs.declared.session.Phase.TheVariants.{Closing}
 use Rattle.login_model.specs.declared.setup.UserRow.{UserRow}
 use Rattle.login_model.specs.declared.setup.Setup.{Setup}
 use Rattle.login_model.specs.declared.call.Creation.{Creation}
+use Rattle.login_model.specs.declared.call.Inhibition.{Inhibition}
 use Rattle.login_model.specs.declared.call.Call.{Call}
 use Rattle.login_model.specs.declared.call.Call.TheVariants as call
 use Rattle.login_model.specs.declared.hardware.Hardware.{Hardware}
-use Rattle.login_model.specs.declared.hardware.Hardware.TheVariants.{VtKey, Exit}
+use Rattle.login_model.specs.declared.hardware.Hardware.TheVariants.{Add, Remove, Input, VtKey, Exit, Key as HardKeyPressed, Dock, JobDone}
+use Rattle.login_model.specs.declared.hardware.HardKey.{HardKey}
 use Rattle.login_model.specs.declared.event.Event.{Event}
-use Rattle.login_model.specs.declared.event.Event.TheVariants.{Connect, Call as Calls, Hardware as Happens, Tick}
-use Rattle.login_model.specs.declared.rule.Limit.TheVariants.{Links, Sessions}
+use Rattle.login_model.specs.declared.event.Event.TheVariants.{Connect, Disconnect, Call as Calls, Hardware as Happens, Tick, Stop}
+use Rattle.login_model.specs.declared.rule.Limit.TheVariants.{Devices, DevicesTaken, Links, Sessions, Inhibitors}
 use Rattle.login_model.specs.declared.rule.Rule.{Rule}
-use Rattle.login_model.specs.declared.rule.Rule.TheVariants.{UnknownObject, UnknownMethod, BadArguments, NoSuchSession, NoSuchUser, NoSuchSeat, NoSuchHandle, NotRoot, NotOwner, ActionRefused, ActionChallenge, SessionClosing, NoSeat, SessionNotOnSeat, Controlled, NotInControl, VtBusy, Limit, NotYours, ClockBackwards, Nobody}
+use Rattle.login_model.specs.declared.rule.Rule.TheVariants.{UnknownObject, UnknownMethod, BadArguments, NoSuchSession, NoSuchUser, NoSuchSeat, NoSuchHandle, NotRoot, NotOwner, ActionRefused, ActionChallenge, SessionClosing, NoSeat, SessionNotOnSeat, Controlled, NotInControl, VtBusy, Limit, NotYours, ClockBackwards, Nobody, OperationInProgress, Inhibited, DelayNotOffered, NoJob, KeyIgnored, NoSuchDevice, DeviceNotOnSeat, DeviceTaken, DeviceNotTaken, NotLive, WrongKind, DevicePresent, DeviceAbsent}
 use Rattle.login_model.specs.declared.rule.Verdict.{Verdict}
 use Rattle.login_model.specs.declared.rule.Verdict.TheVariants.{Granted, Denied}
 use Rattle.login_model.specs.declared.table.Say.{Say}
-use Rattle.login_model.specs.declared.table.Say.TheVariants.{No, Challenge}
+use Rattle.login_model.specs.declared.table.Say.TheVariants.{No, Challenge, Yes}
 use Rattle.login_model.specs.Trail.{Trail, value}
 use Rattle.login_model.specs.Start.{seat0}
-use Rattle.login_model.specs.Where.{is_connected, is_session, is_user, is_seat, connections, sessions, session_on, seat_of_session, is_on_seat, now}
+use Rattle.login_model.specs.Where.{devices, is_connected, is_device, is_session, is_this_seat, is_user, is_seat, connections, sessions, session_on, seat_of_session, is_on_seat, now}
 use Rattle.login_model.specs.Table.{ask}
 use Rattle.login_model.specs.Standing.{standing}
+use Rattle.login_model.specs.Devices.{is_live, is_taken, taken_devices}
+use Rattle.login_base.specs.declared.ids.DevNo.{DevNo}
+use Rattle.login_model.specs.declared.hardware.DevKind.{DevKind}
+use Rattle.login_model.specs.declared.hardware.DevKind.TheVariants.{Drm, Evdev}
+use Rattle.login_model.specs.Locks.{holds_up, is_mode, is_what, key_locks, matching, mode_of, what_of}
+use Rattle.login_model.specs.Action.{power_action}
+use Rattle.login_model.specs.Power.{is_blocked, key_action, kind_under_way, passes_locks, running_in}
+use Rattle.login_model.specs.declared.action.Qualifier.TheVariants as qualifier
+use Rattle.login_model.specs.declared.conf.KeyAction.{KeyAction}
+use Rattle.login_model.specs.declared.conf.KeyAction.TheVariants as does
+use Rattle.login_model.specs.declared.fact.Key.TheVariants.{Dev, Op}
+use Rattle.login_model.specs.declared.lock.Inhibited.{Inhibited as What}
+use Rattle.login_model.specs.declared.lock.LockMode.{LockMode}
+use Rattle.login_model.specs.declared.lock.LockMode.TheVariants.{Block, Delay}
+use Rattle.login_model.specs.declared.operation.OpKind.{OpKind}
+use Rattle.login_model.specs.declared.session.Class.{Class}
+use Rattle.login_model.specs.declared.session.Class.TheVariants as class
+use Rattle.login_base.specs.declared.ids.LockNo.{LockNo}
+use Rattle.login_model.specs.Where.{locks}
+use Rattle.login_model.specs.Facts.{client_or, is_client_of, controller_in, is_open_phase, is_owned_fact, leader_in, owner_of}
+use Rattle.login_model.specs.declared.fact.Fact.{Fact}
+use Rattle.login_model.specs.declared.fact.Fact.TheVariants as fact
+use Rattle.login_model.specs.declared.fact.Owner.TheVariants as owner
+pub use Rattle.login_model.specs.Facts.{is_controller_fact, is_closing_phase, is_closing_fact, holder_in}
+use Rattle.login_model.specs.Limits.{links_limit, taken_limit, devices_limit, last_terminal, last_signal}
 
 -- a rule that is broken where the test holds
 abbrev pub broken_if : Bool → Rule → Option Rule
 broken_if b r = if b then Some r else None
 
-abbrev pub uid_in_fact : Fact → ℕ
-uid_in_fact (fact.Connected u) = u.0
-uid_in_fact _ = 0
-
--- the user of a connected connection
-abbrev pub uid_of : Trail → ConnId → ℕ
-uid_of t c = uid_in_fact (value t (Conn c))
-
-abbrev pub session_uid_in_fact : Fact → ℕ
-session_uid_in_fact (fact.Session x) = x.uid.0
-session_uid_in_fact _ = 0
-
 -- the user of a session
 abbrev pub session_uid : Trail → SessId → ℕ
-session_uid t s = session_uid_in_fact (value t (Sess s))
+session_uid t s = (owner_of (value t (Sess s))).0
+
+-- the number that stands for the caller's own user in `linger`, and for the user of a caller that is not connected
+abbrev pub no_user : ℕ
+no_user = 4294967295
+
+-- the user of a caller, or that number where it is not connected
+abbrev pub uid_of : Trail → ConnId → ℕ
+uid_of t c = client_or no_user (value t (Conn c))
+
+-- whether a connection is connected and its user is this one
+abbrev pub is_own : Trail → ConnId → ℕ → Bool
+is_own t c uid = is_client_of uid (value t (Conn c))
 
 abbrev pub is_root : Trail → ConnId → Bool
-is_root t c = uid_of t c == 0
+is_root t c = is_own t c 0
 
 -- whether a user is one of the setup; root always is
 abbrev pub is_user_of : Setup → ℕ → Bool
 is_user_of U uid = (uid == 0) || list_any (λ (row : UserRow). row.uid.0 == uid) U.users
-
-abbrev pub is_controller_fact : ConnId → Fact → Bool
-is_controller_fact c (fact.Controller b) = b.0 == c.0
-is_controller_fact c _ = false
 
 -- whether a connection controls a session
 abbrev pub controls : Trail → ConnId → SessId → Bool
@@ -87,15 +105,15 @@ not_root t c = broken_if (not (is_root t c)) NotRoot
 
 -- P10 not-owner: the caller's user is neither root nor the session's
 abbrev pub not_owner : Trail → ConnId → SessId → Option Rule
-not_owner t c s = broken_if (not (is_root t c || (uid_of t c == session_uid t s))) NotOwner
+not_owner t c s = broken_if (not (is_root t c || is_own t c (session_uid t s))) NotOwner
 
 -- P17 controlled: another connection controls the session
-abbrev pub controlled_fact : ConnId → Fact → Option Rule
-controlled_fact c (fact.Controller b) = broken_if (not (b.0 == c.0)) (Controlled b)
-controlled_fact c _ = None
+abbrev pub controlled_by_other : ConnId → Option ConnId → Option Rule
+controlled_by_other c (Some b) = broken_if (not (b.0 == c.0)) (Controlled b)
+controlled_by_other c None = None
 
 abbrev pub controlled : Trail → ConnId → SessId → Option Rule
-controlled t c s = controlled_fact c (value t (Ctl s))
+controlled t c s = controlled_by_other c (controller_in (value t (Ctl s)))
 
 -- P18 not-in-control: the caller does not control the session
 abbrev pub not_in_control : Trail → ConnId → SessId → Option Rule
@@ -111,7 +129,7 @@ vt_busy_on t seat vt = if bytes_eq seat seat0 then vt_busy t vt else None
 
 -- P26 limit: 64 connections are connected
 abbrev pub too_many_links : Trail → Option Rule
-too_many_links t = broken_if (nat_le 64 (length (connections t))) (Limit Links)
+too_many_links t = broken_if (nat_le links_limit (length (connections t))) (Limit Links)
 
 -- P35 nobody: the process is neither 0 nor a connected connection
 abbrev pub nobody : Trail → ℕ → Option Rule
@@ -129,7 +147,7 @@ abbrev pub is_class : List ℕ → Bool
 is_class text = is_one_of ([] ∷ codes "user" ∷ codes "greeter" ∷ codes "lock-screen" ∷ codes "background" ∷ []) text
 
 abbrev pub is_vt : ℕ → Bool
-is_vt vt = nat_le 1 vt && nat_le vt 63
+is_vt vt = nat_le 1 vt && nat_le vt last_terminal
 
 abbrev pub is_seat_or_none : List ℕ → Bool
 is_seat_or_none [] = true
@@ -158,13 +176,8 @@ no_such_seat_of t [] = None
 no_such_seat_of t (b ∷ bs) = no_such_seat t (b ∷ bs)
 
 -- P07 no-such-handle: the handle was never given out, or is closed
-abbrev pub is_held_fact : Fact → Bool
-is_held_fact (fact.Owned owner.Closed) = false
-is_held_fact (fact.Owned o) = true
-is_held_fact _ = false
-
 abbrev pub no_such_handle : Trail → HandleNo → Option Rule
-no_such_handle t h = broken_if (not (is_held_fact (value t (OwnerKey h)))) NoSuchHandle
+no_such_handle t h = broken_if (not (is_owned_fact (value t (OwnerKey h)))) NoSuchHandle
 
 -- P11 action-refused and P12 action-challenge: what the table says to the caller
 abbrev pub refused : Action → Say → Option Rule
@@ -190,9 +203,6 @@ abbrev pub unless : Bool → Option Rule → Option Rule
 unless true rule = None
 unless false rule = rule
 
-abbrev pub is_own : Trail → ConnId → ℕ → Bool
-is_own t c uid = uid_of t c == uid
-
 abbrev pub own_or_refused : Setup → Trail → ConnId → ℕ → Action → Option Rule
 own_or_refused U t c uid a = unless (is_own t c uid) (action_refused U t c a)
 
@@ -200,14 +210,6 @@ abbrev pub own_or_challenge : Setup → Trail → ConnId → ℕ → Action → 
 own_or_challenge U t c uid a = unless (is_own t c uid) (action_challenge U t c a)
 
 -- P13 session-closing
-abbrev pub is_closing_phase : Phase → Bool
-is_closing_phase Closing = true
-is_closing_phase _ = false
-
-abbrev pub is_closing_fact : Fact → Bool
-is_closing_fact (fact.Session x) = is_closing_phase x.phase
-is_closing_fact _ = false
-
 abbrev pub session_closing : Trail → SessId → Option Rule
 session_closing t s = broken_if (is_closing_fact (value t (Sess s))) SessionClosing
 
@@ -224,12 +226,6 @@ abbrev pub too_many_sessions : Setup → Trail → Option Rule
 too_many_sessions U t = broken_if (nat_le U.conf.sessions_max (length (sessions t))) (Limit (Sessions U.conf.sessions_max))
 
 -- P28 not-yours: the handle's owner is another connection
-abbrev pub holder_in : Fact → Option ConnId
-holder_in (fact.Owned (owner.Device c s d)) = Some c
-holder_in (fact.Owned (owner.Fifo c s)) = Some c
-holder_in (fact.Owned (owner.Lock c l)) = Some c
-holder_in _ = None
-
 abbrev pub is_other : ConnId → Option ConnId → Bool
 is_other c (Some b) = not (b.0 == c.0)
 is_other c None = false
@@ -243,26 +239,26 @@ clock_backwards t m = broken_if (nat_lt m (now t)) (ClockBackwards (record { 0 =
 
 -- P03 bad-arguments, of signals: from 1 to 64, and to whom
 abbrev pub is_signal : ℤ → Bool
-is_signal (pos n) = nat_le 1 n && nat_le n 64
+is_signal (pos n) = nat_le 1 n && nat_le n last_signal
 is_signal _ = false
 
 abbrev pub is_whom : List ℕ → Bool
 is_whom who = is_one_of ([] ∷ codes "all" ∷ codes "leader" ∷ []) who
 
 -- P35 nobody, of kill: the leader is asked for and is not connected
-abbrev pub is_leaderless_fact : Trail → Fact → Bool
-is_leaderless_fact t (fact.Session x) = not (is_connected t x.leader)
-is_leaderless_fact t _ = false
+abbrev pub is_missing : Trail → Option ConnId → Bool
+is_missing t (Some leader) = not (is_connected t leader)
+is_missing t None = false
 
 abbrev pub no_leader : Trail → SessId → List ℕ → Option Rule
-no_leader t s who = broken_if (bytes_eq who (codes "leader") && is_leaderless_fact t (value t (Sess s))) Nobody
+no_leader t s who = broken_if (bytes_eq who (codes "leader") && is_missing t (leader_in (value t (Sess s)))) Nobody
 
--- the user whom a call to linger means: the greatest number is the caller's own user
+-- the user whom a call to linger means: that number is the caller's own user
 abbrev pub meant_user : Trail → ConnId → ℕ → ℕ
-meant_user t c uid = if uid == 4294967295 then uid_of t c else uid
+meant_user t c uid = if uid == no_user then client_or uid (value t (Conn c)) else uid
 
 abbrev pub linger_action : Trail → ConnId → ℕ → Action
-linger_action t c uid = if uid_of t c == uid then action.SetSelfLinger else action.SetUserLinger
+linger_action t c uid = if is_own t c uid then action.SetSelfLinger else action.SetUserLinger
 
 -- the rules of a call on a session, by the text of its id
 abbrev pub on_session : (SessId → List (Option Rule)) → Option SessId → List (Option Rule)
@@ -315,7 +311,180 @@ uncontrol_rules t c s = no_such_session t s ∷ not_in_control t c s ∷ []
 abbrev pub only_session : Trail → SessId → List (Option Rule)
 only_session t s = no_such_session t s ∷ []
 
--- the ordered rules of a call, each with what it finds broken; those of calls that are not built are left out
+-- P08 no-such-device and P31 device-absent: the device is absent; P30 device-present
+abbrev pub no_such_device : Trail → DevNo → Option Rule
+no_such_device t d = broken_if (not (is_device t d)) NoSuchDevice
+
+abbrev pub device_absent : Trail → DevNo → Option Rule
+device_absent t d = broken_if (not (is_device t d)) DeviceAbsent
+
+abbrev pub device_present : Trail → DevNo → Option Rule
+device_present t d = broken_if (is_device t d) DevicePresent
+
+-- P16 device-not-on-seat: the device is not on the session's seat
+abbrev pub is_device_on : Option (List ℕ) → Fact → Bool
+is_device_on seat (fact.Device kind name) = is_this_seat name seat
+is_device_on seat _ = false
+
+abbrev pub device_not_on_seat : Trail → SessId → DevNo → Option Rule
+device_not_on_seat t s d = broken_if (not (is_device_on (seat_of_session t s) (value t (Dev d)))) DeviceNotOnSeat
+
+-- P19 device-taken and P20 device-not-taken: the session has the device taken, or has not
+abbrev pub device_taken : Trail → SessId → DevNo → Option Rule
+device_taken t s d = broken_if (is_taken t s d) DeviceTaken
+
+abbrev pub device_not_taken : Trail → SessId → DevNo → Option Rule
+device_not_taken t s d = broken_if (not (is_taken t s d)) DeviceNotTaken
+
+-- P26 limit: a session has as many devices taken, and as many are present, as may be
+abbrev pub too_many_taken : Trail → SessId → Option Rule
+too_many_taken t s = broken_if (nat_le taken_limit (length (taken_devices t s))) (Limit DevicesTaken)
+
+abbrev pub too_many_devices : Trail → Option Rule
+too_many_devices t = broken_if (nat_le devices_limit (length (devices t))) (Limit Devices)
+
+-- P27 not-live: the handle is dead
+abbrev pub not_live : Trail → HandleNo → Option Rule
+not_live t h = broken_if (not (is_live t h)) NotLive
+
+-- P29 wrong-kind: a device that is present is of another kind, or the handle is no device's
+abbrev pub is_other_kind : DevKind → Fact → Bool
+is_other_kind Evdev (fact.Device Drm seat) = true
+is_other_kind Drm (fact.Device Evdev seat) = true
+is_other_kind kind _ = false
+
+abbrev pub device_wrong : DevKind → Trail → DevNo → Option Rule
+device_wrong kind t d = broken_if (is_other_kind kind (value t (Dev d))) WrongKind
+
+abbrev pub handle_wrong : DevKind → Trail → Fact → Option Rule
+handle_wrong kind t (fact.Owned (owner.Device c s d)) = device_wrong kind t d
+handle_wrong kind t _ = Some WrongKind
+
+abbrev pub take_rules : Trail → ConnId → DevNo → SessId → List (Option Rule)
+take_rules t c d s =
+    no_such_session t s ∷ session_closing t s ∷ not_in_control t c s ∷ no_seat t s ∷ no_such_device t d
+    ∷ device_not_on_seat t s d ∷ device_taken t s d ∷ too_many_taken t s ∷ []
+
+-- of giving a device back, and of acknowledging its pause
+abbrev pub taken_rules : Trail → ConnId → DevNo → SessId → List (Option Rule)
+taken_rules t c d s = no_such_session t s ∷ not_in_control t c s ∷ device_not_taken t s d ∷ []
+
+-- of reading a device, and of setting its mode
+abbrev pub handle_rules : DevKind → Trail → ConnId → HandleNo → List (Option Rule)
+handle_rules kind t c h = no_such_handle t h ∷ not_yours t c h ∷ handle_wrong kind t (value t (OwnerKey h)) ∷ not_live t h ∷ []
+
+-- P23 operation-in-progress: an operation waits or runs; for a lock: one whose word it names
+abbrev pub in_progress : Trail → Option Rule
+in_progress t = option_map OperationInProgress (kind_under_way (value t Op))
+
+abbrev pub meets : What → Option OpKind → Option Rule
+meets what (Some k) = broken_if (holds_up k what) (OperationInProgress k)
+meets what None = None
+
+abbrev pub lock_in_progress : Trail → What → Option Rule
+lock_in_progress t what = meets what (kind_under_way (value t Op))
+
+-- P24 inhibited: the lowest lock that stands in the way
+abbrev pub first_lock : List LockNo → Option Rule
+first_lock [] = None
+first_lock (l ∷ ls) = Some (Inhibited l)
+
+abbrev pub inhibited : Trail → OpKind → Option Rule
+inhibited t k = first_lock (matching t k Block)
+
+abbrev pub key_inhibited : Trail → HardKey → Option Rule
+key_inhibited t k = first_lock (key_locks t k)
+
+-- P25 delay-not-offered: only a shutdown and sleep can be delayed
+abbrev pub names_more : What → Bool
+names_more what = what.idle || what.handle_power_key || what.handle_suspend_key || what.handle_hibernate_key || what.handle_lid_switch
+
+abbrev pub cannot_delay : LockMode → What → Bool
+cannot_delay Delay what = names_more what
+cannot_delay Block what = false
+
+abbrev pub delay_not_offered : LockMode → What → Option Rule
+delay_not_offered mode what = broken_if (cannot_delay mode what) DelayNotOffered
+
+-- P26 limit: as many locks as may be stand
+abbrev pub too_many_locks : Setup → Trail → Option Rule
+too_many_locks U t = broken_if (nat_le U.conf.inhibitors_max (length (locks t))) (Limit (Inhibitors U.conf.inhibitors_max))
+
+-- P32 no-job: no operation runs
+abbrev pub no_job : Trail → Option Rule
+no_job t = broken_if (not (is_some (running_in (value t Op)))) NoJob
+
+-- P11 and P12 of an action that is needed where the test holds
+abbrev pub needs : Bool → Setup → Trail → ConnId → Action → List (Option Rule)
+needs b U t c a = unless (not b) (action_refused U t c a) ∷ unless (not b) (action_challenge U t c a) ∷ []
+
+-- another user has an open session of class user
+abbrev pub is_user_class : Class → Bool
+is_user_class class.User = true
+is_user_class _ = false
+
+abbrev pub is_other_user : ℕ → Fact → Bool
+is_other_user uid (fact.Session x) = is_open_phase x.phase && is_user_class x.class && not (x.uid.0 == uid)
+is_other_user uid _ = false
+
+abbrev pub has_others : Trail → ℕ → Bool
+has_others t uid = is_some (find (λ s. is_other_user uid (value t (Sess s))) (sessions t))
+
+abbrev pub plain : OpKind → Action
+plain k = action.Power (power_action k) qualifier.Plain
+
+abbrev pub for_others : OpKind → Action
+for_others k = action.Power (power_action k) qualifier.MultipleSessions
+
+abbrev pub past_locks : OpKind → Action
+past_locks k = action.Power (power_action k) qualifier.IgnoreInhibit
+
+abbrev pub is_yes : Say → Bool
+is_yes Yes = true
+is_yes _ = false
+
+-- whether the policy lets a caller pass the locks that block an operation
+abbrev pub may_pass : Setup → Trail → ConnId → OpKind → Bool
+may_pass U t c k = is_yes (say U t c (past_locks k))
+
+abbrev pub power_rules : Setup → Trail → ConnId → OpKind → List (Option Rule)
+power_rules U t c k =
+    in_progress t
+    ∷ (needs (has_others t (uid_of t c)) U t c (for_others k)
+    ++ unless (may_pass U t c k) (inhibited t k)
+    ∷ needs (not (has_others t (uid_of t c) || is_blocked t k)) U t c (plain k))
+
+-- the action that each word of a lock needs
+abbrev pub shutdown_action : LockMode → Action
+shutdown_action Block = action.InhibitBlockShutdown
+shutdown_action Delay = action.InhibitDelayShutdown
+
+abbrev pub sleep_action : LockMode → Action
+sleep_action Block = action.InhibitBlockSleep
+sleep_action Delay = action.InhibitDelaySleep
+
+abbrev pub word_rules : Setup → Trail → ConnId → LockMode → What → List (Option Rule)
+word_rules U t c mode what =
+    needs what.shutdown U t c (shutdown_action mode) ++ needs what.sleep U t c (sleep_action mode)
+    ++ needs what.idle U t c action.InhibitBlockIdle ++ needs what.handle_power_key U t c action.InhibitHandlePowerKey
+    ++ needs what.handle_suspend_key U t c action.InhibitHandleSuspendKey
+    ++ needs what.handle_hibernate_key U t c action.InhibitHandleHibernateKey
+    ++ needs what.handle_lid_switch U t c action.InhibitHandleLidSwitch
+
+-- the ordered rules of a lock: what it names and how, the action of each word, the operation under way, how many stand
+abbrev pub inhibit_rules : Setup → Trail → ConnId → Inhibition → List (Option Rule)
+inhibit_rules U t c x =
+    bad_arguments (is_what x.what && is_mode x.mode) ∷ delay_not_offered (mode_of x.mode) (what_of x.what)
+    ∷ (word_rules U t c (mode_of x.mode) (what_of x.what)
+    ++ lock_in_progress t (what_of x.what) ∷ too_many_locks U t ∷ [])
+
+-- the rules of a key, by what it brings about
+abbrev pub key_rules : Setup → Trail → HardKey → KeyAction → List (Option Rule)
+key_rules U t k does.Ignore = Some KeyIgnored ∷ []
+key_rules U t k does.Lock = key_inhibited t k ∷ []
+key_rules U t k (does.Operation o) = key_inhibited t k ∷ in_progress t ∷ unless (passes_locks U.conf k) (inhibited t o) ∷ []
+
+-- the ordered rules of a call, each with what it finds broken; those of properties and of the bus come with their calls
 abbrev pub call_rules : Setup → Trail → ConnId → Call → List (Option Rule)
 call_rules U t c (call.Create x) =
     bad_arguments (fits_creation x) ∷ not_root t c ∷ no_such_user U x.uid.0 ∷ no_such_seat_of t x.seat ∷ nobody t x.process
@@ -348,24 +517,51 @@ call_rules U t c (call.SwitchToPrevious seat) = no_such_seat t seat ∷ action_r
 call_rules U t c (call.KillUser u signal) =
     absent_user t u.0 ∷ bad_arguments (is_signal signal) ∷ own_or_refused U t c u.0 action.Manage ∷ own_or_challenge U t c u.0 action.Manage ∷ []
 call_rules U t c (call.Close h) = no_such_handle t h ∷ not_yours t c h ∷ []
+call_rules U t c (call.TakeDevice id d) = on_session (take_rules t c d) (session_of id)
+call_rules U t c (call.ReleaseDevice id d) = on_session (taken_rules t c d) (session_of id)
+call_rules U t c (call.PauseComplete id d) = on_session (taken_rules t c d) (session_of id)
+call_rules U t c (call.ReadInput h) = handle_rules Evdev t c h
+call_rules U t c (call.SetMode h mode) = handle_rules Drm t c h
+call_rules U t c (call.Power k) = power_rules U t c k
+call_rules U t c (call.Inhibit x) = inhibit_rules U t c x
 call_rules U t c call.NoObject = Some UnknownObject ∷ []
 call_rules U t c call.NoMethod = Some UnknownMethod ∷ []
 call_rules U t c call.BadArguments = Some BadArguments ∷ []
-call_rules U t c _ = []
+call_rules U t c call.ListSessions = []
+call_rules U t c call.ListUsers = []
+call_rules U t c call.ListSeats = []
+call_rules U t c call.ListInhibitors = []
+call_rules U t c (call.Can k) = []
+call_rules U t c call.NoCall = []
+call_rules U t c (call.GetProperty x) = []
+call_rules U t c (call.GetAllProperties path interface) = []
+call_rules U t c (call.SetProperty x) = []
+call_rules U t c call.Ping = []
+call_rules U t c call.GetMachineId = []
+call_rules U t c call.Hello = []
+call_rules U t c (call.GetNameOwner name) = []
+call_rules U t c (call.AddMatch rule) = []
+call_rules U t c (call.RemoveMatch rule) = []
 
 -- the ordered rules of what happens to the machine: a key for a terminal names one, an exit a session
-abbrev pub hardware_rules : Trail → Hardware → List (Option Rule)
-hardware_rules t (VtKey vt) = bad_arguments (is_vt vt) ∷ []
-hardware_rules t (Exit id) = on_session (only_session t) (session_of id)
-hardware_rules t _ = []
+abbrev pub hardware_rules : Setup → Trail → Hardware → List (Option Rule)
+hardware_rules U t (VtKey vt) = bad_arguments (is_vt vt) ∷ []
+hardware_rules U t (Exit id) = on_session (only_session t) (session_of id)
+hardware_rules U t (HardKeyPressed k) = key_rules U t k (key_action U t k)
+hardware_rules U t (Add d kind seat) = device_present t d ∷ too_many_devices t ∷ []
+hardware_rules U t (Remove d) = device_absent t d ∷ []
+hardware_rules U t (Input d typ code n) = device_absent t d ∷ device_wrong Evdev t d ∷ []
+hardware_rules U t JobDone = no_job t ∷ []
+hardware_rules U t (Dock on) = []
 
 -- the ordered rules of an event
 abbrev pub rules : Setup → Trail → Event → List (Option Rule)
 rules U t (Connect c u) = too_many_links t ∷ []
 rules U t (Calls r) = call_rules U t r.who r.call
-rules U t (Happens x) = hardware_rules t x
+rules U t (Happens x) = hardware_rules U t x
 rules U t (Tick m) = clock_backwards t m.0 ∷ []
-rules U t _ = []
+rules U t (Disconnect c) = []
+rules U t Stop = []
 
 -- denied by the first rule that is broken
 abbrev pub first_broken : List (Option Rule) → Verdict

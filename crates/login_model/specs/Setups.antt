@@ -6,6 +6,7 @@ use Rattle.login_model.specs.Texts.{IsText}
 use Rattle.login_model.specs.declared.setup.Setup.{Setup}
 use Rattle.login_model.specs.declared.setup.UserRow.{UserRow}
 use Rattle.std.specs.List.{AllByRecursion, list_all}
+use Rattle.login_model.specs.Limits.{name_limit, users_limit}
 
 -- the identity of the server where the preamble says nothing
 abbrev pub default_guid : List ℕ
@@ -30,12 +31,12 @@ AreDistinct (row ∷ rows) = IsNewUser row.uid.0 rows × AreDistinct rows
 -- a user of the preamble: not root, with a name of at most 255 bytes
 pub record IsUserRow (row : UserRow) : Type 0 where
   pub not_root : 0 < row.uid.0
-  pub named : IsText 255 row.name
+  pub named : IsText name_limit row.name
 
 pub record IsSetup (U : Setup) : Type 0 where
   pub guid : IsGuid U.guid
   pub users : AllByRecursion IsUserRow U.users
   pub distinct : AreDistinct U.users
-  pub most : length U.users ≤ 1024
+  pub most : length U.users ≤ users_limit
   pub conf : U.conf ≡ default_conf
   pub table : U.table ≡ default_table

@@ -1,26 +1,16 @@
 -- How connections stand to the machine's seats.
-use Rattle.std.specs.Prelude.{ℕ, ◌==◌, ◌&&◌, if◌then◌else◌, Bool, false, find}
+use Rattle.std.specs.Prelude.{ℕ, ◌==◌, ◌&&◌, if◌then◌else◌, Bool, Option, Some, None, find}
 use Rattle.std.specs.Option.{is_some}
 use Rattle.login_base.specs.declared.ids.ConnId.{ConnId}
 use Rattle.login_base.specs.declared.ids.SessId.{SessId}
+use Rattle.login_base.specs.declared.ids.Uid.{Uid}
 use Rattle.login_model.specs.declared.fact.Key.TheVariants.{Conn, Sess}
-use Rattle.login_model.specs.declared.fact.Fact.{Fact}
-use Rattle.login_model.specs.declared.fact.Fact.TheVariants.{Connected, Session}
 use Rattle.login_model.specs.declared.standing.Standing.{Standing}
 use Rattle.login_model.specs.declared.standing.Standing.TheVariants.{Root, Active, Inactive, Any}
 use Rattle.login_model.specs.Trail.{Trail, value}
-use Rattle.login_model.specs.Fresh.{is_open_phase}
+use Rattle.login_model.specs.Facts.{client_in}
 use Rattle.login_model.specs.Where.{sessions, is_active}
-
--- the fact of an open session of a user
-abbrev pub is_open_of : ℕ → Fact → Bool
-is_open_of uid (Session x) = is_open_phase x.phase && (x.uid.0 == uid)
-is_open_of uid _ = false
-
--- the fact of an open session of a user that has a seat
-abbrev pub is_seated_of : ℕ → Fact → Bool
-is_seated_of uid (Session x) = is_open_of uid (Session x) && is_some x.seat
-is_seated_of uid _ = false
+pub use Rattle.login_model.specs.Facts.{is_open_of, is_seated_of}
 
 abbrev pub is_active_of : Trail → ℕ → SessId → Bool
 is_active_of t uid s = is_open_of uid (value t (Sess s)) && is_active t s
@@ -41,11 +31,11 @@ standing_of t uid =
     else if has_seat t uid then Inactive
     else Any
 
--- how the connection of this fact stands; one that is not connected as nobody's
-abbrev pub fact_standing : Trail → Fact → Standing
-fact_standing t (Connected u) = standing_of t u.0
-fact_standing t _ = Any
+-- how a connection of this user stands; one that is not connected as nobody's
+abbrev pub client_standing : Trail → Option Uid → Standing
+client_standing t (Some u) = standing_of t u.0
+client_standing t None = Any
 
 -- how a connection stands
 abbrev pub standing : Trail → ConnId → Standing
-standing t c = fact_standing t (value t (Conn c))
+standing t c = client_standing t (client_in (value t (Conn c)))

@@ -1,5 +1,5 @@
 -- How seat0 goes from one virtual terminal to another.
-use Rattle.std.specs.Prelude.{ℕ, ◌==◌, ◌&&◌, not, nat_le, Bool, true, false, if◌then◌else◌, Option, None}
+use Rattle.std.specs.Prelude.{ℕ, ◌==◌, ◌&&◌, not, nat_le, Bool, if◌then◌else◌, Option, None}
 use Rattle.std.specs.Option.{is_some}
 use Rattle.login_base.specs.declared.ids.SessId.{SessId}
 use Rattle.login_base.specs.declared.ids.DevNo.{DevNo}
@@ -14,6 +14,7 @@ use Rattle.login_model.specs.Start.{seat0}
 use Rattle.login_model.specs.Where.{current_vt, active_on, session_on}
 use Rattle.login_model.specs.Devices.{taken_devices, is_live, is_awaiting}
 use Rattle.login_model.specs.Procedure.{each, if_some, yes, no, tell_controller, force, resume}
+pub use Rattle.login_model.specs.Facts.{is_pending_fact}
 
 -- a live device is to be let go of: that is awaited, and the controller is told
 abbrev pub await_handle : SessId → DevNo → Fact → Trail → Trail
@@ -31,10 +32,6 @@ await_devices s t = each (await_device s) (taken_devices t s) t
 -- no pause of a session's devices is awaited
 unfoldable pub unawait_devices : SessId → Trail → Trail
 unawait_devices s t = each (λ d u. put (key.Awaited s d) no u) (taken_devices t s) t
-
-abbrev pub is_pending_fact : Fact → Bool
-is_pending_fact (fact.Number v) = true
-is_pending_fact _ = false
 
 -- a switch is pending: it goes to another terminal now, and pauses are awaited only once
 abbrev pub ask_switch : ℕ → Bool → Trail → Trail

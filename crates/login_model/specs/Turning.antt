@@ -4,14 +4,13 @@ use Rattle.std.specs.Option.{option_or}
 use Rattle.std.specs.Str.{bytes_eq}
 use Rattle.login_base.specs.declared.ids.SessId.{SessId}
 use Rattle.login_model.specs.declared.fact.Key.TheVariants.{Sess}
-use Rattle.login_model.specs.declared.fact.Fact.{Fact}
-use Rattle.login_model.specs.declared.fact.Fact.TheVariants.{Session}
 use Rattle.login_model.specs.Trail.{Trail, value}
 use Rattle.login_model.specs.Start.{seat0}
 use Rattle.login_model.specs.Names.{insert, session_lt}
 use Rattle.login_model.specs.Where.{current_vt, active_on, sessions_on, is_open}
 use Rattle.login_model.specs.Procedure.{if_some, front}
 use Rattle.login_model.specs.Switching.{request}
+pub use Rattle.login_model.specs.Facts.{vt_in}
 
 -- the first that is above the place, if there is one
 abbrev pub first_above : {A : Type 0} → (A → A → Bool) → A → List A → Option A
@@ -44,10 +43,6 @@ previous_around lt (Some place) xs = option_or (last_below lt place xs) (last_of
 -- the open sessions on a seat, in order
 abbrev pub open_on : Trail → List ℕ → List SessId
 open_on t seat = filter (is_open t) (sessions_on t seat)
-
-abbrev pub vt_in : Fact → ℕ
-vt_in (Session x) = x.vt
-vt_in _ = 0
 
 -- the terminals of these sessions, ascending
 unfoldable pub terminals : Trail → List SessId → List ℕ

@@ -1,5 +1,5 @@
 -- Who is where.
-use Rattle.std.specs.Prelude.{ℕ, ◌==◌, ◌&&◌, ◌||◌, not, if◌then◌else◌, Bool, true, false, Option, Some, None, List, filter, find}
+use Rattle.std.specs.Prelude.{ℕ, ◌&&◌, ◌||◌, not, if◌then◌else◌, Bool, false, Option, Some, None, List, filter, find}
 use Rattle.std.specs.Str.{bytes_eq}
 use Rattle.login_base.specs.declared.ids.SessId.{SessId}
 use Rattle.login_base.specs.declared.ids.Uid.{Uid}
@@ -8,45 +8,12 @@ use Rattle.login_base.specs.declared.ids.DevNo.{DevNo}
 use Rattle.login_base.specs.declared.ids.LockNo.{LockNo}
 use Rattle.login_model.specs.declared.fact.Key.TheVariants as key
 use Rattle.login_model.specs.declared.fact.Fact.{Fact}
-use Rattle.login_model.specs.declared.fact.Fact.TheVariants.{Connected, Session, Known, Leaving, Present, Active, Device, Lock, Number, Flag, Moment}
-use Rattle.login_model.specs.declared.session.Phase.{Phase}
-use Rattle.login_model.specs.declared.session.Phase.TheVariants.{Gone}
+use Rattle.login_model.specs.declared.fact.Fact.TheVariants.{Session, Active, Number}
 use Rattle.login_model.specs.Trail.{Trail, value}
 use Rattle.login_model.specs.Start.{seat0}
 use Rattle.login_model.specs.Names.{names, insert, session_lt, conn_lt, user_lt, seat_lt, device_lt, lock_lt, session_in, conn_in, user_in, seat_in, device_in, lock_in}
 use Rattle.login_model.specs.Fresh.{is_open_phase, is_open_fact}
-
-abbrev pub is_connected_fact : Fact → Bool
-is_connected_fact (Connected u) = true
-is_connected_fact _ = false
-
-abbrev pub is_gone_phase : Phase → Bool
-is_gone_phase Gone = true
-is_gone_phase _ = false
-
--- a session that was made and is not gone
-abbrev pub is_session_fact : Fact → Bool
-is_session_fact (Session x) = not (is_gone_phase x.phase)
-is_session_fact _ = false
-
--- a user that is not absent
-abbrev pub is_user_fact : Fact → Bool
-is_user_fact Known = true
-is_user_fact (Leaving since) = true
-is_user_fact _ = false
-
-abbrev pub is_seat_fact : Fact → Bool
-is_seat_fact Present = true
-is_seat_fact _ = false
-
-abbrev pub is_device_fact : Fact → Bool
-is_device_fact (Device kind seat) = true
-is_device_fact _ = false
-
--- a lock that stands
-abbrev pub is_lock_fact : Fact → Bool
-is_lock_fact (Lock l) = true
-is_lock_fact _ = false
+pub use Rattle.login_model.specs.Facts.{is_connected_fact, is_gone_phase, is_session_fact, is_user_fact, is_seat_fact, is_device_fact, is_lock_fact, is_seat0, is_number, is_on_terminal, number_in, seat_in_fact, is_acting_fact, is_user_in, is_set, moment_in}
 
 -- whether a client is connected
 abbrev pub is_connected : Trail → ConnId → Bool
@@ -96,24 +63,6 @@ devices t = filter (is_device t) (names device_lt device_in t)
 unfoldable pub locks : Trail → List LockNo
 locks t = filter (is_lock t) (names lock_lt lock_in t)
 
-abbrev pub is_seat0 : Option (List ℕ) → Bool
-is_seat0 (Some name) = bytes_eq name seat0
-is_seat0 None = false
-
-abbrev pub is_number : ℕ → Fact → Bool
-is_number v (Number n) = v == n
-is_number v _ = false
-
--- the fact of an open session of seat0 on the virtual terminal that the other fact names
-abbrev pub is_on_terminal : Fact → Fact → Bool
-is_on_terminal terminal (Session x) = is_open_phase x.phase && is_seat0 x.seat && is_number x.vt terminal
-is_on_terminal terminal _ = false
-
--- the number that a fact tells
-abbrev pub number_in : Fact → ℕ
-number_in (Number n) = n
-number_in _ = 0
-
 -- the current virtual terminal
 abbrev pub current_vt : Trail → ℕ
 current_vt t = number_in (value t key.Vt)
@@ -121,10 +70,6 @@ current_vt t = number_in (value t key.Vt)
 -- whether a session is open
 abbrev pub is_open : Trail → SessId → Bool
 is_open t s = is_open_fact (value t (key.Sess s))
-
-abbrev pub seat_in_fact : Fact → Option (List ℕ)
-seat_in_fact (Session x) = x.seat
-seat_in_fact _ = None
 
 -- the seat of a session, if it has one
 abbrev pub seat_of_session : Trail → SessId → Option (List ℕ)
@@ -151,10 +96,6 @@ acting t _ = None
 unfoldable pub active_on : Trail → List ℕ → Option SessId
 active_on t seat = if bytes_eq seat seat0 then session_on t (current_vt t) else acting t (value t (key.Act seat))
 
-abbrev pub is_acting_fact : SessId → Fact → Bool
-is_acting_fact s (Active r) = r.0 == s.0
-is_acting_fact s _ = false
-
 abbrev pub is_acting_on : Trail → SessId → Option (List ℕ) → Bool
 is_acting_on t s None = false
 is_acting_on t s (Some seat) = not (bytes_eq seat seat0) && is_acting_fact s (value t (key.Act seat))
@@ -177,22 +118,9 @@ open_sessions t = filter (is_open t) (sessions t)
 unfoldable pub sessions_on : Trail → List ℕ → List SessId
 sessions_on t seat = filter (is_on_seat t seat) (sessions t)
 
--- the user of a session's fact
-abbrev pub is_user_in : ℕ → Fact → Bool
-is_user_in uid (Session x) = x.uid.0 == uid
-is_user_in uid _ = false
-
 -- the sessions of a user that are not gone, in order
 unfoldable pub sessions_of : Trail → ℕ → List SessId
 sessions_of t uid = filter (λ s. is_user_in uid (value t (key.Sess s))) (sessions t)
-
-abbrev pub is_set : Fact → Bool
-is_set (Flag b) = b
-is_set _ = false
-
-abbrev pub moment_in : Fact → ℕ
-moment_in (Moment m) = m.0
-moment_in _ = 0
 
 -- the moment that the clock reached last
 abbrev pub now : Trail → ℕ

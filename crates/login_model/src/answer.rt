@@ -1,5 +1,7 @@
 // What a granted call is answered.
 
+use crate::lock::Lock;
+use crate::table::Say;
 use login_base::{HandleNo, Items, SeatName, SessId, Uid, Word};
 
 /// What CreateSession of org.freedesktop.login1(5) answers. The object path and the runtime
@@ -32,6 +34,14 @@ pub struct KnownUser {
     pub name: Word,
 }
 
+/// What an input device reported (struct input_event of Linux).
+#[derive(Clone, Copy, Debug, PartialEq, Eq)]
+pub struct Input {
+    pub kind: u16,
+    pub code: u16,
+    pub value: i32,
+}
+
 /// The values of a reply.
 #[derive(Debug, Drop)]
 pub enum Answer {
@@ -51,4 +61,14 @@ pub enum Answer {
     Users(Items<KnownUser>),
     /// ListSeats: their names; the object paths follow from them.
     Seats(Items<SeatName>),
+    /// ListInhibitors: the locks that stand.
+    Inhibitors(Items<Lock>),
+    /// Can of an operation.
+    Can(Say),
+    /// Read: the inputs, the oldest first.
+    Inputs(Items<Input>),
+    /// Inhibit: the handle that keeps the lock.
+    Handle(HandleNo),
+    /// TakeDevice: the handle, and whether the session is inactive.
+    Taken(HandleNo, bool),
 }

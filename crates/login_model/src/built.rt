@@ -7,18 +7,22 @@ use crate::call::Call;
 use crate::event::Event;
 use crate::hardware::Hardware;
 
-/// All calls but those about devices, locks, operations, properties, and what a bus answers.
+/// The calls about users, sessions, seats and handles, and the messages that are none of the calls.
 fn is_built_call(call: &Call) -> bool
     ensures { result ≡ is_built_call call.now }
 {
     match call {
-        Call::ListInhibitors | Call::Power(_) | Call::Can(_) | Call::Inhibit(_) => false,
-        Call::TakeDevice(..) | Call::ReleaseDevice(..) | Call::PauseComplete(..) => false,
-        Call::ReadInput(_) | Call::SetMode(..) => false,
-        Call::GetProperty(_) | Call::GetAllProperties(..) | Call::SetProperty(_) => false,
-        Call::Ping | Call::GetMachineId | Call::Hello => false,
-        Call::GetNameOwner(_) | Call::AddMatch(_) | Call::RemoveMatch(_) => false,
-        _ => true,
+        Call::Create(_) | Call::GetSession(_) | Call::GetUser(_) | Call::GetSeat(_) => true,
+        Call::ListSessions | Call::ListUsers | Call::ListSeats => true,
+        Call::Activate(_) | Call::ActivateOnSeat(..) => true,
+        Call::Lock(_) | Call::Unlock(_) | Call::LockAll | Call::UnlockAll => true,
+        Call::Kill(..) | Call::KillUser(..) | Call::SetLinger(..) => true,
+        Call::Terminate(_) | Call::TerminateUser(_) | Call::TerminateSeat(_) => true,
+        Call::SetIdle(..) | Call::SetLocked(..) | Call::Control(..) | Call::Uncontrol(_) => true,
+        Call::SwitchTo(..) | Call::SwitchToNext(_) | Call::SwitchToPrevious(_) => true,
+        Call::Close(_) => true,
+        Call::NoCall | Call::NoObject | Call::NoMethod | Call::BadArguments => true,
+        _ => false,
     }
 }
 
@@ -29,13 +33,13 @@ fn is_built_hardware(hardware: &Hardware) -> bool
     matches!(hardware, Hardware::VtKey(_) | Hardware::Exit(_))
 }
 
-/// Whether an event is built. The others have no rules and make no marks yet.
+/// Whether an event is built. The others are in place nowhere, so no journal has them.
 pub fn is_built(event: &Event) -> bool
     ensures { result ≡ is_built event.now }
 {
     match event {
         Event::Call(request) => is_built_call(&request.call),
         Event::Hardware(hardware) => is_built_hardware(hardware),
-        _ => true,
+        Event::Connect(..) | Event::Disconnect(_) | Event::Tick(_) | Event::Stop => true,
     }
 }

@@ -1,9 +1,13 @@
 // What is known, and under which keys.
 
+ghost use Rattle.std.specs.Prelude.{◌≡◌, None, Some, MatchOption};
+
 use crate::hardware::DevKind;
 use crate::lock::Lock;
 use crate::operation::Operation;
-use crate::session::{KillWhom, Session};
+use crate::seat::is_seat0;
+use crate::session::{KillWhom, Phase, Session};
+use crate::setup::Setup;
 use login_base::{ConnId, DevNo, HandleNo, LockNo, Millis, SeatName, SessId, Uid};
 
 /// What a fact is about.
@@ -107,4 +111,470 @@ pub enum Fact {
     Lock(Lock),
     /// What the machine as a whole is being made to do.
     Operation(Operation),
+}
+
+/// What a fact says. Each call answers None, no or 0 of a fact of another kind.
+impl Fact {
+    ghost use Rattle.login_model.specs.Facts.{is_absent, client_in, is_connected_fact, is_client_of, client_or, session_in_fact, is_session_fact, is_open_fact, is_closing_fact, owner_of, is_user_in, seat_in_fact, vt_in, fifo_of, leader_in, is_open_of, is_seated_of, is_on_terminal, is_set, controller_in, is_controlled_fact, is_controller_fact, is_known, is_user_fact, is_overdue_fact, owner_in, is_owned_fact, holder_in, is_fifo_of, handle_in, is_handle_fact, is_this_handle, is_seat_fact, active_in, is_acting_fact, number_in_fact, number_in, is_number_fact, is_number, moment_in_fact, moment_in, kind_in, is_device_fact, lock_in_fact, is_lock_fact, is_held_by, operation_in};
+
+    /// Whether nothing is there.
+    pub fn is_absent(&self) -> bool
+        ensures { result ≡ is_absent self.now }
+    {
+        matches!(self, Fact::Absent)
+    }
+
+    /// The user of a connected client.
+    pub fn client(&self) -> Option<Uid>
+        ensures { result ≡ client_in self.now }
+    {
+        match self {
+            Fact::Connected(user) => Some(*user),
+            _ => None,
+        }
+    }
+
+    /// Whether it is that of a connected client.
+    pub fn is_connected(&self) -> bool
+        ensures { result ≡ is_connected_fact self.now }
+    {
+        matches!(self, Fact::Connected(_))
+    }
+
+    /// Whether it is that of a connected client of this user.
+    pub fn is_client_of(&self, uid: u32) -> bool
+        ensures { result ≡ is_client_of uid self.now }
+    {
+        match self {
+            Fact::Connected(user) => user.0 == uid,
+            _ => false,
+        }
+    }
+
+    /// The number of a connected client's user, or that number.
+    pub fn client_or(&self, uid: u32) -> u32
+        ensures { result ≡ client_or uid self.now }
+    {
+        match self {
+            Fact::Connected(user) => user.0,
+            _ => uid,
+        }
+    }
+
+    /// A session that was created, gone or not.
+    pub fn session(&self) -> Option<&Session>
+        ensures { MatchOption result (session_in_fact self.now ≡ None) (λ it. session_in_fact self.now ≡ Some it.now) }
+    {
+        match self {
+            Fact::Session(session) => Some(session),
+            _ => None,
+        }
+    }
+
+    /// Whether it is that of a session that is not gone.
+    pub fn is_session(&self) -> bool
+        ensures { result ≡ is_session_fact self.now }
+    {
+        matches!(
+            self,
+            Fact::Session(Session {
+                phase: Phase::Open | Phase::Closing,
+                ..
+            })
+        )
+    }
+
+    /// Whether it is that of an open session.
+    pub fn is_open(&self) -> bool
+        ensures { result ≡ is_open_fact self.now }
+    {
+        matches!(
+            self,
+            Fact::Session(Session {
+                phase: Phase::Open,
+                ..
+            })
+        )
+    }
+
+    /// Whether it is that of a session that is closing.
+    pub fn is_closing(&self) -> bool
+        ensures { result ≡ is_closing_fact self.now }
+    {
+        matches!(
+            self,
+            Fact::Session(Session {
+                phase: Phase::Closing,
+                ..
+            })
+        )
+    }
+
+    /// The user of a session, or root.
+    pub fn user_or_root(&self) -> Uid
+        ensures { result ≡ owner_of self.now }
+    {
+        match self {
+            Fact::Session(session) => session.uid,
+            _ => Uid(0),
+        }
+    }
+
+    /// Whether it is that of a user's session, gone or not.
+    pub fn is_session_of(&self, uid: u32) -> bool
+        ensures { result ≡ is_user_in uid self.now }
+    {
+        match self {
+            Fact::Session(session) => session.uid.0 == uid,
+            _ => false,
+        }
+    }
+
+    /// Whether it is that of a user's open session.
+    pub fn is_open_of(&self, uid: u32) -> bool
+        ensures { result ≡ is_open_of uid self.now }
+    {
+        match self {
+            Fact::Session(
+                Session {
+                    phase: Phase::Open,
+                    uid: user,
+                    ..
+                },
+            ) => user.0 == uid,
+            _ => false,
+        }
+    }
+
+    /// Whether it is that of a user's open session that has a seat.
+    pub fn is_seated_of(&self, uid: u32) -> bool
+        ensures { result ≡ is_seated_of uid self.now }
+    {
+        self.is_open_of(uid) && self.seat().is_some()
+    }
+
+    /// The seat of a session.
+    pub fn seat(&self) -> Option<SeatName>
+        ensures { result ≡ seat_in_fact self.now }
+    {
+        match self {
+            Fact::Session(session) => session.seat,
+            _ => None,
+        }
+    }
+
+    /// The virtual terminal of a session, or 0.
+    pub fn vt(&self) -> u32
+        ensures { result ≡ vt_in self.now }
+    {
+        match self {
+            Fact::Session(session) => session.vt,
+            _ => 0,
+        }
+    }
+
+    /// The handle whose closing closes a session, or 0.
+    pub fn fifo(&self) -> HandleNo
+        ensures { result ≡ fifo_of self.now }
+    {
+        match self {
+            Fact::Session(session) => session.fifo,
+            _ => HandleNo(0),
+        }
+    }
+
+    /// The connection that leads a session.
+    pub fn leader(&self) -> Option<ConnId>
+        ensures { result ≡ leader_in self.now }
+    {
+        match self {
+            Fact::Session(session) => Some(session.leader),
+            _ => None,
+        }
+    }
+
+    /// Whether it is that of an open session of seat0 on the terminal that the other fact names.
+    pub fn is_on_terminal(&self, terminal: &Fact) -> bool
+        ensures { result ≡ is_on_terminal terminal.now self.now }
+    {
+        match self {
+            Fact::Session(
+                Session {
+                    phase: Phase::Open,
+                    seat: Some(seat),
+                    vt,
+                    ..
+                },
+            ) => { is_seat0(seat.as_slice()) && terminal.is_this_number(*vt) }
+            _ => false,
+        }
+    }
+
+    /// Whether it is a yes.
+    pub fn is_set(&self) -> bool
+        ensures { result ≡ is_set self.now }
+    {
+        match self {
+            Fact::Flag(is_so) => *is_so,
+            _ => false,
+        }
+    }
+
+    /// A session's controller.
+    pub fn controller(&self) -> Option<ConnId>
+        ensures { result ≡ controller_in self.now }
+    {
+        match self {
+            Fact::Controller(who) => Some(*who),
+            _ => None,
+        }
+    }
+
+    /// Whether it names a controller.
+    pub fn is_controlled(&self) -> bool
+        ensures { result ≡ is_controlled_fact self.now }
+    {
+        matches!(self, Fact::Controller(_))
+    }
+
+    /// Whether it names this controller.
+    pub fn is_controlled_by(&self, who: ConnId) -> bool
+        ensures { result ≡ is_controller_fact who self.now }
+    {
+        match self {
+            Fact::Controller(other) => other.0 == who.0,
+            _ => false,
+        }
+    }
+
+    /// Whether it is that of a user who is known.
+    pub fn is_known(&self) -> bool
+        ensures { result ≡ is_known self.now }
+    {
+        matches!(self, Fact::Known)
+    }
+
+    /// Whether it is that of a user who is not absent.
+    pub fn is_user(&self) -> bool
+        ensures { result ≡ is_user_fact self.now }
+    {
+        matches!(self, Fact::Known | Fact::Leaving(_))
+    }
+
+    /// Whether it is that of a user whose delay is over at a moment.
+    pub fn is_overdue(&self, setup: &Setup, moment: u64) -> bool
+        ensures { result ≡ is_overdue_fact setup.now moment self.now }
+    {
+        match self {
+            Fact::Leaving(since) => setup.conf.user_stop_delay.0 <= moment.saturating_sub(since.0),
+            _ => false,
+        }
+    }
+
+    /// Whose a handle is that was given out, or that it was closed.
+    pub fn owner(&self) -> Option<Owner>
+        ensures { result ≡ owner_in self.now }
+    {
+        match self {
+            Fact::Owned(owner) => Some(*owner),
+            _ => None,
+        }
+    }
+
+    /// Whether it is that of a handle that someone has.
+    pub fn is_held(&self) -> bool
+        ensures { result ≡ is_owned_fact self.now }
+    {
+        matches!(
+            self,
+            Fact::Owned(Owner::Device(..) | Owner::Fifo(..) | Owner::Lock(..))
+        )
+    }
+
+    /// The connection that has a handle.
+    pub fn holder(&self) -> Option<ConnId>
+        ensures { result ≡ holder_in self.now }
+    {
+        match self {
+            Fact::Owned(Owner::Device(who, ..) | Owner::Fifo(who, _) | Owner::Lock(who, _)) => Some(
+                *who,
+            ),
+            _ => None,
+        }
+    }
+
+    /// Whether it is that of a handle with which a connection keeps a session open.
+    pub fn is_fifo_of(&self, who: ConnId) -> bool
+        ensures { result ≡ is_fifo_of who self.now }
+    {
+        match self {
+            Fact::Owned(Owner::Fifo(other, _)) => other.0 == who.0,
+            _ => false,
+        }
+    }
+
+    /// The handle with which a device is taken.
+    pub fn handle(&self) -> Option<HandleNo>
+        ensures { result ≡ handle_in self.now }
+    {
+        match self {
+            Fact::Handle(handle) => Some(*handle),
+            _ => None,
+        }
+    }
+
+    /// Whether it is that of a device that is taken.
+    pub fn is_handle(&self) -> bool
+        ensures { result ≡ is_handle_fact self.now }
+    {
+        matches!(self, Fact::Handle(_))
+    }
+
+    /// Whether it is that of a device that is taken with this handle.
+    pub fn is_this_handle(&self, handle: HandleNo) -> bool
+        ensures { result ≡ is_this_handle handle self.now }
+    {
+        match self {
+            Fact::Handle(other) => other.0 == handle.0,
+            _ => false,
+        }
+    }
+
+    /// Whether it is that of a seat that is present.
+    pub fn is_seat(&self) -> bool
+        ensures { result ≡ is_seat_fact self.now }
+    {
+        matches!(self, Fact::Present)
+    }
+
+    /// The session that was made active on a seat.
+    pub fn active(&self) -> Option<SessId>
+        ensures { result ≡ active_in self.now }
+    {
+        match self {
+            Fact::Active(session) => Some(*session),
+            _ => None,
+        }
+    }
+
+    /// Whether it names this session as the one that was made active on a seat.
+    pub fn is_acting(&self, session: SessId) -> bool
+        ensures { result ≡ is_acting_fact session self.now }
+    {
+        match self {
+            Fact::Active(other) => other.0 == session.0,
+            _ => false,
+        }
+    }
+
+    /// A number.
+    pub fn number(&self) -> Option<u32>
+        ensures { result ≡ number_in_fact self.now }
+    {
+        match self {
+            Fact::Number(number) => Some(*number),
+            _ => None,
+        }
+    }
+
+    /// A number, or 0.
+    pub fn number_or_zero(&self) -> u32
+        ensures { result ≡ number_in self.now }
+    {
+        match self {
+            Fact::Number(number) => *number,
+            _ => 0,
+        }
+    }
+
+    /// Whether it is a number.
+    pub fn is_number(&self) -> bool
+        ensures { result ≡ is_number_fact self.now }
+    {
+        matches!(self, Fact::Number(_))
+    }
+
+    /// Whether it is this number.
+    pub fn is_this_number(&self, number: u32) -> bool
+        ensures { result ≡ is_number number self.now }
+    {
+        match self {
+            Fact::Number(other) => number == *other,
+            _ => false,
+        }
+    }
+
+    /// A moment.
+    pub fn moment(&self) -> Option<Millis>
+        ensures { result ≡ moment_in_fact self.now }
+    {
+        match self {
+            Fact::Moment(moment) => Some(*moment),
+            _ => None,
+        }
+    }
+
+    /// A moment in milliseconds, or 0.
+    pub fn moment_or_zero(&self) -> u64
+        ensures { result ≡ moment_in self.now }
+    {
+        match self {
+            Fact::Moment(moment) => moment.0,
+            _ => 0,
+        }
+    }
+
+    /// The kind of a device that is present.
+    pub fn device_kind(&self) -> Option<DevKind>
+        ensures { result ≡ kind_in self.now }
+    {
+        match self {
+            Fact::Device(kind, _) => Some(*kind),
+            _ => None,
+        }
+    }
+
+    /// Whether it is that of a device that is present.
+    pub fn is_device(&self) -> bool
+        ensures { result ≡ is_device_fact self.now }
+    {
+        matches!(self, Fact::Device(_, _))
+    }
+
+    /// A lock that stands.
+    pub fn lock(&self) -> Option<&Lock>
+        ensures { MatchOption result (lock_in_fact self.now ≡ None) (λ it. lock_in_fact self.now ≡ Some it.now) }
+    {
+        match self {
+            Fact::Lock(lock) => Some(lock),
+            _ => None,
+        }
+    }
+
+    /// Whether it is that of a lock that stands.
+    pub fn is_lock(&self) -> bool
+        ensures { result ≡ is_lock_fact self.now }
+    {
+        matches!(self, Fact::Lock(_))
+    }
+
+    /// Whether it is that of a connection's lock.
+    pub fn is_lock_of(&self, who: ConnId) -> bool
+        ensures { result ≡ is_held_by who self.now }
+    {
+        match self {
+            Fact::Lock(lock) => lock.holder.0 == who.0,
+            _ => false,
+        }
+    }
+
+    /// What the machine as a whole is being made to do.
+    pub fn operation(&self) -> Option<Operation>
+        ensures { result ≡ operation_in self.now }
+    {
+        match self {
+            Fact::Operation(operation) => Some(*operation),
+            _ => None,
+        }
+    }
 }

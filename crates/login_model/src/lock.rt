@@ -23,6 +23,38 @@ pub enum LockMode {
     Delay,
 }
 
+impl LockMode {
+    ghost use Rattle.std.specs.Prelude.{◌≡◌, IfSome, Some};
+    ghost use Rattle.login_model.specs.declared.lock.LockMode.{LockMode};
+    ghost use Rattle.login_model.specs.Words.{mode_word, mode_named};
+
+    /// All modes.
+    pub const ALL: [LockMode; 2] = [LockMode::Block, LockMode::Delay];
+
+    /// The word for the mode.
+    pub fn name(self) -> &'static [u8]
+        ensures value { result.now ≡ mode_word self }
+        ensures distinct { (other : LockMode) → mode_word other ≡ mode_word self → other ≡ self }
+    {
+        match self {
+            LockMode::Block => b"block",
+            LockMode::Delay => b"delay",
+        }
+    }
+
+    /// The mode of a word.
+    pub fn read(text: &[u8]) -> Option<LockMode>
+        ensures value { result ≡ mode_named text.now }
+        ensures found { IfSome result (λ mode. mode_word mode ≡ text.now) }
+        ensures all { (mode : LockMode) → mode_word mode ≡ text.now → result ≡ Some mode }
+    {
+        LockMode::ALL
+            .iter()
+            .copied()
+            .find(|mode| mode.name() == text)
+    }
+}
+
 /// A lock that stands.
 #[derive(Debug, Drop)]
 pub struct Lock {

@@ -1,7 +1,8 @@
 // The rules of the policy. docs/PROFILE.md lists them with the numbers under which they print.
 
 use crate::action::Action;
-use login_base::{ConnId, Millis, SessId};
+use crate::operation::OpKind;
+use login_base::{ConnId, LockNo, Millis, SessId};
 
 /// A number that was reached.
 #[derive(Clone, Copy, Debug, PartialEq, Eq)]
@@ -10,6 +11,12 @@ pub enum Limit {
     Links,
     /// As many sessions as the configuration allows are not gone. It prints as `SessionsMax N`.
     Sessions(u32),
+    /// As many locks as the configuration allows stand. It prints as `InhibitorsMax N`.
+    Inhibitors(u32),
+    /// The session has 128 devices taken. It prints as `devices-taken 128`.
+    DevicesTaken,
+    /// 4096 devices are present. It prints as `devices 4096`.
+    Devices,
 }
 
 /// A rule that an event breaks, with what the rule names.
@@ -57,6 +64,32 @@ pub enum Rule {
     ClockBackwards(Millis),
     /// The process is not connected.
     Nobody,
+    /// The device is absent.
+    NoSuchDevice,
+    /// The device is not on the session's seat.
+    DeviceNotOnSeat,
+    /// The session has the device taken.
+    DeviceTaken,
+    /// The session does not have the device taken.
+    DeviceNotTaken,
+    /// The handle is dead.
+    NotLive,
+    /// The handle is no device's, or the device is of another kind.
+    WrongKind,
+    /// The device is present.
+    DevicePresent,
+    /// The device of an event is absent.
+    DeviceAbsent,
+    /// An operation of this kind waits or runs.
+    OperationInProgress(OpKind),
+    /// This lock stands in the way; it is the lowest that does.
+    Inhibited(LockNo),
+    /// A lock cannot delay what it names.
+    DelayNotOffered,
+    /// No operation runs.
+    NoJob,
+    /// The key's action is to ignore it.
+    KeyIgnored,
 }
 
 /// What the policy says to an event.

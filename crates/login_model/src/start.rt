@@ -1,22 +1,12 @@
 // The facts before the first mark, kept so that they can be answered by reference.
 
 ghost use Rattle.std.specs.Prelude.{◌≡◌};
-ghost use Rattle.login_model.specs.Start.{start_fact, start_facts, seat0};
+ghost use Rattle.login_model.specs.Start.{start_fact, start_facts};
 
 use crate::fact::{Fact, Key};
-use crate::fact_tests::is_seat0_name;
 use crate::operation::Operation;
-use login_base::{Millis, SeatName};
-
-/// The seat that is always there, and the only one with virtual terminals.
-pub fn seat0() -> SeatName
-    ensures { result ≡ seat0 }
-{
-    match SeatName::read(b"seat0") {
-        Ok(seat) => seat,
-        Err(_) => unreachable!(),
-    }
-}
+use crate::seat::is_seat0;
+use login_base::Millis;
 
 /// What holds before the first mark: each fact that stands under some key then.
 #[derive(Debug, Drop)]
@@ -54,7 +44,13 @@ impl StartFacts {
             | Key::Getty(_)
             | Key::Awaited(_, _)
             | Key::Docked => unset,
-            Key::Seat(name) => { if is_seat0_name(name) { present } else { absent } }
+            Key::Seat(name) => {
+                if is_seat0(name.as_slice()) {
+                    present
+                } else {
+                    absent
+                }
+            }
             Key::Vt => terminal,
             Key::Mode(_) => zero,
             Key::Op => operation,

@@ -1,12 +1,14 @@
 -- A table stands for one more setting.
-use Rattle.std.proofs.Common.{◌≡◌, Bool, true, false, cond, Some, None, [], ◌∷◌, refl, ap, sym, ◌∙◌, inl, inr}
+use Rattle.std.proofs.Common.{◌≡◌, Bool, true, false, cond, Option, Some, None, [], ◌∷◌, refl, ap, sym, subst, ◌∙◌, inl, inr}
 use Rattle.login_model.specs.declared.fact.Key.{Key}
 use Rattle.login_model.specs.declared.fact.Fact.{Fact}
 use Rattle.login_model.specs.declared.mark.Mark.TheVariants.{Set}
 use Rattle.login_model.specs.Same.{same_key}
 use Rattle.login_model.specs.Start.{start_fact}
 use Rattle.login_model.specs.Trail.{Trail, value}
+use Rattle.login_model.specs.Names.{IsNext}
 use Rattle.login_model.proofs.Keys.{same_key-true, test}
+use Rattle.login_table.specs.Listed.{is_there}
 use Rattle.login_table.specs.Stands.{Stands, told}
 
 pub value-set : (k j : Key) (x : Fact) (t : Trail) → value (Set j x ∷ t) k ≡ cond (same_key j k) x (value t k)
@@ -45,3 +47,11 @@ told-none false x e = refl
 -- where a table tells nothing, the key is another's
 pub told-other : (owns : Key → Bool) (rows : Trail) (k : Key) → told owns rows k ≡ None → owns k ≡ false
 told-other owns rows k e = told-none (owns k) (value rows k) e
+
+-- the next name by a table's rows is the next one by the marks, where the keys of its kind are the table's
+pub next-standing : {A : Type 0} (lt : A → A → Bool) (key_of : A → Key) (is_fact : Fact → Bool) (owns : Key → Bool) (rows t : Trail) (above found : Option A)
+    → ((a : A) → owns (key_of a) ≡ true) → IsNext lt (is_there key_of is_fact rows) above found → Stands owns rows t → IsNext lt (is_there key_of is_fact t) above found
+next-standing {A} lt key_of is_fact owns rows t above found own n s =
+    let P : (A → Bool) → Type 0 = λ there. IsNext lt there above found in
+    let same : is_there key_of is_fact rows ≡ is_there key_of is_fact t = λ i a. is_fact (s (key_of a) (own a) i) in
+    subst P same n

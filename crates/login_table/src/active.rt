@@ -4,21 +4,23 @@ ghost use Rattle.std.specs.Prelude.{◌≡◌};
 ghost use Rattle.login_model.specs.declared.fact.Key.TheVariants.{Sess};
 ghost use Rattle.login_model.specs.declared.fact.Fact.TheVariants.{Number};
 ghost use Rattle.login_model.specs.Trail.{value};
-ghost use Rattle.login_model.specs.Where.{is_on_terminal, is_acting_fact, is_acting_on, is_acting, is_active, session_on, number_in, current_vt, acting, active_on, seat_in_fact, seat_of_session};
+ghost use Rattle.login_model.specs.Where.{is_on_terminal, is_acting_on, is_acting, is_active, session_on, current_vt, acting, active_on, seat_of_session};
 
-use crate::search::{SessionTest, find_session};
+use crate::search::{Test, find_session};
 use login_base::{SeatName, SessId};
-use login_model::{Fact, Key, Look, Phase, is_on_terminal, is_open_fact, seat0};
+use login_model::{Fact, Key, Look, is_seat0};
 
 /// It is open on seat0, on this virtual terminal.
 #[derive(Drop)]
 pub struct OnTerminal(pub u32);
 
-impl SessionTest for OnTerminal {
+impl Test<SessId> for OnTerminal {
     ghost meets = { λ test t s. is_on_terminal (Number test.0) (value t (Sess s)) };
 
     fn is_met<F: Look>(&self, facts: &F, session: SessId) -> bool {
-        is_on_terminal(&Fact::Number(self.0), facts.fact(&Key::Sess(session)))
+        facts
+            .fact(&Key::Sess(session))
+            .is_on_terminal(&Fact::Number(self.0))
     }
 }
 
@@ -30,34 +32,25 @@ pub fn session_on<F: Look>(facts: &F, vt: u32) -> Option<SessId>
     find_session(facts, &OnTerminal(vt))
 }
 
-fn number_in(fact: &Fact) -> u32
-    ensures { result ≡ number_in fact.now }
-{
-    match fact {
-        Fact::Number(number) => *number,
-        _ => 0,
-    }
-}
-
 /// The current virtual terminal.
 pub fn current_vt<F: Look>(facts: &F) -> u32
     ensures { result ≡ current_vt (F.trail facts.now) }
 {
-    number_in(facts.fact(&Key::Vt))
+    facts.fact(&Key::Vt).number_or_zero()
 }
 
 fn acting<F: Look>(facts: &F, fact: &Fact) -> Option<SessId>
     ensures { result ≡ acting (F.trail facts.now) fact.now }
 {
-    match fact {
-        Fact::Active(session) => {
-            if is_open_fact(facts.fact(&Key::Sess(*session))) {
-                Some(*session)
+    match fact.active() {
+        Some(session) => {
+            if facts.fact(&Key::Sess(session)).is_open() {
+                Some(session)
             } else {
                 None
             }
         }
-        _ => None,
+        None => None,
     }
 }
 
@@ -66,19 +59,10 @@ fn acting<F: Look>(facts: &F, fact: &Fact) -> Option<SessId>
 pub fn active_on<F: Look>(facts: &F, seat: SeatName) -> Option<SessId>
     ensures { result ≡ active_on (F.trail facts.now) seat }
 {
-    if seat.as_slice() == seat0().as_slice() {
+    if is_seat0(seat.as_slice()) {
         session_on(facts, current_vt(facts))
     } else {
         acting(facts, facts.fact(&Key::Act(seat)))
-    }
-}
-
-fn is_acting_fact(session: SessId, fact: &Fact) -> bool
-    ensures { result ≡ is_acting_fact session fact.now }
-{
-    match fact {
-        Fact::Active(other) => other.0 == session.0,
-        _ => false,
     }
 }
 
@@ -87,8 +71,7 @@ fn is_acting_on<F: Look>(facts: &F, session: SessId, seat: Option<SeatName>) -> 
 {
     match seat {
         Some(name) => {
-            !(name.as_slice() == seat0().as_slice())
-                && is_acting_fact(session, facts.fact(&Key::Act(name)))
+            !is_seat0(name.as_slice()) && facts.fact(&Key::Act(name)).is_acting(session)
         }
         None => false,
     }
@@ -97,13 +80,7 @@ fn is_acting_on<F: Look>(facts: &F, session: SessId, seat: Option<SeatName>) -> 
 fn is_acting<F: Look>(facts: &F, session: SessId, fact: &Fact) -> bool
     ensures { result ≡ is_acting (F.trail facts.now) session fact.now }
 {
-    match fact {
-        Fact::Session(data) => match data.phase {
-            Phase::Open => is_acting_on(facts, session, data.seat),
-            Phase::Closing | Phase::Gone => false,
-        },
-        _ => false,
-    }
+    fact.is_open() && is_acting_on(facts, session, fact.seat())
 }
 
 /// Whether a session is active on its seat.
@@ -111,21 +88,12 @@ pub fn is_active<F: Look>(facts: &F, session: SessId) -> bool
     ensures { result ≡ is_active (F.trail facts.now) session }
 {
     let fact = facts.fact(&Key::Sess(session));
-    is_on_terminal(facts.fact(&Key::Vt), fact) || is_acting(facts, session, fact)
-}
-
-fn seat_in(fact: &Fact) -> Option<SeatName>
-    ensures { result ≡ seat_in_fact fact.now }
-{
-    match fact {
-        Fact::Session(session) => session.seat,
-        _ => None,
-    }
+    fact.is_on_terminal(facts.fact(&Key::Vt)) || is_acting(facts, session, fact)
 }
 
 /// The seat of a session.
 pub fn seat_of_session<F: Look>(facts: &F, session: SessId) -> Option<SeatName>
     ensures { result ≡ seat_of_session (F.trail facts.now) session }
 {
-    seat_in(facts.fact(&Key::Sess(session)))
+    facts.fact(&Key::Sess(session)).seat()
 }

@@ -7,18 +7,31 @@ use crate::name::Order;
 use login_base::{DevNo, SessId};
 use login_model::Key;
 
+/// The places of the kinds that tell what is there.
+pub(crate) const CONNECTIONS: u8 = 0;
+
+pub(crate) const SESSIONS: u8 = 1;
+
+pub(crate) const USERS: u8 = 2;
+
+pub(crate) const SEATS: u8 = 3;
+
+pub(crate) const DEVICES: u8 = 4;
+
+pub(crate) const LOCKS: u8 = 5;
+
 /// The place of a key's kind. The kinds that tell what is there come first, so that a table has its names
 /// in front.
 pub fn kind_place(key: &Key) -> u8
     ensures { result ≡ place key.now }
 {
     match key {
-        Key::Conn(_) => 0,
-        Key::Sess(_) => 1,
-        Key::User(_) => 2,
-        Key::Seat(_) => 3,
-        Key::Dev(_) => 4,
-        Key::Lock(_) => 5,
+        Key::Conn(_) => CONNECTIONS,
+        Key::Sess(_) => SESSIONS,
+        Key::User(_) => USERS,
+        Key::Seat(_) => SEATS,
+        Key::Dev(_) => DEVICES,
+        Key::Lock(_) => LOCKS,
         Key::Idle(_) => 6,
         Key::Locked(_) => 7,
         Key::Sig(_) => 8,
@@ -49,98 +62,25 @@ fn is_pair_below(session: SessId, device: DevNo, other: SessId, another: DevNo) 
 pub fn is_key_below(a: &Key, b: &Key) -> bool
     ensures { result ≡ key_lt a.now b.now }
 {
-    match a {
-        Key::Conn(x) => match b {
-            Key::Conn(y) => x.is_below(*y),
-            _ => kind_place(a) < kind_place(b),
-        },
-        Key::Sess(x) => match b {
-            Key::Sess(y) => x.is_below(*y),
-            _ => kind_place(a) < kind_place(b),
-        },
-        Key::User(x) => match b {
-            Key::User(y) => x.is_below(*y),
-            _ => kind_place(a) < kind_place(b),
-        },
-        Key::Seat(x) => match b {
-            Key::Seat(y) => x.is_below(*y),
-            _ => kind_place(a) < kind_place(b),
-        },
-        Key::Dev(x) => match b {
-            Key::Dev(y) => x.is_below(*y),
-            _ => kind_place(a) < kind_place(b),
-        },
-        Key::Lock(x) => match b {
-            Key::Lock(y) => x.is_below(*y),
-            _ => kind_place(a) < kind_place(b),
-        },
-        Key::Idle(x) => match b {
-            Key::Idle(y) => x.is_below(*y),
-            _ => kind_place(a) < kind_place(b),
-        },
-        Key::Locked(x) => match b {
-            Key::Locked(y) => x.is_below(*y),
-            _ => kind_place(a) < kind_place(b),
-        },
-        Key::Sig(x) => match b {
-            Key::Sig(y) => x.is_below(*y),
-            _ => kind_place(a) < kind_place(b),
-        },
-        Key::Ctl(x) => match b {
-            Key::Ctl(y) => x.is_below(*y),
-            _ => kind_place(a) < kind_place(b),
-        },
-        Key::Linger(x) => match b {
-            Key::Linger(y) => x.is_below(*y),
-            _ => kind_place(a) < kind_place(b),
-        },
-        Key::Owner(x) => match b {
-            Key::Owner(y) => x.0 < y.0,
-            _ => kind_place(a) < kind_place(b),
-        },
-        Key::Live(x) => match b {
-            Key::Live(y) => x.0 < y.0,
-            _ => kind_place(a) < kind_place(b),
-        },
-        Key::Act(x) => match b {
-            Key::Act(y) => x.is_below(*y),
-            _ => kind_place(a) < kind_place(b),
-        },
-        Key::Vt => match b {
-            Key::Vt => false,
-            _ => kind_place(a) < kind_place(b),
-        },
-        Key::Getty(x) => match b {
-            Key::Getty(y) => *x < *y,
-            _ => kind_place(a) < kind_place(b),
-        },
-        Key::Pending => match b {
-            Key::Pending => false,
-            _ => kind_place(a) < kind_place(b),
-        },
-        Key::Taken(s, x) => match b {
-            Key::Taken(r, y) => is_pair_below(*s, *x, *r, *y),
-            _ => kind_place(a) < kind_place(b),
-        },
-        Key::Awaited(s, x) => match b {
-            Key::Awaited(r, y) => is_pair_below(*s, *x, *r, *y),
-            _ => kind_place(a) < kind_place(b),
-        },
-        Key::Mode(x) => match b {
-            Key::Mode(y) => x.is_below(*y),
-            _ => kind_place(a) < kind_place(b),
-        },
-        Key::Op => match b {
-            Key::Op => false,
-            _ => kind_place(a) < kind_place(b),
-        },
-        Key::Docked => match b {
-            Key::Docked => false,
-            _ => kind_place(a) < kind_place(b),
-        },
-        Key::Now => match b {
-            Key::Now => false,
-            _ => kind_place(a) < kind_place(b),
-        },
+    match (a, b) {
+        (Key::Conn(x), Key::Conn(y)) => x.is_below(*y),
+        (Key::Sess(x), Key::Sess(y)) => x.is_below(*y),
+        (Key::User(x), Key::User(y)) => x.is_below(*y),
+        (Key::Seat(x), Key::Seat(y)) => x.is_below(*y),
+        (Key::Dev(x), Key::Dev(y)) => x.is_below(*y),
+        (Key::Lock(x), Key::Lock(y)) => x.is_below(*y),
+        (Key::Idle(x), Key::Idle(y)) => x.is_below(*y),
+        (Key::Locked(x), Key::Locked(y)) => x.is_below(*y),
+        (Key::Sig(x), Key::Sig(y)) => x.is_below(*y),
+        (Key::Ctl(x), Key::Ctl(y)) => x.is_below(*y),
+        (Key::Linger(x), Key::Linger(y)) => x.is_below(*y),
+        (Key::Owner(x), Key::Owner(y)) => x.0 < y.0,
+        (Key::Live(x), Key::Live(y)) => x.0 < y.0,
+        (Key::Act(x), Key::Act(y)) => x.is_below(*y),
+        (Key::Getty(x), Key::Getty(y)) => *x < *y,
+        (Key::Taken(s, x), Key::Taken(r, y)) => is_pair_below(*s, *x, *r, *y),
+        (Key::Awaited(s, x), Key::Awaited(r, y)) => is_pair_below(*s, *x, *r, *y),
+        (Key::Mode(x), Key::Mode(y)) => x.is_below(*y),
+        _ => kind_place(a) < kind_place(b),
     }
 }

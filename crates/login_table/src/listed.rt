@@ -6,7 +6,7 @@ ghost use Rattle.login_model.specs.Where.{is_session, is_user, is_connected, is_
 ghost use Rattle.login_table.specs.Listed.{is_there, listed};
 
 use crate::name::Name;
-use crate::search::SessionTest;
+use crate::search::Test;
 use login_base::{ConnId, Items, LockNo, NoMemory, SeatName, SessId, Uid};
 use login_model::Look;
 use std::alloc::Global;
@@ -108,7 +108,7 @@ fn one_if(is_so: bool) -> u64
 }
 
 /// How many sessions that are not gone meet a test.
-pub fn count_sessions<F: Look, T: SessionTest>(facts: &F, test: &T) -> u64
+pub fn count_sessions<F: Look, T: Test<SessId>>(facts: &F, test: &T) -> u64
     requires { length (F.trail facts.now) < 2 ^ 32 }
     ensures value { result ≡ length (filter (T.meets test.now (F.trail facts.now)) (sessions (F.trail facts.now))) }
     ensures bound { result ≤ 2 ^ 32 }

@@ -11,12 +11,11 @@ ghost use Rattle.login_model.specs.Where.{is_session_fact, is_user_fact, is_conn
 ghost use Rattle.login_model.specs.Kind.{IsOrder, AreKeys};
 ghost use Rattle.login_model.proofs.NameLaws.{number_order, session_order, user_order, conn_order, seat_order, device_order, lock_order, session_keys, user_keys, conn_keys, seat_keys, device_keys, lock_keys};
 ghost use Rattle.login_table.specs.KeyOrder.{key_lt, place};
+ghost use Rattle.login_table.specs.declared.key_order.TheConstants.{CONNECTIONS, DEVICES, LOCKS, SEATS, SESSIONS, USERS};
 
+use crate::key_order::{CONNECTIONS, DEVICES, LOCKS, SEATS, SESSIONS, USERS};
 use login_base::{ConnId, DevNo, LockNo, SeatName, SessId, Uid};
-use login_model::{
-    Fact, Key, is_connected_fact, is_device_fact, is_lock_fact, is_seat_fact, is_session_fact,
-    is_user_fact, seat0,
-};
+use login_model::{Fact, Key, seat0};
 
 /// A name of a kind that has an order.
 pub trait Order: Copy {
@@ -109,7 +108,7 @@ impl Name for SessId {
 
     ghost keys = { session_keys };
 
-    ghost kind = { 1 };
+    ghost kind = { SESSIONS };
 
     ghost of_kind = { λ a. refl };
 
@@ -127,7 +126,7 @@ impl Name for SessId {
     }
 
     fn is_there(fact: &Fact) -> bool {
-        is_session_fact(fact)
+        fact.is_session()
     }
 
     fn at_start() -> Option<SessId> {
@@ -135,7 +134,7 @@ impl Name for SessId {
     }
 
     fn kind() -> u8 {
-        1
+        SESSIONS
     }
 }
 
@@ -160,7 +159,7 @@ impl Name for Uid {
 
     ghost keys = { user_keys };
 
-    ghost kind = { 2 };
+    ghost kind = { USERS };
 
     ghost of_kind = { λ a. refl };
 
@@ -178,7 +177,7 @@ impl Name for Uid {
     }
 
     fn is_there(fact: &Fact) -> bool {
-        is_user_fact(fact)
+        fact.is_user()
     }
 
     fn at_start() -> Option<Uid> {
@@ -186,7 +185,7 @@ impl Name for Uid {
     }
 
     fn kind() -> u8 {
-        2
+        USERS
     }
 }
 
@@ -211,7 +210,7 @@ impl Name for ConnId {
 
     ghost keys = { conn_keys };
 
-    ghost kind = { 0 };
+    ghost kind = { CONNECTIONS };
 
     ghost of_kind = { λ a. refl };
 
@@ -229,7 +228,7 @@ impl Name for ConnId {
     }
 
     fn is_there(fact: &Fact) -> bool {
-        is_connected_fact(fact)
+        fact.is_connected()
     }
 
     fn at_start() -> Option<ConnId> {
@@ -237,7 +236,7 @@ impl Name for ConnId {
     }
 
     fn kind() -> u8 {
-        0
+        CONNECTIONS
     }
 }
 
@@ -262,7 +261,7 @@ impl Name for SeatName {
 
     ghost keys = { seat_keys };
 
-    ghost kind = { 3 };
+    ghost kind = { SEATS };
 
     ghost of_kind = { λ a. refl };
 
@@ -280,7 +279,7 @@ impl Name for SeatName {
     }
 
     fn is_there(fact: &Fact) -> bool {
-        is_seat_fact(fact)
+        fact.is_seat()
     }
 
     fn at_start() -> Option<SeatName> {
@@ -288,7 +287,7 @@ impl Name for SeatName {
     }
 
     fn kind() -> u8 {
-        3
+        SEATS
     }
 }
 
@@ -313,7 +312,7 @@ impl Name for DevNo {
 
     ghost keys = { device_keys };
 
-    ghost kind = { 4 };
+    ghost kind = { DEVICES };
 
     ghost of_kind = { λ a. refl };
 
@@ -331,7 +330,7 @@ impl Name for DevNo {
     }
 
     fn is_there(fact: &Fact) -> bool {
-        is_device_fact(fact)
+        fact.is_device()
     }
 
     fn at_start() -> Option<DevNo> {
@@ -339,7 +338,7 @@ impl Name for DevNo {
     }
 
     fn kind() -> u8 {
-        4
+        DEVICES
     }
 }
 
@@ -364,7 +363,7 @@ impl Name for LockNo {
 
     ghost keys = { lock_keys };
 
-    ghost kind = { 5 };
+    ghost kind = { LOCKS };
 
     ghost of_kind = { λ a. refl };
 
@@ -382,7 +381,7 @@ impl Name for LockNo {
     }
 
     fn is_there(fact: &Fact) -> bool {
-        is_lock_fact(fact)
+        fact.is_lock()
     }
 
     fn at_start() -> Option<LockNo> {
@@ -390,7 +389,7 @@ impl Name for LockNo {
     }
 
     fn kind() -> u8 {
-        5
+        LOCKS
     }
 }
 

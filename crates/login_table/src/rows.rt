@@ -150,9 +150,10 @@ impl Rows {
         Ok(())
     }
 
-    /// The rows.
+    /// The rows, in the order of their keys.
     pub fn as_slice(&self) -> &[Row]
-        ensures { as_trail result.now ≡ self.now.trail }
+        ensures rows { as_trail result.now ≡ self.now.trail }
+        ensures ascend { Ascend result.now }
     {
         self.rows.as_slice()
     }

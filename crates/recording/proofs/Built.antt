@@ -13,7 +13,7 @@ use Rattle.login_model.specs.Built.{is_built_call, is_built_hardware, is_built}
 use Rattle.login_model.specs.Texts.{IsText, texts, has_object}
 use Rattle.recording.specs.declared.line.Line.{Line}
 use Rattle.recording.specs.declared.line.Line.TheVariants.{Conf, Event as EventLine}
-use Rattle.recording.specs.CallSpelling.{call_words, FitsCall}
+use Rattle.recording.specs.Calls.{call_words, FitsCall}
 use Rattle.recording.specs.EventSpelling.{request_word, hardware_words, event_words, Fits, IsWrittenEvent}
 use Rattle.recording.specs.Lines.{fields, IsEventLine}
 use Rattle.recording.specs.Unbuilt.{is_unbuilt_call, has_unbuilt_word}

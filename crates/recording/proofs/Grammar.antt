@@ -1,5 +1,5 @@
 -- The lines of the grammar are the lines without a fault.
-use Rattle.std.proofs.Common.{◌≡◌, ℕ, ◌<◌, ◌≤◌, ◌⊎◌, inl, List, [], ◌∷◌, ◌++◌, length, length-append, codes, refl, arith, ap, sym, ◌∙◌, subst, Bool, true, false, eqb, leb, Option, Some, None, Result, Ok, Err}
+use Rattle.std.proofs.Common.{◌≡◌, ℕ, ◌<◌, ◌≤◌, ◌⊎◌, inl, inr, List, [], ◌∷◌, ◌++◌, length, length-append, codes, refl, arith, ap, sym, ◌∙◌, subst, Bool, true, false, eqb, leb, Option, Some, None, Result, Ok, Err}
 use Rattle.std.specs.List.{slice_split, join_with_byte, list_any}
 use Rattle.std.proofs.lemmas.Bool.Decides.{nat_tests}
 use Rattle.std.proofs.lemmas.List.{append_cancel_right}
@@ -13,8 +13,8 @@ use Rattle.recording.specs.Unbuilt.{has_unbuilt_word, IsUnbuilt}
 use Rattle.recording.specs.Causes.{line_fault}
 use Rattle.recording.specs.Grammar.{InGrammar, OneGrammar}
 use Rattle.recording.specs.Meaning.{meant, built, IsReadAs}
-use Rattle.recording.specs.Readings.{line_of}
-use Rattle.recording.proofs.Causes.{fault_of, faultless, more_than_line, fault_of_words, too_long_before, too_long_whole, has_ended, nothing_ended}
+use Rattle.recording.specs.inner.LineReadings.{line_of}
+use Rattle.recording.proofs.Causes.{refused, fault_of, faultless, more_than_line, fault_of_words, too_long_before, too_long_whole, has_ended, nothing_ended}
 use Rattle.recording.proofs.ReadBytes.{IsRead, text_bytes, no_feed, no_feed_test}
 use Rattle.recording.proofs.Spellings.{line_of-text, text_spells, text_written, written_no_feed, built_by_words, unbuilt_by_words}
 
@@ -28,6 +28,7 @@ pub record IsText (bytes : List ℕ) (line : Line) : Type 0 where
 
 -- what spells a line is read as it
 pub spells_text : (line : Line) (bytes : List ℕ) → Spells line bytes → IsWritten line → IsText bytes line
+unfolding line_of
 spells_text line bytes (Spells.plain l short) h = record {
   text = join_with_byte 32 (fields l);
   whole = refl;
@@ -130,17 +131,14 @@ unbuilt_faultless bytes fault e u = spelled_faultless bytes fault e u.line u.spe
 pub read_faultless : (bytes : List ℕ) (fault : LineFault) → line_fault bytes ≡ Some fault → (line : Line) → IsRead bytes line → ⊥
 read_faultless bytes fault e line r = spelled_faultless bytes fault e line r.spells r.written
 
--- a line whose words say nothing is neither
-misfit : (bytes text : List ℕ) → bytes ≡ text ++ 10 ∷ [] → line_of (slice_split (λ b. eqb b 32) text) ≡ None → (line : Line) → Spells line bytes → IsWritten line → ⊥
-misfit bytes text whole none line s w =
-    let both : None ≡ Some line = sym none ∙ read_as bytes text line whole s w in
-    cc
+-- a line that is refused is neither, unless there was no memory
+pub refused_unread : (bytes : List ℕ) (found : LineFault) → (found ≡ NoMemory) ⊎ (line_fault bytes ≡ Some found) → (line : Line) → IsReadAs bytes line → (refused found ≡ Ok line) ⊎ (refused found ≡ Err NoMemory)
+refused_unread bytes found (inl n) line r = inr (ap Err n)
+refused_unread bytes found (inr e) line r = absurd (built_faultless bytes found e line r)
 
-pub misfit_unread : (bytes text : List ℕ) → bytes ≡ text ++ 10 ∷ [] → line_of (slice_split (λ b. eqb b 32) text) ≡ None → (line : Line) → IsReadAs bytes line → ⊥
-misfit_unread bytes text whole none line r = misfit bytes text whole none r.written r.spells r.fits
-
-pub misfit_unbuilt : (bytes text : List ℕ) → bytes ≡ text ++ 10 ∷ [] → line_of (slice_split (λ b. eqb b 32) text) ≡ None → IsUnbuilt bytes → ⊥
-misfit_unbuilt bytes text whole none u = misfit bytes text whole none u.line u.spells u.written
+pub refused_unbuilt : (bytes : List ℕ) (found : LineFault) → (found ≡ NoMemory) ⊎ (line_fault bytes ≡ Some found) → IsUnbuilt bytes → (refused found ≡ Err NotBuilt) ⊎ (refused found ≡ Err NoMemory)
+refused_unbuilt bytes found (inl n) u = inr (ap Err n)
+refused_unbuilt bytes found (inr e) u = absurd (unbuilt_faultless bytes found e u)
 
 -- what a reader answers to a line that is built
 pub read_again : (bytes text : List ℕ) (read : Line) (r : Result Line LineFault) → bytes ≡ text ++ 10 ∷ [] → line_of (slice_split (λ b. eqb b 32) text) ≡ Some read → r ≡ built read

@@ -1,13 +1,13 @@
-pub mod ArgumentWords
+pub mod Arguments
 pub mod Built
 pub mod Calls
 pub mod Causes
 pub mod Chains
-pub mod Events
 pub mod Grammar
 pub mod Hexes
 pub mod Joins
 pub mod Kept
+pub mod Lengths
 pub mod LongLines
 pub mod Moments
 pub mod Printed

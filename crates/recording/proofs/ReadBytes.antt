@@ -10,7 +10,7 @@ use Rattle.recording.specs.Cut.{NoLineFeed}
 use Rattle.recording.specs.Lines.{fields, IsLine, IsWritten, Spells}
 use Rattle.recording.specs.Unbuilt.{has_unbuilt_word, IsUnbuilt}
 use Rattle.recording.specs.Meaning.{meant, is_built_line, built, IsReadAs}
-use Rattle.recording.specs.Readings.{line_of}
+use Rattle.recording.specs.inner.LineReadings.{line_of}
 use Rattle.recording.proofs.Built.{line_word}
 use Rattle.recording.proofs.Spellings.{text_spells, text_written, line_meant}
 

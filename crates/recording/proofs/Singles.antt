@@ -13,18 +13,10 @@ use Rattle.std.proofs.lemmas.Slice.Eq.{bytes_eq-Decides}
 use Rattle.login_base.specs.Number.{number_of}
 use Rattle.login_base.proofs.Numbers.{number_of-decimal, number_of_is}
 use Rattle.login_base.specs.Seat.{is_seat_name}
-use Rattle.login_model.specs.declared.operation.OpKind.{OpKind}
-use Rattle.login_model.specs.declared.operation.OpKind.TheVariants.{PowerOff, Reboot, Halt, Suspend, Hibernate, HybridSleep, SuspendThenHibernate}
-use Rattle.login_model.specs.declared.hardware.DevKind.{DevKind}
-use Rattle.login_model.specs.declared.hardware.DevKind.TheVariants.{Evdev, Drm}
-use Rattle.login_model.specs.declared.hardware.HardKey.{HardKey}
-use Rattle.login_model.specs.declared.hardware.HardKey.TheVariants as key
 use Rattle.recording.specs.Text.{spell_flag}
 use Rattle.recording.specs.Hex.{is_guid}
-use Rattle.recording.specs.CallSpelling.{operation_word}
-use Rattle.recording.specs.EventSpelling.{device_kind_word, key_word}
-use Rattle.recording.specs.Words.{above_zero, positive_of, if_below, small_of, from_zero, negative, signed_of, flag_of, operation_of, device_kind_of, key_of, seat_of, guid_of}
-use Rattle.recording.proofs.Chains.{fixed, with_rest}
+use Rattle.recording.specs.Words.{above_zero, positive_of, if_below, small_of, from_zero, negative, signed_of, flag_of, seat_of, guid_of}
+use Rattle.recording.proofs.Chains.{with_rest}
 
 not_zero : (n : ℕ) → 0 < n → eqb n 0 ≡ false
 not_zero n h = grind (arith, nat_tests)
@@ -82,45 +74,6 @@ small_of_is word n e = by (number_of word) refl e
         let k = number_of_is word m h in
         let t = tested (ltb m (2 ^ 16)) m refl f in
         (k.0 ∙ ap decimal t.0, omega (arith, t.0, t.1))
-
-pub operation_of-word : (kind : OpKind) → operation_of (operation_word kind) ≡ Some kind
-operation_of-word PowerOff = refl
-operation_of-word Reboot = refl
-operation_of-word Halt = refl
-operation_of-word Suspend = refl
-operation_of-word Hibernate = refl
-operation_of-word HybridSleep = refl
-operation_of-word SuspendThenHibernate = refl
-
-pub operation_of_is : (word : List ℕ) (kind : OpKind) → operation_of word ≡ Some kind → word ≡ operation_word kind
-operation_of_is word kind e =
-    fixed operation_word word PowerOff kind _ e (λ e.
-    fixed operation_word word Reboot kind _ e (λ e.
-    fixed operation_word word Halt kind _ e (λ e.
-    fixed operation_word word Suspend kind _ e (λ e.
-    fixed operation_word word Hibernate kind _ e (λ e.
-    fixed operation_word word HybridSleep kind _ e (λ e.
-    fixed operation_word word SuspendThenHibernate kind None e (λ e. cc)))))))
-
-pub device_kind_of-word : (kind : DevKind) → device_kind_of (device_kind_word kind) ≡ Some kind
-device_kind_of-word Evdev = refl
-device_kind_of-word Drm = refl
-
-pub device_kind_of_is : (word : List ℕ) (kind : DevKind) → device_kind_of word ≡ Some kind → word ≡ device_kind_word kind
-device_kind_of_is word kind e = fixed device_kind_word word Evdev kind _ e (λ e. fixed device_kind_word word Drm kind None e (λ e. cc))
-
-pub key_of-word : (k : HardKey) → key_of (key_word k) ≡ Some k
-key_of-word key.Power = refl
-key_of-word key.Suspend = refl
-key_of-word key.Hibernate = refl
-key_of-word key.Lid = refl
-
-pub key_of_is : (word : List ℕ) (k : HardKey) → key_of word ≡ Some k → word ≡ key_word k
-key_of_is word k e =
-    fixed key_word word key.Power k _ e (λ e.
-    fixed key_word word key.Suspend k _ e (λ e.
-    fixed key_word word key.Hibernate k _ e (λ e.
-    fixed key_word word key.Lid k None e (λ e. cc))))
 
 -- a word that stands as it is, where it passes a test
 itself : (b : Bool) (word x : List ℕ) → cond b (Some word) None ≡ Some x → (word ≡ x) × (b ≡ true)

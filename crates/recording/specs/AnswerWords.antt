@@ -1,15 +1,21 @@
 -- How an answer prints: its values in order.
 use Rattle.std.specs.Prelude.{ℕ, Option, Some, None, List, [], ◌∷◌, ◌++◌, map, codes}
 use Rattle.std.specs.List.{join_with_byte}
-use Rattle.std.specs.Fmt.{decimal}
+use Rattle.std.specs.Fmt.{decimal, signed_decimal}
 use Rattle.login_base.specs.SessionId.{session_text}
 use Rattle.login_model.specs.Paths.{session_path, seat_path, user_path, runtime_path}
+use Rattle.login_model.specs.Words.{mode_word}
 use Rattle.login_model.specs.declared.answer.Created.{Created}
 use Rattle.login_model.specs.declared.answer.SessionRow.{SessionRow}
 use Rattle.login_model.specs.declared.answer.KnownUser.{KnownUser}
 use Rattle.login_model.specs.declared.answer.Answer.{Answer}
 use Rattle.login_model.specs.declared.answer.Answer.TheVariants as answer
-use Rattle.recording.specs.Text.{spell_text}
+use Rattle.login_model.specs.declared.answer.Input.{Input}
+use Rattle.login_model.specs.declared.lock.Lock.{Lock}
+use Rattle.login_model.specs.declared.table.Say.{Say}
+use Rattle.login_model.specs.declared.table.Say.TheVariants as says
+use Rattle.recording.specs.MarkWords.{what_word}
+use Rattle.recording.specs.Text.{spell_flag, spell_text}
 
 -- an array of values
 unfoldable pub array : List (List ℕ) → List ℕ
@@ -48,6 +54,23 @@ user_value x = structure (decimal x.uid.0 ∷ spell_text x.name ∷ user_path x.
 abbrev pub seat_value : List ℕ → List ℕ
 seat_value seat = structure (spell_text seat ∷ seat_path seat ∷ [])
 
+-- who set a lock and why, how it holds up, and whose it is
+abbrev pub why_words : Lock → List (List ℕ)
+why_words x = spell_text x.who ∷ spell_text x.why ∷ mode_word x.mode ∷ decimal x.uid.0 ∷ decimal x.holder.0 ∷ []
+
+-- a lock of a list, with what it holds up
+abbrev pub lock_value : Lock → List ℕ
+lock_value x = structure (what_word x.what ∷ why_words x)
+
+-- what an input device reported
+abbrev pub input_value : Input → List ℕ
+input_value x = structure (decimal x.kind ∷ decimal x.code ∷ signed_decimal x.value ∷ [])
+
+abbrev pub say_word : Say → List ℕ
+say_word says.No = codes "no"
+say_word says.Challenge = codes "challenge"
+say_word says.Yes = codes "yes"
+
 -- the values of an answer
 unfoldable pub answer_words : Answer → List (List ℕ)
 answer_words answer.Nothing = []
@@ -58,3 +81,8 @@ answer_words (answer.Seat seat) = seat_path seat ∷ []
 answer_words (answer.Sessions rows) = array (map session_value rows) ∷ []
 answer_words (answer.Users rows) = array (map user_value rows) ∷ []
 answer_words (answer.Seats names) = array (map seat_value names) ∷ []
+answer_words (answer.Inhibitors locks) = array (map lock_value locks) ∷ []
+answer_words (answer.Can say) = say_word say ∷ []
+answer_words (answer.Inputs inputs) = array (map input_value inputs) ∷ []
+answer_words (answer.Handle h) = decimal h.0 ∷ []
+answer_words (answer.Taken h inactive) = decimal h.0 ∷ spell_flag inactive ∷ []

@@ -9,11 +9,15 @@ use Rattle.login_base.specs.Number.{number_of}
 use Rattle.login_base.specs.Seat.{is_seat_name}
 use Rattle.recording.specs.declared.line.LineFault.{LineFault}
 use Rattle.recording.specs.declared.line.LineFault.TheVariants.{UnknownWord, BadNumber, BadHex, MissingWord, ExtraWord, TooLong, BadName, Ended}
-use Rattle.recording.specs.declared.shape.WordKind.{WordKind}
-use Rattle.recording.specs.declared.shape.WordKind.TheVariants.{Number, Positive, Small, Signed, Moment, Flag, Text, UserName, SessionId, SeatName, Hex, Guid, Version, DeviceKind, Key, Operation, Anything}
-use Rattle.recording.specs.Words.{positive_of, small_of, signed_of, moment_of, flag_of, text_of, hex_of, device_kind_of, key_of, operation_of}
+use Rattle.recording.specs.declared.argument.WordKind.{WordKind}
+use Rattle.recording.specs.declared.argument.WordKind.TheVariants.{Number, Positive, Small, Signed, Moment, Flag, Text, UserName, SessionId, SeatName, Hex, Guid, Version, DeviceKind, Key, Operation, Anything}
+use Rattle.login_model.specs.Words.{device_kind_named, key_named, operation_named}
+use Rattle.recording.specs.Words.{positive_of, small_of, signed_of, moment_of, flag_of, text_of, hex_of}
 use Rattle.recording.specs.Hex.{is_guid}
-use Rattle.recording.specs.Shapes.{behind_in, call_shapes, line_shapes}
+use Rattle.recording.specs.Shapes.{behind_in, line_shapes}
+use Rattle.recording.specs.Calls.{call_shapes}
+use Rattle.login_model.specs.Limits.{name_limit, text_limit}
+use Rattle.recording.specs.Limits.{line_limit}
 
 -- this cause, where the word says nothing
 abbrev pub unless : {T : Type 0} → Option T → LineFault → Option LineFault
@@ -38,16 +42,16 @@ word_fault Small word = unless (small_of word) BadNumber
 word_fault Signed word = unless (signed_of word) BadNumber
 word_fault Moment word = unless (moment_of word) BadNumber
 word_fault Flag word = unless (flag_of word) UnknownWord
-word_fault Text word = unless (text_of 16384 word) BadHex
-word_fault UserName word = name_fault 255 (text_of 16384 word)
-word_fault SessionId word = name_fault 512 (text_of 16384 word)
+word_fault Text word = unless (text_of line_limit word) BadHex
+word_fault UserName word = name_fault name_limit (text_of line_limit word)
+word_fault SessionId word = name_fault text_limit (text_of line_limit word)
 word_fault SeatName word = unless_so (is_seat_name word) BadName
 word_fault Hex word = unless (hex_of word) BadHex
 word_fault Guid word = unless_so (is_guid word) BadHex
 word_fault Version word = unless_so (bytes_eq word (codes "1")) UnknownWord
-word_fault DeviceKind word = unless (device_kind_of word) UnknownWord
-word_fault Key word = unless (key_of word) UnknownWord
-word_fault Operation word = unless (operation_of word) UnknownWord
+word_fault DeviceKind word = unless (device_kind_named word) UnknownWord
+word_fault Key word = unless (key_named word) UnknownWord
+word_fault Operation word = unless (operation_named word) UnknownWord
 word_fault Anything word = None
 
 -- the first fault of words of these kinds, or of the words behind them
@@ -94,7 +98,7 @@ text_of_line bytes = if is_line_feed (last_or None bytes) then before_feed bytes
 -- why a line with its line feed, or the rest of a recording without one, is no line of the grammar
 unfoldable pub line_fault : List ℕ → Option LineFault
 line_fault bytes =
-    if not (nat_le (length (text_of_line bytes)) 16384) then Some TooLong
+    if not (nat_le (length (text_of_line bytes)) line_limit) then Some TooLong
     else if not (is_line_feed (last_or None bytes)) then Some Ended
     else if list_any (λ b. b == 10) (text_of_line bytes) then Some ExtraWord
     else words_fault (slice_split (λ b. b == 32) (text_of_line bytes))

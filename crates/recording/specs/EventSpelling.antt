@@ -4,27 +4,16 @@ use Rattle.std.specs.Fmt.{decimal, signed_decimal}
 use Rattle.std.specs.Int.{w32}
 use Rattle.std.specs.List.{AllByRecursion}
 use Rattle.login_base.specs.Seat.{is_seat_name}
-use Rattle.login_model.specs.declared.hardware.DevKind.{DevKind}
-use Rattle.login_model.specs.declared.hardware.DevKind.TheVariants.{Evdev, Drm}
-use Rattle.login_model.specs.declared.hardware.HardKey.{HardKey}
-use Rattle.login_model.specs.declared.hardware.HardKey.TheVariants as key
 use Rattle.login_model.specs.declared.hardware.Hardware.{Hardware}
 use Rattle.login_model.specs.declared.hardware.Hardware.TheVariants.{Add, Remove, Input, VtKey, Key, Dock, Exit, JobDone}
 use Rattle.login_model.specs.declared.event.Event.{Event}
 use Rattle.login_model.specs.declared.event.Event.TheVariants as event
 use Rattle.login_model.specs.Texts.{IsText, texts, has_object}
+use Rattle.login_model.specs.Words.{device_kind_word, key_word}
 use Rattle.recording.specs.Text.{spell_text, spell_flag}
-use Rattle.recording.specs.CallSpelling.{call_words, device_words, FitsCall, FitsDevice}
-
-abbrev pub device_kind_word : DevKind → List ℕ
-device_kind_word Evdev = codes "evdev"
-device_kind_word Drm = codes "drm"
-
-abbrev pub key_word : HardKey → List ℕ
-key_word key.Power = codes "power"
-key_word key.Suspend = codes "suspend"
-key_word key.Hibernate = codes "hibernate"
-key_word key.Lid = codes "lid"
+use Rattle.recording.specs.Calls.{call_words, device_words, FitsCall, FitsDevice}
+use Rattle.login_model.specs.Limits.{text_limit}
+use Rattle.recording.specs.Limits.{line_limit}
 
 -- `send` where no reply is expected
 abbrev pub request_word : Bool → List ℕ
@@ -50,7 +39,7 @@ event_words (event.Hardware x) = hardware_words x
 event_words (event.Tick m) = codes "tick" ∷ decimal m.0 ∷ []
 event_words event.Stop = codes "stop" ∷ []
 
--- the values of a hardware event are within their types, and an id has at most 512 bytes
+-- the values of a hardware event are within their types, and an id is not too long
 abbrev pub FitsHardware : Hardware → Type 0
 FitsHardware (Add d kind seat) = FitsDevice d × (is_seat_name seat ≡ true)
 FitsHardware (Remove d) = FitsDevice d
@@ -58,7 +47,7 @@ FitsHardware (Input d type code value) = FitsDevice d × (type < 2 ^ 16) × (cod
 FitsHardware (VtKey vt) = vt < 2 ^ 32
 FitsHardware (Key key) = Unit {0}
 FitsHardware (Dock on) = Unit {0}
-FitsHardware (Exit id) = IsText 512 id
+FitsHardware (Exit id) = IsText text_limit id
 FitsHardware JobDone = Unit {0}
 
 -- the values of an event that is no call are within their types, and connections are above 0
@@ -71,11 +60,11 @@ FitsPlain (event.Tick m) = m.0 < 2 ^ 64
 FitsPlain event.Stop = Unit {0}
 
 -- the same, and for a call: its numbers are within their types, connection and serial are above 0, its
--- texts have at most 512 bytes, and a property is one of an object that has properties
+-- texts are not too long, and a property is one of an object that has properties
 abbrev pub Fits : Event → Type 0
 Fits (event.Call r) =
     (0 < r.who.0) × (r.who.0 < 2 ^ 32) × (0 < r.serial) × (r.serial < 2 ^ 32) × FitsCall r.call
-    × AllByRecursion (IsText 512) (texts r.call) × (has_object r.call ≡ true)
+    × AllByRecursion (IsText text_limit) (texts r.call) × (has_object r.call ≡ true)
 Fits e = FitsPlain e
 
 -- the same for an event as it is written: its texts are as long as a line lets them be, and the path
@@ -83,5 +72,5 @@ Fits e = FitsPlain e
 abbrev pub IsWrittenEvent : Event → Type 0
 IsWrittenEvent (event.Call r) =
     (0 < r.who.0) × (r.who.0 < 2 ^ 32) × (0 < r.serial) × (r.serial < 2 ^ 32) × FitsCall r.call
-    × AllByRecursion (IsText 16384) (texts r.call)
+    × AllByRecursion (IsText line_limit) (texts r.call)
 IsWrittenEvent e = FitsPlain e

@@ -1,3 +1,4 @@
+pub mod Limits
 pub mod Cut
 pub mod Cuts
 pub mod Reading
@@ -7,18 +8,14 @@ pub mod Text
 pub mod Bytes
 pub mod Hex
 pub mod Words
-pub mod CallSpelling
+pub mod Shapes
+pub mod Calls
 pub mod EventSpelling
 pub mod Lines
 pub mod Unbuilt
-pub mod CallWords
 pub mod Meaning
-pub mod CallReadings
-pub mod EventReadings
-pub mod Readings
-pub mod Shapes
 pub mod Causes
-pub mod Finding
+pub mod inner
 pub mod Grammar
 pub mod MarkWords
 pub mod RuleWords

@@ -1,5 +1,5 @@
 -- The lines of a recording, and how they are spelled.
-use Rattle.std.specs.Prelude.{ℕ, ◌≡◌, ◌<◌, ◌≤◌, ◌^◌, ◌==◌, true, List, [], ◌∷◌, ◌++◌, length, codes}
+use Rattle.std.specs.Prelude.{ℕ, ◌≡◌, ◌+◌, ◌<◌, ◌≤◌, ◌^◌, ◌==◌, true, List, [], ◌∷◌, ◌++◌, length, codes}
 use Rattle.std.specs.List.{join_with_byte, slice_split}
 use Rattle.std.specs.Fmt.{decimal}
 use Rattle.login_model.specs.declared.event.Event.{Event}
@@ -10,8 +10,10 @@ use Rattle.recording.specs.declared.line.Line.TheVariants.{Header, Guid, User, C
 use Rattle.recording.specs.Text.{spell_text}
 use Rattle.recording.specs.Hex.{spell_hex, is_guid}
 use Rattle.recording.specs.Bytes.{AreBytes, AreRaw}
-pub use Rattle.recording.specs.CallSpelling.{call_words, FitsCall}
+pub use Rattle.recording.specs.Calls.{call_words, FitsCall}
 pub use Rattle.recording.specs.EventSpelling.{request_word, event_words, Fits, IsWrittenEvent}
+use Rattle.login_model.specs.Limits.{name_limit}
+use Rattle.recording.specs.Limits.{line_limit}
 
 -- the words of a line of the configuration: the raw line, with all its spaces, counts as one, and an
 -- empty one is left out
@@ -46,7 +48,7 @@ pub record IsEventLine (e : Event) : Type 0 where
 abbrev pub IsLine : Line → Type 0
 IsLine (Header version) = version ≡ 1
 IsLine (Guid guid) = is_guid guid ≡ true
-IsLine (User u) = (0 < u.uid.0) × (u.uid.0 < 2 ^ 32) × (u.gid < 2 ^ 32) × IsText 255 u.name
+IsLine (User u) = (0 < u.uid.0) × (u.uid.0 < 2 ^ 32) × (u.gid < 2 ^ 32) × IsText name_limit u.name
 IsLine Go = Unit {0}
 IsLine (EventLine e) = IsEventLine e
 IsLine End = Unit {0}
@@ -57,7 +59,7 @@ IsLine _ = ⊥
 abbrev pub IsWritten : Line → Type 0
 IsWritten (Header version) = version ≡ 1
 IsWritten (Guid guid) = is_guid guid ≡ true
-IsWritten (User u) = (0 < u.uid.0) × (u.uid.0 < 2 ^ 32) × (u.gid < 2 ^ 32) × IsText 255 u.name
+IsWritten (User u) = (0 < u.uid.0) × (u.uid.0 < 2 ^ 32) × (u.gid < 2 ^ 32) × IsText name_limit u.name
 IsWritten (Conf text) = AreRaw text
 IsWritten (Action text) = AreRaw text × (length (slice_split (λ b. b == 32) text) ≡ 4)
 IsWritten Go = Unit {0}
@@ -67,8 +69,8 @@ IsWritten (In c bytes) = (0 < c.0) × (c.0 < 2 ^ 32) × AreBytes bytes × (0 < l
 IsWritten (Hangup c) = (0 < c.0) × (c.0 < 2 ^ 32)
 IsWritten End = Unit {0}
 
--- the bytes are this line with its line feed: its spelling, of at most 16384 bytes before the line feed.
+-- the bytes are this line with its line feed: its spelling, within the limit before the line feed.
 -- An empty line of the configuration may have a space behind its word
 pub data Spells : Line → List ℕ → Type 0 where
-  plain : (line : Line) → length (spell line) ≤ 16385 → Spells line (spell line)
+  plain : (line : Line) → length (spell line) ≤ line_limit + 1 → Spells line (spell line)
   empty : Spells (Conf []) (codes "conf " ++ 10 ∷ [])

@@ -11,17 +11,9 @@ use Rattle.login_model.specs.declared.fact.Fact.TheVariants as fact
 use Rattle.login_model.specs.declared.fact.Owner.{Owner}
 use Rattle.login_model.specs.declared.fact.Owner.TheVariants as owner
 use Rattle.login_model.specs.declared.session.Session.{Session}
-use Rattle.login_model.specs.declared.session.SessionType.{SessionType}
-use Rattle.login_model.specs.declared.session.SessionType.TheVariants.{Unspecified, Tty, X11, Wayland, Mir, Web}
-use Rattle.login_model.specs.declared.session.Class.{Class}
-use Rattle.login_model.specs.declared.session.Class.TheVariants as class
 use Rattle.login_model.specs.declared.session.Phase.{Phase}
 use Rattle.login_model.specs.declared.session.Phase.TheVariants.{Open, Closing, Gone}
-use Rattle.login_model.specs.declared.session.KillWhom.{KillWhom}
-use Rattle.login_model.specs.declared.session.KillWhom.TheVariants as kill
 use Rattle.login_model.specs.declared.lock.Inhibited.{Inhibited}
-use Rattle.login_model.specs.declared.lock.LockMode.{LockMode}
-use Rattle.login_model.specs.declared.lock.LockMode.TheVariants.{Block, Delay}
 use Rattle.login_model.specs.declared.lock.Lock.{Lock}
 use Rattle.login_model.specs.declared.operation.Operation.{Operation}
 use Rattle.login_model.specs.declared.operation.Operation.TheVariants.{Idle, Waiting, Running}
@@ -33,9 +25,8 @@ use Rattle.login_model.specs.declared.mark.Whom.{Whom}
 use Rattle.login_model.specs.declared.mark.Whom.TheVariants.{One, All}
 use Rattle.login_model.specs.declared.mark.Mark.{Mark}
 use Rattle.login_model.specs.declared.mark.Mark.TheVariants.{Set, Say}
+use Rattle.login_model.specs.Words.{type_word, class_word, whom_word, operation_word, device_kind_word, mode_word}
 use Rattle.recording.specs.Text.{spell_flag}
-use Rattle.recording.specs.CallSpelling.{operation_word}
-use Rattle.recording.specs.EventSpelling.{device_kind_word}
 
 -- a device's major and minor number, with a colon between them
 abbrev pub device_word : DevNo → List ℕ
@@ -83,28 +74,10 @@ abbrev pub session_or_dash : Option SessId → List ℕ
 session_or_dash (Some s) = session_text s
 session_or_dash None = codes "-"
 
-abbrev pub type_word : SessionType → List ℕ
-type_word Unspecified = codes "unspecified"
-type_word Tty = codes "tty"
-type_word X11 = codes "x11"
-type_word Wayland = codes "wayland"
-type_word Mir = codes "mir"
-type_word Web = codes "web"
-
-abbrev pub class_word : Class → List ℕ
-class_word class.User = codes "user"
-class_word class.Greeter = codes "greeter"
-class_word class.LockScreen = codes "lock-screen"
-class_word class.Background = codes "background"
-
 unfoldable pub session_words_at : Phase → Session → List (List ℕ)
 session_words_at Open x = codes "open" ∷ decimal x.uid.0 ∷ or_dash x.seat ∷ decimal x.vt ∷ type_word x.session_type ∷ class_word x.class ∷ []
 session_words_at Closing x = codes "closing" ∷ []
 session_words_at Gone x = codes "gone" ∷ []
-
-abbrev pub whom_word : KillWhom → List ℕ
-whom_word kill.Leader = codes "leader"
-whom_word kill.All = codes "all"
 
 unfoldable pub owner_words : Owner → List (List ℕ)
 owner_words (owner.Device c s d) = codes "device" ∷ decimal c.0 ∷ session_text s ∷ device_word d ∷ []
@@ -130,10 +103,6 @@ inhibited_words x =
 -- the same without the first colon
 abbrev pub what_word : Inhibited → List ℕ
 what_word x = drop 1 (inhibited_words x)
-
-abbrev pub mode_word : LockMode → List ℕ
-mode_word Block = codes "block"
-mode_word Delay = codes "delay"
 
 abbrev pub lock_words : Lock → List (List ℕ)
 lock_words x = what_word x.what ∷ mode_word x.mode ∷ decimal x.uid.0 ∷ []

@@ -13,13 +13,14 @@ use Rattle.recording.specs.declared.line.LineFault.TheVariants.{NotBuilt}
 use Rattle.recording.specs.declared.line.Line.TheVariants as line
 use Rattle.recording.specs.Lines.{fields, Spells, IsWritten}
 use Rattle.recording.specs.Unbuilt.{has_unbuilt_word}
+use Rattle.login_model.specs.Limits.{text_limit}
 
--- whether each text of a call has at most 512 bytes
+-- whether each text of a call is within the limit
 abbrev pub are_short : Call → Bool
-are_short x = list_all (λ text. nat_le (length text) 512) (texts x)
+are_short x = list_all (λ text. nat_le (length text) text_limit) (texts x)
 
 -- what a call that is written so calls: with a path of no object with properties it is `no-object`,
--- with a text of more than 512 bytes it is `bad-args`
+-- with a text beyond the limit it is `bad-args`
 abbrev pub meant_call : Call → Call
 meant_call x =
     if not (has_object x) then NoObject

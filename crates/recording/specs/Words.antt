@@ -6,12 +6,6 @@ use Rattle.std.specs.Str.{bytes_eq, is_utf8}
 use Rattle.login_base.specs.Number.{number_of}
 use Rattle.recording.specs.declared.word.Misread.{Misread}
 use Rattle.recording.specs.declared.word.Misread.TheVariants.{Misfit, NoMemory}
-use Rattle.login_model.specs.declared.operation.OpKind.{OpKind}
-use Rattle.login_model.specs.declared.operation.OpKind.TheVariants.{PowerOff, Reboot, Halt, Suspend, Hibernate, HybridSleep, SuspendThenHibernate}
-use Rattle.login_model.specs.declared.hardware.DevKind.{DevKind}
-use Rattle.login_model.specs.declared.hardware.DevKind.TheVariants.{Evdev, Drm}
-use Rattle.login_model.specs.declared.hardware.HardKey.{HardKey}
-use Rattle.login_model.specs.declared.hardware.HardKey.TheVariants as key
 use Rattle.std.specs.Fmt.{decimal}
 use Rattle.std.specs.Str.Parse.{digits_value}
 use Rattle.login_base.specs.Seat.{is_seat_name}
@@ -57,31 +51,6 @@ negative n = if nat_le 1 n && nat_le n (2 ^ 31) then Some (negsuc (n - 1)) else 
 abbrev pub signed_of : List ℕ → Option ℤ
 signed_of [] = None
 signed_of (b ∷ bs) = if b == 45 then option_and_then negative (number_of bs) else option_and_then from_zero (number_of (b ∷ bs))
-
-abbrev pub device_kind_of : List ℕ → Option DevKind
-device_kind_of word =
-    if bytes_eq word (codes "evdev") then Some Evdev
-    else if bytes_eq word (codes "drm") then Some Drm
-    else None
-
-abbrev pub key_of : List ℕ → Option HardKey
-key_of word =
-    if bytes_eq word (codes "power") then Some key.Power
-    else if bytes_eq word (codes "suspend") then Some key.Suspend
-    else if bytes_eq word (codes "hibernate") then Some key.Hibernate
-    else if bytes_eq word (codes "lid") then Some key.Lid
-    else None
-
-abbrev pub operation_of : List ℕ → Option OpKind
-operation_of word =
-    if bytes_eq word (codes "poweroff") then Some PowerOff
-    else if bytes_eq word (codes "reboot") then Some Reboot
-    else if bytes_eq word (codes "halt") then Some Halt
-    else if bytes_eq word (codes "suspend") then Some Suspend
-    else if bytes_eq word (codes "hibernate") then Some Hibernate
-    else if bytes_eq word (codes "hybrid-sleep") then Some HybridSleep
-    else if bytes_eq word (codes "suspend-then-hibernate") then Some SuspendThenHibernate
-    else None
 
 -- the name of a seat, which stands as it is
 unfoldable pub seat_of : List ℕ → Option (List ℕ)

@@ -3,12 +3,15 @@
 ghost use Rattle.std.specs.Prelude.{◌≡◌, ◌++◌, ◌∷◌, OnOk, List, ℕ, map};
 ghost use Rattle.std.specs.List.{flat_map, join_with_byte};
 ghost use Rattle.login_model.specs.Paths.{session_path, seat_path, user_path, runtime_path};
-ghost use Rattle.recording.specs.AnswerWords.{array, seat_text, found_words, value_words, row_words, session_value, user_value, seat_value, answer_words};
+ghost use Rattle.recording.specs.AnswerWords.{array, seat_text, found_words, value_words, row_words, session_value, user_value, seat_value, lock_value, why_words, input_value, say_word, answer_words};
+ghost use Rattle.recording.specs.Text.{spell_flag};
+ghost use Rattle.std.specs.Fmt.{decimal};
 ghost use Rattle.recording.specs.Spaced.{spaced};
 
+use crate::fact_text::{push_mode, push_what};
 use crate::line_text::LineText;
-use login_base::{NoMemory, SeatName, SessId, Uid, escape};
-use login_model::{Answer, Created, KnownUser, SessionRow};
+use login_base::{HandleNo, NoMemory, SeatName, SessId, Uid, escape};
+use login_model::{Answer, Created, Input, KnownUser, Lock, Say, SessionRow};
 
 /// A value of an array.
 trait Value {
@@ -101,6 +104,35 @@ fn push_row(text: &mut LineText, x: &SessionRow) -> Result<(), NoMemory>
     push_session_path(text, x.session)
 }
 
+/// Adds who set a lock and why, how it holds up, and whose it is.
+fn push_why(text: &mut LineText, lock: &Lock) -> Result<(), NoMemory>
+    ensures { OnOk result (text.new ≡ text.old ++ spaced (why_words lock.now)) }
+{
+    text.text(lock.who.as_slice())?;
+    text.text(lock.why.as_slice())?;
+    push_mode(text, lock.mode)?;
+    text.number(lock.uid.0)?;
+    text.number(lock.holder.0)
+}
+
+fn push_say(text: &mut LineText, say: Say) -> Result<(), NoMemory>
+    ensures { OnOk result (text.new ≡ text.old ++ 32 ∷ say_word say) }
+{
+    match say {
+        Say::No => text.word(b"no"),
+        Say::Challenge => text.word(b"challenge"),
+        Say::Yes => text.word(b"yes"),
+    }
+}
+
+/// Adds the handle with which a device was taken, and whether the session is inactive.
+fn push_taken(text: &mut LineText, handle: HandleNo, inactive: bool) -> Result<(), NoMemory>
+    ensures { OnOk result (text.new ≡ text.old ++ 32 ∷ decimal handle.0 ++ 32 ∷ spell_flag inactive) }
+{
+    text.number(handle.0)?;
+    text.flag(inactive)
+}
+
 impl Value for SessionRow {
     ghost spelled = { session_value };
 
@@ -120,6 +152,29 @@ impl Value for KnownUser {
         text.digits(self.uid.0)?;
         text.text(self.name.as_slice())?;
         push_user_path(text, self.uid)?;
+        text.push(b")")
+    }
+}
+
+impl Value for Lock {
+    ghost spelled = { lock_value };
+
+    fn push_to(&self, text: &mut LineText) -> Result<(), NoMemory> {
+        text.push(b"(")?;
+        push_what(text, &self.what)?;
+        push_why(text, self)?;
+        text.push(b")")
+    }
+}
+
+impl Value for Input {
+    ghost spelled = { input_value };
+
+    fn push_to(&self, text: &mut LineText) -> Result<(), NoMemory> {
+        text.push(b"(")?;
+        text.digits(u32::from(self.kind))?;
+        text.number(u32::from(self.code))?;
+        text.signed(self.value)?;
         text.push(b")")
     }
 }
@@ -181,6 +236,11 @@ pub(crate) fn push_answer(text: &mut LineText, answer: &Answer) -> Result<(), No
         Answer::Sessions(rows) => push_array(text, rows.as_slice()),
         Answer::Users(rows) => push_array(text, rows.as_slice()),
         Answer::Seats(names) => push_array(text, names.as_slice()),
+        Answer::Inhibitors(locks) => push_array(text, locks.as_slice()),
+        Answer::Can(say) => push_say(text, *say),
+        Answer::Inputs(inputs) => push_array(text, inputs.as_slice()),
+        Answer::Handle(handle) => text.number(handle.0),
+        Answer::Taken(handle, inactive) => push_taken(text, *handle, *inactive),
     }
 }
 

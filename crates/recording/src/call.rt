@@ -1,88 +1,37 @@
-// How the words of a call are read.
+// Calls: how their words are read, and how they are printed.
 
-ghost use Rattle.std.specs.Prelude.{◌≡◌, map};
-ghost use Rattle.recording.specs.Words.{Gives};
-ghost use Rattle.recording.specs.CallReadings.{kill_of, inhibition_of, property_of, alone, manager_call_of, session_call_of, seat_call_of, other_call_of, call_of};
+ghost use Rattle.std.specs.Prelude.{◌≡◌, ◌++◌, ◌∷◌, [], OnOk, map};
+ghost use Rattle.std.specs.Fmt.{decimal, signed_decimal};
+ghost use Rattle.login_model.specs.Words.{operation_word};
+ghost use Rattle.recording.specs.Shapes.{behind_in};
+ghost use Rattle.recording.specs.Calls.{manager_shapes, session_shapes, seat_shapes, other_shapes, call_words, device_words, property_words};
+ghost use Rattle.recording.specs.Causes.{known_fault, call_fault};
+ghost use Rattle.recording.specs.inner.Arguments.{Reads};
+ghost use Rattle.recording.specs.inner.CallReadings.{manager_call_of, session_call_of, seat_call_of, other_call_of, call_of};
+ghost use Rattle.recording.specs.inner.CallWords.{purpose_words, place_words};
+ghost use Rattle.recording.specs.Spaced.{spaced};
+ghost use Rattle.recording.specs.Text.{spell_text, spell_flag};
 
-use crate::arguments::{
-    number_flag, number_signed, one_number, one_operation, one_text, text_device, text_flag,
-    text_number, two_numbers, two_texts,
-};
-use crate::creation::read_creation;
-use crate::word::{LONGEST_TEXT, Misread, is_word, signed, text};
-use login_base::{HandleNo, Uid};
-use login_model::{Call, Inhibition, PropertyName};
+use crate::argument::{read, read_alone};
+use crate::line::LineFault;
+use crate::line_text::LineText;
+use crate::word::is_word;
+use login_base::{DevNo, NoMemory, Uid, Word};
+use login_model::{Call, Creation, Inhibition, OpKind, PropertyName};
 use std::alloc::Global;
 
-fn read_kill(alloc: Global, words: &[&[u8]]) -> Result<Call, Misread>
-    ensures { Gives (kill_of (map (λ word. word.now) words.now)) result }
-{
-    let [id, who, signal] = words else {
-        return Err(Misread::Misfit);
-    };
-    let id = text(alloc, id, LONGEST_TEXT)?;
-    let who = text(alloc, who, LONGEST_TEXT)?;
-    let signal = signed(signal)?;
-    Ok(Call::Kill(id, who, signal))
-}
-
-fn read_inhibition(alloc: Global, words: &[&[u8]]) -> Result<Inhibition, Misread>
-    ensures { Gives (inhibition_of (map (λ word. word.now) words.now)) result }
-{
-    let [what, who, why, mode] = words else {
-        return Err(Misread::Misfit);
-    };
-    let what = text(alloc, what, LONGEST_TEXT)?;
-    let who = text(alloc, who, LONGEST_TEXT)?;
-    let why = text(alloc, why, LONGEST_TEXT)?;
-    let mode = text(alloc, mode, LONGEST_TEXT)?;
-    Ok(Inhibition {
-        what,
-        who,
-        why,
-        mode,
-    })
-}
-
-fn read_property(alloc: Global, words: &[&[u8]]) -> Result<PropertyName, Misread>
-    ensures { Gives (property_of (map (λ word. word.now) words.now)) result }
-{
-    let [path, interface, name] = words else {
-        return Err(Misread::Misfit);
-    };
-    let path = text(alloc, path, LONGEST_TEXT)?;
-    let interface = text(alloc, interface, LONGEST_TEXT)?;
-    let name = text(alloc, name, LONGEST_TEXT)?;
-    Ok(PropertyName {
-        path,
-        interface,
-        name,
-    })
-}
-
-/// The call, where it has no argument.
-fn read_alone(call: Call, words: &[&[u8]]) -> Result<Call, Misread>
-    ensures { Gives (alone call (map (λ word. word.now) words.now)) result }
-{
-    if words.is_empty() {
-        Ok(call)
-    } else {
-        Err(Misread::Misfit)
-    }
-}
-
 /// A call of the bus itself, of a property, or a word for another message.
-#[tactic(auto, unfolding(crate::specs::CallReadings::other_call_of))]
-fn read_other_call(alloc: Global, word: &[u8], words: &[&[u8]]) -> Result<Call, Misread>
-    ensures { Gives (other_call_of word.now (map (λ word. word.now) words.now)) result }
+#[tactic(auto, unfolding(crate::specs::inner::CallReadings::other_call_of))]
+fn read_other_call(alloc: Global, word: &[u8], words: &[&[u8]]) -> Result<Call, LineFault>
+    ensures { Reads (other_call_of word.now (map (λ word. word.now) words.now)) (known_fault (behind_in word.now other_shapes) (map (λ word. word.now) words.now)) result }
 {
     if is_word(word, b"get") {
-        Ok(Call::GetProperty(read_property(alloc, words)?))
+        Ok(Call::GetProperty(read(alloc, words)?))
     } else if is_word(word, b"get-all") {
-        let (path, interface) = two_texts(alloc, words)?;
+        let (path, interface) = read(alloc, words)?;
         Ok(Call::GetAllProperties(path, interface))
     } else if is_word(word, b"set") {
-        Ok(Call::SetProperty(read_property(alloc, words)?))
+        Ok(Call::SetProperty(read(alloc, words)?))
     } else if is_word(word, b"ping") {
         read_alone(Call::Ping, words)
     } else if is_word(word, b"machine-id") {
@@ -90,11 +39,11 @@ fn read_other_call(alloc: Global, word: &[u8], words: &[&[u8]]) -> Result<Call, 
     } else if is_word(word, b"hello") {
         read_alone(Call::Hello, words)
     } else if is_word(word, b"owner") {
-        Ok(Call::GetNameOwner(one_text(alloc, words)?))
+        Ok(Call::GetNameOwner(read(alloc, words)?))
     } else if is_word(word, b"add-match") {
-        Ok(Call::AddMatch(one_text(alloc, words)?))
+        Ok(Call::AddMatch(read(alloc, words)?))
     } else if is_word(word, b"remove-match") {
-        Ok(Call::RemoveMatch(one_text(alloc, words)?))
+        Ok(Call::RemoveMatch(read(alloc, words)?))
     } else if is_word(word, b"nothing") {
         read_alone(Call::NoCall, words)
     } else if is_word(word, b"no-object") {
@@ -104,81 +53,82 @@ fn read_other_call(alloc: Global, word: &[u8], words: &[&[u8]]) -> Result<Call, 
     } else if is_word(word, b"bad-args") {
         read_alone(Call::BadArguments, words)
     } else {
-        Err(Misread::Misfit)
+        Err(LineFault::UnknownWord)
     }
 }
 
 /// A call of a seat, a user or the machine, or one of the others.
-#[tactic(auto, unfolding(crate::specs::CallReadings::seat_call_of))]
-fn read_seat_call(alloc: Global, word: &[u8], words: &[&[u8]]) -> Result<Call, Misread>
-    ensures { Gives (seat_call_of word.now (map (λ word. word.now) words.now)) result }
+#[tactic(auto, unfolding(crate::specs::inner::CallReadings::seat_call_of))]
+fn read_seat_call(alloc: Global, word: &[u8], words: &[&[u8]]) -> Result<Call, LineFault>
+    ensures { Reads (seat_call_of word.now (map (λ word. word.now) words.now)) (known_fault (behind_in word.now seat_shapes) (map (λ word. word.now) words.now)) result }
 {
     if is_word(word, b"switch") {
-        let (seat, vt) = text_number(alloc, words)?;
+        let (seat, vt) = read(alloc, words)?;
         Ok(Call::SwitchTo(seat, vt))
     } else if is_word(word, b"next") {
-        Ok(Call::SwitchToNext(one_text(alloc, words)?))
+        Ok(Call::SwitchToNext(read(alloc, words)?))
     } else if is_word(word, b"prev") {
-        Ok(Call::SwitchToPrevious(one_text(alloc, words)?))
+        Ok(Call::SwitchToPrevious(read(alloc, words)?))
     } else if is_word(word, b"terminate-seat") {
-        Ok(Call::TerminateSeat(one_text(alloc, words)?))
+        Ok(Call::TerminateSeat(read(alloc, words)?))
     } else if is_word(word, b"terminate-user") {
-        Ok(Call::TerminateUser(Uid(one_number(words)?)))
+        Ok(Call::TerminateUser(read(alloc, words)?))
     } else if is_word(word, b"kill-user") {
-        let (uid, signal) = number_signed(words)?;
-        Ok(Call::KillUser(Uid(uid), signal))
+        let (uid, signal) = read(alloc, words)?;
+        Ok(Call::KillUser(uid, signal))
     } else if is_word(word, b"linger") {
-        let (uid, on) = number_flag(words)?;
-        Ok(Call::SetLinger(Uid(uid), on))
+        let (uid, on) = read(alloc, words)?;
+        Ok(Call::SetLinger(uid, on))
     } else if is_word(word, b"read") {
-        Ok(Call::ReadInput(HandleNo(one_number(words)?)))
+        Ok(Call::ReadInput(read(alloc, words)?))
     } else if is_word(word, b"set-mode") {
-        let (handle, mode) = two_numbers(words)?;
-        Ok(Call::SetMode(HandleNo(handle), mode))
+        let (handle, mode) = read(alloc, words)?;
+        Ok(Call::SetMode(handle, mode))
     } else if is_word(word, b"close") {
-        Ok(Call::Close(HandleNo(one_number(words)?)))
+        Ok(Call::Close(read(alloc, words)?))
     } else {
         read_other_call(alloc, word, words)
     }
 }
 
 /// A call of a session, or one of the others.
-#[tactic(auto, unfolding(crate::specs::CallReadings::session_call_of))]
-fn read_session_call(alloc: Global, word: &[u8], words: &[&[u8]]) -> Result<Call, Misread>
-    ensures { Gives (session_call_of word.now (map (λ word. word.now) words.now)) result }
+#[tactic(auto, unfolding(crate::specs::inner::CallReadings::session_call_of))]
+fn read_session_call(alloc: Global, word: &[u8], words: &[&[u8]]) -> Result<Call, LineFault>
+    ensures { Reads (session_call_of word.now (map (λ word. word.now) words.now)) (known_fault (behind_in word.now session_shapes) (map (λ word. word.now) words.now)) result }
 {
     if is_word(word, b"activate") {
-        Ok(Call::Activate(one_text(alloc, words)?))
+        Ok(Call::Activate(read(alloc, words)?))
     } else if is_word(word, b"activate-on") {
-        let (id, seat) = two_texts(alloc, words)?;
+        let (id, seat) = read(alloc, words)?;
         Ok(Call::ActivateOnSeat(id, seat))
     } else if is_word(word, b"lock") {
-        Ok(Call::Lock(one_text(alloc, words)?))
+        Ok(Call::Lock(read(alloc, words)?))
     } else if is_word(word, b"unlock") {
-        Ok(Call::Unlock(one_text(alloc, words)?))
+        Ok(Call::Unlock(read(alloc, words)?))
     } else if is_word(word, b"kill") {
-        read_kill(alloc, words)
+        let (id, (who, signal)) = read(alloc, words)?;
+        Ok(Call::Kill(id, who, signal))
     } else if is_word(word, b"terminate") {
-        Ok(Call::Terminate(one_text(alloc, words)?))
+        Ok(Call::Terminate(read(alloc, words)?))
     } else if is_word(word, b"idle") {
-        let (id, on) = text_flag(alloc, words)?;
+        let (id, on) = read(alloc, words)?;
         Ok(Call::SetIdle(id, on))
     } else if is_word(word, b"locked") {
-        let (id, on) = text_flag(alloc, words)?;
+        let (id, on) = read(alloc, words)?;
         Ok(Call::SetLocked(id, on))
     } else if is_word(word, b"control") {
-        let (id, force) = text_flag(alloc, words)?;
+        let (id, force) = read(alloc, words)?;
         Ok(Call::Control(id, force))
     } else if is_word(word, b"uncontrol") {
-        Ok(Call::Uncontrol(one_text(alloc, words)?))
+        Ok(Call::Uncontrol(read(alloc, words)?))
     } else if is_word(word, b"take") {
-        let (id, device) = text_device(alloc, words)?;
+        let (id, device) = read(alloc, words)?;
         Ok(Call::TakeDevice(id, device))
     } else if is_word(word, b"release") {
-        let (id, device) = text_device(alloc, words)?;
+        let (id, device) = read(alloc, words)?;
         Ok(Call::ReleaseDevice(id, device))
     } else if is_word(word, b"paused") {
-        let (id, device) = text_device(alloc, words)?;
+        let (id, device) = read(alloc, words)?;
         Ok(Call::PauseComplete(id, device))
     } else {
         read_seat_call(alloc, word, words)
@@ -186,18 +136,18 @@ fn read_session_call(alloc: Global, word: &[u8], words: &[&[u8]]) -> Result<Call
 }
 
 /// A call of the manager, or one of the others.
-#[tactic(auto, unfolding(crate::specs::CallReadings::manager_call_of))]
-fn read_manager_call(alloc: Global, word: &[u8], words: &[&[u8]]) -> Result<Call, Misread>
-    ensures { Gives (manager_call_of word.now (map (λ word. word.now) words.now)) result }
+#[tactic(auto, unfolding(crate::specs::inner::CallReadings::manager_call_of))]
+fn read_manager_call(alloc: Global, word: &[u8], words: &[&[u8]]) -> Result<Call, LineFault>
+    ensures { Reads (manager_call_of word.now (map (λ word. word.now) words.now)) (known_fault (behind_in word.now manager_shapes) (map (λ word. word.now) words.now)) result }
 {
     if is_word(word, b"create") {
-        Ok(Call::Create(read_creation(alloc, words)?))
+        Ok(Call::Create(read(alloc, words)?))
     } else if is_word(word, b"get-session") {
-        Ok(Call::GetSession(one_text(alloc, words)?))
+        Ok(Call::GetSession(read(alloc, words)?))
     } else if is_word(word, b"get-user") {
-        Ok(Call::GetUser(Uid(one_number(words)?)))
+        Ok(Call::GetUser(read(alloc, words)?))
     } else if is_word(word, b"get-seat") {
-        Ok(Call::GetSeat(one_text(alloc, words)?))
+        Ok(Call::GetSeat(read(alloc, words)?))
     } else if is_word(word, b"list-sessions") {
         read_alone(Call::ListSessions, words)
     } else if is_word(word, b"list-users") {
@@ -211,23 +161,244 @@ fn read_manager_call(alloc: Global, word: &[u8], words: &[&[u8]]) -> Result<Call
     } else if is_word(word, b"unlock-all") {
         read_alone(Call::UnlockAll, words)
     } else if is_word(word, b"power") {
-        Ok(Call::Power(one_operation(words)?))
+        Ok(Call::Power(read(alloc, words)?))
     } else if is_word(word, b"can") {
-        Ok(Call::Can(one_operation(words)?))
+        Ok(Call::Can(read(alloc, words)?))
     } else if is_word(word, b"inhibit") {
-        Ok(Call::Inhibit(read_inhibition(alloc, words)?))
+        Ok(Call::Inhibit(read(alloc, words)?))
     } else {
         read_session_call(alloc, word, words)
     }
 }
 
 /// A call with its arguments.
-#[tactic(auto, unfolding(crate::specs::CallReadings::call_of))]
-pub(crate) fn read_call(alloc: Global, words: &[&[u8]]) -> Result<Call, Misread>
-    ensures { Gives (call_of (map (λ word. word.now) words.now)) result }
+#[tactic(auto, unfolding(crate::specs::inner::CallReadings::call_of))]
+pub(crate) fn read_call(alloc: Global, words: &[&[u8]]) -> Result<Call, LineFault>
+    ensures { Reads (call_of (map (λ word. word.now) words.now)) (call_fault (map (λ word. word.now) words.now)) result }
 {
     let Some((word, words)) = words.split_first() else {
-        return Err(Misread::Misfit);
+        return Err(LineFault::MissingWord);
     };
     read_manager_call(alloc, word, words)
+}
+
+/// Adds whose a session is and what it is for.
+fn push_purpose(text: &mut LineText, x: &Creation) -> Result<(), NoMemory>
+    ensures { OnOk result (text.new ≡ text.old ++ spaced (purpose_words x.now)) }
+{
+    text.number(x.uid.0)?;
+    text.number(x.process)?;
+    text.text(x.service.as_slice())?;
+    text.text(x.session_type.as_slice())?;
+    text.text(x.class.as_slice())?;
+    text.text(x.desktop.as_slice())
+}
+
+/// Adds where a session is and where its user is.
+fn push_place(text: &mut LineText, x: &Creation) -> Result<(), NoMemory>
+    ensures { OnOk result (text.new ≡ text.old ++ spaced (place_words x.now)) }
+{
+    text.text(x.seat.as_slice())?;
+    text.number(x.vt)?;
+    text.text(x.tty.as_slice())?;
+    text.text(x.display.as_slice())?;
+    text.flag(x.remote)?;
+    text.text(x.remote_user.as_slice())?;
+    text.text(x.remote_host.as_slice())
+}
+
+/// Adds the words of a creation.
+#[tactic(auto, unfolding(crate::specs::Calls::call_words))]
+fn push_creation(text: &mut LineText, x: &Creation) -> Result<(), NoMemory>
+    ensures { OnOk result (text.new ≡ text.old ++ spaced (call_words (Call.Create x.now))) }
+{
+    text.word(b"create")?;
+    push_purpose(text, x)?;
+    push_place(text, x)
+}
+
+/// Adds a device's number.
+pub(crate) fn push_device(text: &mut LineText, device: DevNo) -> Result<(), NoMemory>
+    ensures { OnOk result (text.new ≡ text.old ++ spaced (device_words device)) }
+{
+    text.number(device.major)?;
+    text.number(device.minor)
+}
+
+/// Adds an operation's kind.
+pub(crate) fn push_operation(text: &mut LineText, kind: OpKind) -> Result<(), NoMemory>
+    ensures { OnOk result (text.new ≡ text.old ++ 32 ∷ operation_word kind) }
+{
+    text.word(kind.name())
+}
+
+/// Adds a word and an operation's kind.
+fn push_operating(text: &mut LineText, word: &[u8], kind: OpKind) -> Result<(), NoMemory>
+    ensures { OnOk result (text.new ≡ text.old ++ 32 ∷ (word.now ++ 32 ∷ operation_word kind)) }
+{
+    text.word(word)?;
+    push_operation(text, kind)
+}
+
+/// Adds a word and a property's names.
+fn push_property(text: &mut LineText, word: &[u8], x: &PropertyName) -> Result<(), NoMemory>
+    ensures { OnOk result (text.new ≡ text.old ++ 32 ∷ (word.now ++ spaced (property_words x.now))) }
+{
+    push_two(text, word, &x.path, &x.interface)?;
+    text.text(x.name.as_slice())
+}
+
+/// Adds the words of an inhibitor lock.
+#[tactic(auto, unfolding(crate::specs::Calls::call_words))]
+fn push_inhibition(text: &mut LineText, x: &Inhibition) -> Result<(), NoMemory>
+    ensures { OnOk result (text.new ≡ text.old ++ spaced (call_words (Call.Inhibit x.now))) }
+{
+    push_two(text, b"inhibit", &x.what, &x.who)?;
+    text.text(x.why.as_slice())?;
+    text.text(x.mode.as_slice())
+}
+
+/// Adds a word and a number.
+pub(crate) fn push_numbered(text: &mut LineText, word: &[u8], n: u32) -> Result<(), NoMemory>
+    ensures { OnOk result (text.new ≡ text.old ++ 32 ∷ (word.now ++ 32 ∷ decimal n)) }
+{
+    text.word(word)?;
+    text.number(n)
+}
+
+/// Adds a word and two numbers.
+fn push_numbers(text: &mut LineText, word: &[u8], first: u32, second: u32) -> Result<(), NoMemory>
+    ensures { OnOk result (text.new ≡ text.old ++ 32 ∷ (word.now ++ 32 ∷ (decimal first ++ 32 ∷ decimal second))) }
+{
+    text.word(word)?;
+    text.number(first)?;
+    text.number(second)
+}
+
+/// Adds a word and a text.
+fn push_named(text: &mut LineText, word: &[u8], name: &Word) -> Result<(), NoMemory>
+    ensures { OnOk result (text.new ≡ text.old ++ 32 ∷ (word.now ++ 32 ∷ spell_text name.now)) }
+{
+    text.word(word)?;
+    text.text(name.as_slice())
+}
+
+/// Adds a word and two texts.
+fn push_two(text: &mut LineText, word: &[u8], first: &Word, second: &Word) -> Result<(), NoMemory>
+    ensures { OnOk result (text.new ≡ text.old ++ 32 ∷ (word.now ++ 32 ∷ (spell_text first.now ++ 32 ∷ spell_text second.now))) }
+{
+    text.word(word)?;
+    text.text(first.as_slice())?;
+    text.text(second.as_slice())
+}
+
+/// Adds a word, a text and a boolean.
+fn push_switched(text: &mut LineText, word: &[u8], id: &Word, on: bool) -> Result<(), NoMemory>
+    ensures { OnOk result (text.new ≡ text.old ++ 32 ∷ (word.now ++ 32 ∷ (spell_text id.now ++ 32 ∷ spell_flag on))) }
+{
+    text.word(word)?;
+    text.text(id.as_slice())?;
+    text.flag(on)
+}
+
+/// Adds a word, a text and a number.
+fn push_placed(text: &mut LineText, word: &[u8], name: &Word, n: u32) -> Result<(), NoMemory>
+    ensures { OnOk result (text.new ≡ text.old ++ 32 ∷ (word.now ++ 32 ∷ (spell_text name.now ++ 32 ∷ decimal n))) }
+{
+    text.word(word)?;
+    text.text(name.as_slice())?;
+    text.number(n)
+}
+
+/// Adds a word, a session's id and a device's number.
+fn push_aimed(text: &mut LineText, word: &[u8], id: &Word, device: DevNo) -> Result<(), NoMemory>
+    ensures { OnOk result (text.new ≡ text.old ++ 32 ∷ (word.now ++ 32 ∷ (spell_text id.now ++ spaced (device_words device)))) }
+{
+    text.word(word)?;
+    text.text(id.as_slice())?;
+    push_device(text, device)
+}
+
+/// Adds a word, a number and a signal.
+fn push_signal(text: &mut LineText, word: &[u8], n: u32, signal: i32) -> Result<(), NoMemory>
+    ensures { OnOk result (text.new ≡ text.old ++ 32 ∷ (word.now ++ 32 ∷ (decimal n ++ 32 ∷ signed_decimal signal))) }
+{
+    text.word(word)?;
+    text.number(n)?;
+    text.signed(signal)
+}
+
+#[tactic(auto, unfolding(crate::specs::Calls::call_words))]
+fn push_linger(text: &mut LineText, uid: Uid, on: bool) -> Result<(), NoMemory>
+    ensures { OnOk result (text.new ≡ text.old ++ spaced (call_words (Call.SetLinger uid on))) }
+{
+    text.word(b"linger")?;
+    text.number(uid.0)?;
+    text.flag(on)
+}
+
+#[tactic(auto, unfolding(crate::specs::Calls::call_words))]
+fn push_kill(text: &mut LineText, id: &Word, who: &Word, signal: i32) -> Result<(), NoMemory>
+    ensures { OnOk result (text.new ≡ text.old ++ spaced (call_words (Call.Kill id.now who.now signal))) }
+{
+    push_two(text, b"kill", id, who)?;
+    text.signed(signal)
+}
+
+/// Adds the words of a call.
+#[tactic(auto, unfolding(crate::specs::Calls::call_words))]
+pub(crate) fn push_call(text: &mut LineText, call: &Call) -> Result<(), NoMemory>
+    ensures { OnOk result (text.new ≡ text.old ++ spaced (call_words call.now)) }
+{
+    match call {
+        Call::Create(x) => push_creation(text, x),
+        Call::GetSession(id) => push_named(text, b"get-session", id),
+        Call::GetUser(uid) => push_numbered(text, b"get-user", uid.0),
+        Call::GetSeat(seat) => push_named(text, b"get-seat", seat),
+        Call::ListSessions => text.word(b"list-sessions"),
+        Call::ListUsers => text.word(b"list-users"),
+        Call::ListSeats => text.word(b"list-seats"),
+        Call::ListInhibitors => text.word(b"list-inhibitors"),
+        Call::Activate(id) => push_named(text, b"activate", id),
+        Call::ActivateOnSeat(id, seat) => push_two(text, b"activate-on", id, seat),
+        Call::Lock(id) => push_named(text, b"lock", id),
+        Call::Unlock(id) => push_named(text, b"unlock", id),
+        Call::LockAll => text.word(b"lock-all"),
+        Call::UnlockAll => text.word(b"unlock-all"),
+        Call::Kill(id, who, signal) => push_kill(text, id, who, *signal),
+        Call::Terminate(id) => push_named(text, b"terminate", id),
+        Call::TerminateUser(uid) => push_numbered(text, b"terminate-user", uid.0),
+        Call::TerminateSeat(seat) => push_named(text, b"terminate-seat", seat),
+        Call::SetLinger(uid, on) => push_linger(text, *uid, *on),
+        Call::Power(kind) => push_operating(text, b"power", *kind),
+        Call::Can(kind) => push_operating(text, b"can", *kind),
+        Call::Inhibit(x) => push_inhibition(text, x),
+        Call::SetIdle(id, on) => push_switched(text, b"idle", id, *on),
+        Call::SetLocked(id, on) => push_switched(text, b"locked", id, *on),
+        Call::Control(id, force) => push_switched(text, b"control", id, *force),
+        Call::Uncontrol(id) => push_named(text, b"uncontrol", id),
+        Call::TakeDevice(id, device) => push_aimed(text, b"take", id, *device),
+        Call::ReleaseDevice(id, device) => push_aimed(text, b"release", id, *device),
+        Call::PauseComplete(id, device) => push_aimed(text, b"paused", id, *device),
+        Call::SwitchTo(seat, vt) => push_placed(text, b"switch", seat, *vt),
+        Call::SwitchToNext(seat) => push_named(text, b"next", seat),
+        Call::SwitchToPrevious(seat) => push_named(text, b"prev", seat),
+        Call::KillUser(uid, signal) => push_signal(text, b"kill-user", uid.0, *signal),
+        Call::ReadInput(handle) => push_numbered(text, b"read", handle.0),
+        Call::SetMode(handle, mode) => push_numbers(text, b"set-mode", handle.0, *mode),
+        Call::Close(handle) => push_numbered(text, b"close", handle.0),
+        Call::GetProperty(x) => push_property(text, b"get", x),
+        Call::GetAllProperties(path, interface) => push_two(text, b"get-all", path, interface),
+        Call::SetProperty(x) => push_property(text, b"set", x),
+        Call::Ping => text.word(b"ping"),
+        Call::GetMachineId => text.word(b"machine-id"),
+        Call::Hello => text.word(b"hello"),
+        Call::GetNameOwner(name) => push_named(text, b"owner", name),
+        Call::AddMatch(rule) => push_named(text, b"add-match", rule),
+        Call::RemoveMatch(rule) => push_named(text, b"remove-match", rule),
+        Call::NoCall => text.word(b"nothing"),
+        Call::NoObject => text.word(b"no-object"),
+        Call::NoMethod => text.word(b"no-method"),
+        Call::BadArguments => text.word(b"bad-args"),
+    }
 }

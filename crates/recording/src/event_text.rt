@@ -1,10 +1,11 @@
 // How events are printed.
 
 ghost use Rattle.std.specs.Prelude.{◌≡◌, ◌++◌, ◌∷◌, OnOk};
-ghost use Rattle.recording.specs.EventSpelling.{device_kind_word, key_word, request_word, hardware_words, event_words};
+ghost use Rattle.login_model.specs.Words.{device_kind_word, key_word};
+ghost use Rattle.recording.specs.EventSpelling.{request_word, hardware_words, event_words};
 ghost use Rattle.recording.specs.Spaced.{spaced};
 
-use crate::call_text::{push_call, push_device, push_numbered};
+use crate::call::{push_call, push_device, push_numbered};
 use crate::line_text::LineText;
 use login_base::NoMemory;
 use login_model::{DevKind, Event, HardKey, Hardware};
@@ -22,21 +23,13 @@ fn push_request_word(text: &mut LineText, quiet: bool) -> Result<(), NoMemory>
 pub(crate) fn push_device_kind(text: &mut LineText, kind: DevKind) -> Result<(), NoMemory>
     ensures { OnOk result (text.new ≡ text.old ++ 32 ∷ device_kind_word kind) }
 {
-    match kind {
-        DevKind::Evdev => text.word(b"evdev"),
-        DevKind::Drm => text.word(b"drm"),
-    }
+    text.word(kind.name())
 }
 
 fn push_key(text: &mut LineText, key: HardKey) -> Result<(), NoMemory>
     ensures { OnOk result (text.new ≡ text.old ++ 32 ∷ key_word key) }
 {
-    match key {
-        HardKey::Power => text.word(b"power"),
-        HardKey::Suspend => text.word(b"suspend"),
-        HardKey::Hibernate => text.word(b"hibernate"),
-        HardKey::Lid => text.word(b"lid"),
-    }
+    text.word(key.name())
 }
 
 #[tactic(auto, unfolding(crate::specs::EventSpelling::hardware_words))]

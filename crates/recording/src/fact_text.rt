@@ -1,10 +1,11 @@
 // How facts are printed.
 
 ghost use Rattle.std.specs.Prelude.{◌≡◌, ◌++◌, ◌∷◌, OnOk, IfOk};
-ghost use Rattle.recording.specs.MarkWords.{absent_word, session_words_at, or_dash, type_word, class_word, whom_word, owner_words, chosen_word, handled_words, inhibited_words, what_word, mode_word, lock_words, skip_word, progress_words, fact_words};
+ghost use Rattle.login_model.specs.Words.{type_word, class_word, whom_word, mode_word};
+ghost use Rattle.recording.specs.MarkWords.{absent_word, session_words_at, or_dash, owner_words, chosen_word, handled_words, inhibited_words, what_word, lock_words, skip_word, progress_words, fact_words};
 ghost use Rattle.recording.specs.Spaced.{spaced};
 
-use crate::call_text::push_operation;
+use crate::call::push_operation;
 use crate::event_text::push_device_kind;
 use crate::key_text::push_device_word;
 use crate::line_text::LineText;
@@ -30,25 +31,13 @@ fn push_absent(text: &mut LineText, key: &Key) -> Result<(), NoMemory>
 fn push_type(text: &mut LineText, session_type: SessionType) -> Result<(), NoMemory>
     ensures { OnOk result (text.new ≡ text.old ++ 32 ∷ type_word session_type) }
 {
-    match session_type {
-        SessionType::Unspecified => text.push(b" unspecified"),
-        SessionType::Tty => text.push(b" tty"),
-        SessionType::X11 => text.push(b" x11"),
-        SessionType::Wayland => text.push(b" wayland"),
-        SessionType::Mir => text.push(b" mir"),
-        SessionType::Web => text.push(b" web"),
-    }
+    text.word(session_type.name())
 }
 
 fn push_class(text: &mut LineText, class: Class) -> Result<(), NoMemory>
     ensures { OnOk result (text.new ≡ text.old ++ 32 ∷ class_word class) }
 {
-    match class {
-        Class::User => text.push(b" user"),
-        Class::Greeter => text.push(b" greeter"),
-        Class::LockScreen => text.push(b" lock-screen"),
-        Class::Background => text.push(b" background"),
-    }
+    text.word(class.name())
 }
 
 /// Adds a seat's name, or `-` for none.
@@ -85,10 +74,7 @@ fn push_session_fact(text: &mut LineText, x: &Session) -> Result<(), NoMemory>
 fn push_kill_whom(text: &mut LineText, whom: KillWhom) -> Result<(), NoMemory>
     ensures { OnOk result (text.new ≡ text.old ++ 32 ∷ whom_word whom) }
 {
-    match whom {
-        KillWhom::Leader => text.word(b"leader"),
-        KillWhom::All => text.word(b"all"),
-    }
+    text.word(whom.name())
 }
 
 #[tactic(auto, unfolding(crate::specs::MarkWords::owner_words))]
@@ -148,30 +134,28 @@ fn push_inhibited(text: &mut LineText, what: &Inhibited) -> Result<(), NoMemory>
 }
 
 /// Adds what a lock holds up as one word.
-fn push_what(text: &mut LineText, what: &Inhibited) -> Result<(), NoMemory>
-    ensures { OnOk result (text.new ≡ text.old ++ 32 ∷ what_word what.now) }
+pub(crate) fn push_what(text: &mut LineText, what: &Inhibited) -> Result<(), NoMemory>
+    ensures { OnOk result (text.new ≡ text.old ++ what_word what.now) }
 {
     let mut words = LineText::new(text.alloc());
     push_inhibited(&mut words, what)?;
     let words = words.into_word();
     match words.as_slice() {
-        [_, rest @ ..] => text.word(rest),
-        [] => text.word(b""),
+        [_, rest @ ..] => text.push(rest),
+        [] => Ok(()),
     }
 }
 
-fn push_mode(text: &mut LineText, mode: LockMode) -> Result<(), NoMemory>
+pub(crate) fn push_mode(text: &mut LineText, mode: LockMode) -> Result<(), NoMemory>
     ensures { OnOk result (text.new ≡ text.old ++ 32 ∷ mode_word mode) }
 {
-    match mode {
-        LockMode::Block => text.word(b"block"),
-        LockMode::Delay => text.word(b"delay"),
-    }
+    text.word(mode.name())
 }
 
 fn push_lock(text: &mut LineText, lock: &Lock) -> Result<(), NoMemory>
     ensures { OnOk result (text.new ≡ text.old ++ spaced (lock_words lock.now)) }
 {
+    text.push(b" ")?;
     push_what(text, &lock.what)?;
     push_mode(text, lock.mode)?;
     text.number(lock.uid.0)

@@ -2,11 +2,8 @@
 #![tactic(auto)]
 
 mod answer_text;
-mod arguments;
+mod argument;
 mod call;
-mod call_text;
-mod cause;
-mod creation;
 mod entry;
 mod event;
 mod event_text;
@@ -19,7 +16,6 @@ mod line_text;
 mod mark_text;
 mod meaning;
 mod notice_text;
-mod shape;
 mod verdict_text;
 mod word;
 

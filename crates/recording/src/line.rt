@@ -4,26 +4,20 @@ ghost use Rattle.std.specs.Prelude.{◌≡◌, ◌≢◌, ◌⊎◌, Ok, Err, �
 ghost use Rattle.std.specs.List.{slice_split, join_with_byte, list_any};
 ghost use Rattle.recording.specs.Lines.{IsLine};
 ghost use Rattle.recording.specs.Unbuilt.{IsUnbuilt};
-ghost use Rattle.recording.specs.Causes.{line_fault, words_fault};
-ghost use Rattle.recording.specs.Finding.{Finds};
+ghost use Rattle.recording.specs.declared.argument.WordKind.{WordKind};
+ghost use Rattle.recording.specs.Shapes.{behind_in, line_shapes};
+ghost use Rattle.recording.specs.Causes.{first_fault, end_fault, known_fault, line_fault, words_fault};
 ghost use Rattle.recording.specs.Meaning.{is_built_line, built, IsReadAs};
-ghost use Rattle.recording.specs.Words.{Gives};
-ghost use Rattle.recording.specs.CallReadings.{alone};
-ghost use Rattle.recording.specs.Readings.{header_of, guid_line_of, user_of, conf_of, action_of, link_of, in_of, line_of};
+ghost use Rattle.recording.specs.inner.Arguments.{Reads};
+ghost use Rattle.recording.specs.inner.LineReadings.{action_of, known_line_of, line_of};
 
-use crate::cause::words_fault;
-use crate::event::{read_connection, read_event};
+use crate::argument::{Guid, Positive, UserName, Version, read, read_alone};
+use crate::event::{read_event_line, read_request};
 use crate::meaning::meant;
-use crate::word::{Misread, guid, hex, is_word, number, positive, text};
+use crate::word::{LONGEST_TEXT, is_word};
 use login_base::{Bytes, ConnId, Uid, Word};
 use login_model::{Event, UserRow, is_built};
 use std::alloc::{AllocError, Global};
-
-/// The most bytes of a user's name.
-const MOST: usize = 255;
-
-/// The most bytes of a line without its line feed.
-const LONGEST: usize = 16384;
 
 /// A line of a recording.
 #[derive(Debug, Drop)]
@@ -75,137 +69,81 @@ pub enum LineFault {
     NoMemory,
 }
 
-fn read_header(words: &[&[u8]]) -> Result<Line, Misread>
-    ensures { Gives (header_of (map (λ word. word.now) words.now)) result }
-{
-    let [version] = words else {
-        return Err(Misread::Misfit);
-    };
-    if is_word(version, b"1") {
-        Ok(Line::Header(1))
-    } else {
-        Err(Misread::Misfit)
-    }
-}
-
-fn read_guid(alloc: Global, words: &[&[u8]]) -> Result<Line, Misread>
-    ensures { Gives (guid_line_of (map (λ word. word.now) words.now)) result }
-{
-    let [word] = words else {
-        return Err(Misread::Misfit);
-    };
-    Ok(Line::Guid(guid(alloc, word)?))
-}
-
-fn read_user(alloc: Global, words: &[&[u8]]) -> Result<Line, Misread>
-    ensures { Gives (user_of (map (λ word. word.now) words.now)) result }
-{
-    let [uid, gid, name] = words else {
-        return Err(Misread::Misfit);
-    };
-    let uid = Uid(positive(uid)?);
-    let gid = number(gid)?;
-    let name = text(alloc, name, MOST)?;
-    Ok(Line::User(UserRow { uid, gid, name }))
-}
-
 /// The words with a space between any two.
-fn joined(alloc: Global, words: &[&[u8]]) -> Result<Bytes, Misread>
-    ensures { Gives (Some (join_with_byte 32 (map (λ word. word.now) words.now))) result }
+fn joined(alloc: Global, words: &[&[u8]]) -> Result<Bytes, LineFault>
+    ensures { IfOk result (λ bytes. bytes ≡ join_with_byte 32 (map (λ word. word.now) words.now)) }
 {
     let mut bytes = Vec::new(alloc);
     let mut is_first = true;
     for word in words {
         if !is_first && bytes.push(b' ').is_err() {
-            return Err(Misread::NoMemory);
+            return Err(LineFault::NoMemory);
         }
         if bytes.extend_from_slice(word).is_err() {
-            return Err(Misread::NoMemory);
+            return Err(LineFault::NoMemory);
         }
         is_first = false;
     }
     Ok(Bytes::from_vec(bytes))
 }
 
-/// A line of the configuration: all bytes behind its first space, if there is one.
-fn read_conf(alloc: Global, words: &[&[u8]]) -> Result<Line, Misread>
-    ensures { Gives (conf_of (map (λ word. word.now) words.now)) result }
+/// A line of the table of actions: four words, whatever they are.
+fn read_action(alloc: Global, words: &[&[u8]]) -> Result<Line, LineFault>
+    ensures { Reads (action_of (map (λ word. word.now) words.now)) (first_fault (WordKind.Anything ∷ WordKind.Anything ∷ WordKind.Anything ∷ WordKind.Anything ∷ []) end_fault (map (λ word. word.now) words.now)) result }
 {
-    Ok(Line::Conf(joined(alloc, words)?))
-}
-
-fn read_action(alloc: Global, words: &[&[u8]]) -> Result<Line, Misread>
-    ensures { Gives (action_of (map (λ word. word.now) words.now)) result }
-{
-    if words.len() == 4 {
-        Ok(Line::Action(joined(alloc, words)?))
-    } else {
-        Err(Misread::Misfit)
+    match words {
+        [_, _, _, _] => match joined(alloc, words) {
+            Ok(text) => Ok(Line::Action(text)),
+            Err(_) => Err(LineFault::NoMemory),
+        },
+        [_, _, _, _, ..] => Err(LineFault::ExtraWord),
+        _ => Err(LineFault::MissingWord),
     }
 }
 
-fn read_link(words: &[&[u8]]) -> Result<Line, Misread>
-    ensures { Gives (link_of (map (λ word. word.now) words.now)) result }
+/// A line of the preamble, or another that is no call.
+#[tactic(auto, unfolding(crate::specs::inner::LineReadings::known_line_of))]
+fn read_known_line(alloc: Global, word: &[u8], words: &[&[u8]]) -> Result<Line, LineFault>
+    ensures { Reads (known_line_of word.now (map (λ word. word.now) words.now)) (known_fault (behind_in word.now line_shapes) (map (λ word. word.now) words.now)) result }
 {
-    let [who, uid] = words else {
-        return Err(Misread::Misfit);
-    };
-    let who = positive(who)?;
-    let uid = number(uid)?;
-    Ok(Line::Link(ConnId(who), Uid(uid)))
-}
-
-fn read_in(alloc: Global, words: &[&[u8]]) -> Result<Line, Misread>
-    ensures { Gives (in_of (map (λ word. word.now) words.now)) result }
-{
-    let [who, bytes] = words else {
-        return Err(Misread::Misfit);
-    };
-    let who = positive(who)?;
-    let bytes = hex(alloc, bytes)?;
-    Ok(Line::In(ConnId(who), bytes))
-}
-
-/// The line, where no word follows its first.
-fn read_alone(line: Line, words: &[&[u8]]) -> Result<Line, Misread>
-    ensures { Gives (alone line (map (λ word. word.now) words.now)) result }
-{
-    if words.is_empty() {
-        Ok(line)
-    } else {
-        Err(Misread::Misfit)
-    }
-}
-
-/// A line, as it is written.
-fn read_words(alloc: Global, all: &[&[u8]]) -> Result<Line, Misread>
-    ensures { Gives (line_of (map (λ word. word.now) all.now)) result }
-{
-    let Some((word, words)) = all.split_first() else {
-        return Err(Misread::Misfit);
-    };
     if is_word(word, b"login-recording") {
-        read_header(words)
+        let Version(version) = read(alloc, words)?;
+        Ok(Line::Header(version))
     } else if is_word(word, b"guid") {
-        read_guid(alloc, words)
+        let Guid(guid) = read(alloc, words)?;
+        Ok(Line::Guid(guid))
     } else if is_word(word, b"user") {
-        read_user(alloc, words)
-    } else if is_word(word, b"conf") {
-        read_conf(alloc, words)
+        let (Positive(uid), (gid, UserName(name))) = read(alloc, words)?;
+        let uid = Uid(uid);
+        Ok(Line::User(UserRow { uid, gid, name }))
     } else if is_word(word, b"action") {
         read_action(alloc, words)
     } else if is_word(word, b"go") {
         read_alone(Line::Go, words)
-    } else if is_word(word, b"link") {
-        read_link(words)
-    } else if is_word(word, b"in") {
-        read_in(alloc, words)
-    } else if is_word(word, b"hangup") {
-        Ok(Line::Hangup(read_connection(words)?))
-    } else if is_word(word, b"end") {
-        read_alone(Line::End, words)
     } else {
-        Ok(Line::Event(read_event(alloc, all)?))
+        read_event_line(alloc, word, words)
+    }
+}
+
+/// A line, as it is written.
+#[tactic(auto, unfolding(crate::specs::inner::LineReadings::line_of))]
+fn read_words(alloc: Global, words: &[&[u8]]) -> Result<Line, LineFault>
+    ensures { Reads (line_of (map (λ word. word.now) words.now)) (words_fault (map (λ word. word.now) words.now)) result }
+{
+    let Some((word, words)) = words.split_first() else {
+        return Err(LineFault::UnknownWord);
+    };
+    if is_word(word, b"call") {
+        read_request(alloc, false, words)
+    } else if is_word(word, b"send") {
+        read_request(alloc, true, words)
+    } else if is_word(word, b"conf") {
+        match joined(alloc, words) {
+            Ok(text) => Ok(Line::Conf(text)),
+            Err(_) => Err(LineFault::NoMemory),
+        }
+    } else {
+        read_known_line(alloc, word, words)
     }
 }
 
@@ -242,17 +180,6 @@ fn words(alloc: Global, text: &[u8]) -> Result<Vec<&[u8]>, AllocError>
     text.split(|b| *b == 32).collect(alloc)
 }
 
-/// Why a line of these words is refused, which is not read.
-fn refusal(alloc: Global, words: &[&[u8]]) -> LineFault
-    requires { line_of (map (λ word. word.now) words.now) ≡ None }
-    ensures { Finds (words_fault (map (λ word. word.now) words.now)) (Some result) }
-{
-    match words_fault(alloc, words) {
-        Some(fault) => fault,
-        None => LineFault::UnknownWord,
-    }
-}
-
 /// Whether a text goes on behind a line feed.
 fn has_feed(text: &[u8]) -> bool
     ensures { result ≡ list_any (λ b. b == 10) text.now }
@@ -275,7 +202,7 @@ pub fn read_line(alloc: Global, bytes: &[u8]) -> Result<Line, LineFault>
         return Err(LineFault::Ended);
     };
     let is_whole = *last == b'\n';
-    if text.len() > LONGEST || (!is_whole && bytes.len() > LONGEST) {
+    if text.len() > LONGEST_TEXT || (!is_whole && bytes.len() > LONGEST_TEXT) {
         return Err(LineFault::TooLong);
     }
     if !is_whole {
@@ -289,10 +216,11 @@ pub fn read_line(alloc: Global, bytes: &[u8]) -> Result<Line, LineFault>
     };
     match read_words(alloc, &words) {
         Ok(line) => built(line),
-        Err(Misread::Misfit) => Err(refusal(alloc, &words)),
-        Err(Misread::NoMemory) => Err(LineFault::NoMemory),
+        Err(fault) => Err(fault),
     }
 }
 
+#[cfg(test)]
+mod causes;
 #[cfg(test)]
 mod tests;

@@ -3,17 +3,16 @@
 ghost use Rattle.std.specs.Prelude.{◌≡◌, true, nat_le, length};
 ghost use Rattle.login_model.specs.Texts.{has_object};
 ghost use Rattle.recording.specs.Meaning.{are_short, meant_call, meant_event, has_object_event};
+ghost use Rattle.login_model.specs.Limits.{text_limit};
 
+use crate::word::LONGEST_ID;
 use login_base::Word;
 use login_model::{Call, Event, Request};
 
-/// The most bytes of a text of a call.
-const MOST: usize = 512;
-
 fn is_short(text: &Word) -> bool
-    ensures { result ≡ nat_le (length text.now) 512 }
+    ensures { result ≡ nat_le (length text.now) text_limit }
 {
-    text.len() <= MOST
+    text.len() <= LONGEST_ID
 }
 
 /// Whether each text of a call has at most 512 bytes.

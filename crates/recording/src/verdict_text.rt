@@ -6,6 +6,7 @@ ghost use Rattle.recording.specs.RuleWords.{rule_label, limit_words, detail_word
 ghost use Rattle.recording.specs.Spaced.{spaced};
 
 use crate::answer_text::push_answer;
+use crate::call::{push_numbered, push_operation};
 use crate::line_text::LineText;
 use login_base::NoMemory;
 use login_model::{Answer, Limit, Rule, Verdict};
@@ -23,6 +24,7 @@ fn rule_label(rule: Rule) -> &'static [u8]
         Rule::NoSuchUser => b"P05 no-such-user",
         Rule::NoSuchSeat => b"P06 no-such-seat",
         Rule::NoSuchHandle => b"P07 no-such-handle",
+        Rule::NoSuchDevice => b"P08 no-such-device",
         Rule::NotRoot => b"P09 not-root",
         Rule::NotOwner => b"P10 not-owner",
         Rule::ActionRefused(_) => b"P11 action-refused",
@@ -30,12 +32,24 @@ fn rule_label(rule: Rule) -> &'static [u8]
         Rule::SessionClosing => b"P13 session-closing",
         Rule::NoSeat => b"P14 no-seat",
         Rule::SessionNotOnSeat => b"P15 session-not-on-seat",
+        Rule::DeviceNotOnSeat => b"P16 device-not-on-seat",
         Rule::Controlled(_) => b"P17 controlled",
         Rule::NotInControl => b"P18 not-in-control",
+        Rule::DeviceTaken => b"P19 device-taken",
+        Rule::DeviceNotTaken => b"P20 device-not-taken",
         Rule::VtBusy(_) => b"P21 vt-busy",
+        Rule::OperationInProgress(_) => b"P23 operation-in-progress",
+        Rule::Inhibited(_) => b"P24 inhibited",
+        Rule::DelayNotOffered => b"P25 delay-not-offered",
         Rule::Limit(_) => b"P26 limit",
+        Rule::NotLive => b"P27 not-live",
         Rule::NotYours => b"P28 not-yours",
+        Rule::WrongKind => b"P29 wrong-kind",
+        Rule::DevicePresent => b"P30 device-present",
+        Rule::DeviceAbsent => b"P31 device-absent",
+        Rule::NoJob => b"P32 no-job",
         Rule::ClockBackwards(_) => b"P33 clock-backwards",
+        Rule::KeyIgnored => b"P34 key-ignored",
         Rule::Nobody => b"P35 nobody",
     }
 }
@@ -46,10 +60,10 @@ fn push_limit(text: &mut LineText, limit: Limit) -> Result<(), NoMemory>
 {
     match limit {
         Limit::Links => text.push(b" links 64"),
-        Limit::Sessions(most) => {
-            text.word(b"SessionsMax")?;
-            text.number(most)
-        }
+        Limit::Sessions(most) => push_numbered(text, b"SessionsMax", most),
+        Limit::Inhibitors(most) => push_numbered(text, b"InhibitorsMax", most),
+        Limit::DevicesTaken => text.push(b" devices-taken 128"),
+        Limit::Devices => text.push(b" devices 4096"),
     }
 }
 
@@ -62,6 +76,8 @@ fn push_detail(text: &mut LineText, rule: Rule) -> Result<(), NoMemory>
         Rule::ActionChallenge(action) => text.word(action.name()),
         Rule::Controlled(who) => text.number(who.0),
         Rule::VtBusy(session) => text.session(session),
+        Rule::OperationInProgress(kind) => push_operation(text, kind),
+        Rule::Inhibited(lock) => text.number(lock.0),
         Rule::Limit(limit) => push_limit(text, limit),
         Rule::ClockBackwards(moment) => text.moment(moment.0),
         _ => Ok(()),

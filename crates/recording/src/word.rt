@@ -9,14 +9,21 @@ ghost use Rattle.recording.specs.Text.{stands, spell_byte, spell_text, hex_digit
 ghost use Rattle.recording.specs.Bytes.{AreBytes};
 ghost use Rattle.login_base.specs.Plain.{IsPlain};
 ghost use Rattle.recording.specs.Hex.{is_hex_digit, is_guid};
-ghost use Rattle.recording.specs.Words.{Gives, positive_of, small_of, from_zero, negative, signed_of, moment_of, flag_of, text_of, hex_of, guid_of, seat_of, device_kind_of, key_of, operation_of};
+ghost use Rattle.login_model.specs.Words.{device_kind_named, key_named, operation_named};
+ghost use Rattle.recording.specs.Words.{Gives, positive_of, small_of, from_zero, negative, signed_of, moment_of, flag_of, text_of, hex_of, guid_of, seat_of};
 
 use login_base::{Bytes, SeatName, Word};
 use login_model::{DevKind, HardKey, OpKind};
 use std::alloc::Global;
 
-/// The most bytes of a text that a line can hold.
+/// The most bytes of a line without its line feed, and so of a text that it can hold.
 pub(crate) const LONGEST_TEXT: usize = 16384;
+
+/// The most bytes of a user's name.
+pub(crate) const LONGEST_USER: usize = 255;
+
+/// The most bytes of a session's id that ends, and of a text of a call.
+pub(crate) const LONGEST_ID: usize = 512;
 
 /// Why words are not read.
 #[derive(Clone, Copy, Debug, PartialEq, Eq)]
@@ -140,54 +147,31 @@ pub(crate) fn signed(word: &[u8]) -> Result<i32, Misread>
 
 /// A kind of device.
 pub(crate) fn device_kind(word: &[u8]) -> Result<DevKind, Misread>
-    ensures { Gives (device_kind_of word.now) result }
+    ensures { Gives (device_kind_named word.now) result }
 {
-    if is_word(word, b"evdev") {
-        Ok(DevKind::Evdev)
-    } else if is_word(word, b"drm") {
-        Ok(DevKind::Drm)
-    } else {
-        Err(Misread::Misfit)
+    match DevKind::read(word) {
+        Some(kind) => Ok(kind),
+        None => Err(Misread::Misfit),
     }
 }
 
 /// A key of the machine.
 pub(crate) fn key(word: &[u8]) -> Result<HardKey, Misread>
-    ensures { Gives (key_of word.now) result }
+    ensures { Gives (key_named word.now) result }
 {
-    if is_word(word, b"power") {
-        Ok(HardKey::Power)
-    } else if is_word(word, b"suspend") {
-        Ok(HardKey::Suspend)
-    } else if is_word(word, b"hibernate") {
-        Ok(HardKey::Hibernate)
-    } else if is_word(word, b"lid") {
-        Ok(HardKey::Lid)
-    } else {
-        Err(Misread::Misfit)
+    match HardKey::read(word) {
+        Some(key) => Ok(key),
+        None => Err(Misread::Misfit),
     }
 }
 
 /// An operation's kind.
 pub(crate) fn operation(word: &[u8]) -> Result<OpKind, Misread>
-    ensures { Gives (operation_of word.now) result }
+    ensures { Gives (operation_named word.now) result }
 {
-    if is_word(word, b"poweroff") {
-        Ok(OpKind::PowerOff)
-    } else if is_word(word, b"reboot") {
-        Ok(OpKind::Reboot)
-    } else if is_word(word, b"halt") {
-        Ok(OpKind::Halt)
-    } else if is_word(word, b"suspend") {
-        Ok(OpKind::Suspend)
-    } else if is_word(word, b"hibernate") {
-        Ok(OpKind::Hibernate)
-    } else if is_word(word, b"hybrid-sleep") {
-        Ok(OpKind::HybridSleep)
-    } else if is_word(word, b"suspend-then-hibernate") {
-        Ok(OpKind::SuspendThenHibernate)
-    } else {
-        Err(Misread::Misfit)
+    match OpKind::read(word) {
+        Some(kind) => Ok(kind),
+        None => Err(Misread::Misfit),
     }
 }
 

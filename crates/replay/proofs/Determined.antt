@@ -3,7 +3,7 @@ use Rattle.std.proofs.Common.{◌≡◌, ℕ, List, [], ◌∷◌, ◌++◌, map
 use Rattle.std.proofs.lemmas.List.{append_cancel_right}
 use Rattle.login_model.specs.declared.mark.Entry.{Entry}
 use Rattle.login_model.specs.Legal.{IsLegal, events_of}
-use Rattle.login_model.proofs.JournalLaws.{one-after}
+use Rattle.login_laws.proofs.JournalLaws.{one-after}
 use Rattle.recording.specs.declared.line.Line.{Line}
 use Rattle.recording.specs.declared.line.Line.TheVariants.{Go, End}
 use Rattle.recording.specs.Cut.{cut}

@@ -5,10 +5,12 @@ use Rattle.login_edge.specs.Texts.{Gains, GainsFront}
 use Rattle.login_edge.specs.Gained.{Gains-nothing, Gains-more, Gains-whole, Gains-front-more}
 use Rattle.login_model.specs.declared.mark.Entry.{Entry}
 use Rattle.login_core.specs.State.{CoreState}
+use Rattle.login_laws.proofs.LawfulLaws.{legal-is-lawful}
 use Rattle.recording.specs.declared.line.Line.{Line}
 use Rattle.recording.specs.Cut.{cut}
 use Rattle.recording.specs.Print.{transcript_head, transcript_end, blocks}
 use Rattle.replay.specs.Written.{AreReadAs}
+use Rattle.replay.specs.PreambleLines.{setup_of}
 use Rattle.replay.specs.Recording.{most_lines, recording}
 use Rattle.replay.specs.Front.{Front, going, ended, text_at}
 use Rattle.replay.specs.Ahead.{Torn, Partly}
@@ -78,6 +80,7 @@ finish_done core number (Some text) (Some rest) now start held after s within e 
         read = subst (λ (a : List (List ℕ)). AreReadAs a (recording ls es)) (sym whole) split.are;
         within = omega (arith, within, s.count);
       };
+      lawful = legal-is-lawful (setup_of ls) es s.is_front.play.legal;
       read_to_end = h.1;
       wrote = wrote_all es start held after s.wrote e;
     }

@@ -6,7 +6,7 @@ use Rattle.login_model.specs.declared.mark.Entry.{Entry}
 use Rattle.login_model.specs.Full.{full}
 use Rattle.login_model.specs.Legal.{IsLegalEntry, IsLegalAfter, answered, stepped, trail_of}
 use Rattle.login_model.specs.Policy.{verdict}
-use Rattle.login_model.proofs.JournalLaws.{one-marks}
+use Rattle.login_laws.proofs.JournalLaws.{one-marks}
 use Rattle.replay.specs.Recording.{HasRoomAfter, HasRoom}
 
 -- an event makes one entry
@@ -14,7 +14,7 @@ pub one_entry : (U : Setup) (before : List Entry) (e f : Entry) → IsLegalEntry
 one_entry U before e f h k same =
     let t = trail_of before in
     let verdicts : e.verdict ≡ f.verdict = h.verdict_is ∙ (ap (verdict U t) same ∙ sym k.verdict_is) in
-    let answers : e.answer ≡ f.answer = h.answer_is ∙ ((λ i. answered U (verdicts i) (same i) t) ∙ sym k.answer_is) in
+    let answers : e.answer ≡ f.answer = h.answer_is ∙ ((λ i. answered U (verdicts i) (same i) before) ∙ sym k.answer_is) in
     let trails : stepped U e.verdict e.event t ≡ stepped U f.verdict f.event t = λ i. stepped U (verdicts i) (same i) t in
     let marks : e.marks ≡ f.marks = one-marks t e.marks f.marks (h.marks_are ∙ (trails ∙ sym k.marks_are)) in
     λ i. record { event = same i; verdict = verdicts i; answer = answers i; marks = marks i }

@@ -10,6 +10,7 @@ use Rattle.login_model.specs.Legal.{Fits, IsPlaced}
 use Rattle.login_model.specs.Stopping.{stopped}
 use Rattle.login_model.specs.Texts.{IsText, hardware_texts}
 use Rattle.recording.specs.EventSpelling.{FitsHardware, Fits as FitsLine}
+use Rattle.recording.specs.Lines.{IsEventLine}
 use Rattle.replay.specs.Placing.{IsNamed}
 
 hardware_fits : (x : Hardware) → FitsHardware x → AllByRecursion (IsText 512) (hardware_texts x)
@@ -33,8 +34,8 @@ named_fits before (Happens x) f = tt
 named_fits before (Tick m) f = tt
 named_fits before Stop f = tt
 
-pub placed : (before : List Entry) (e : Event) → FitsLine e → stopped before e ≡ None → IsNamed before e → IsPlaced before e
-placed before e f s n = (fits_named before e f n, s)
+pub placed : (before : List Entry) (e : Event) → IsEventLine e → stopped before e ≡ None → IsNamed before e → IsPlaced before e
+placed before e l s n = (fits_named before e l.fits n, s, l.built)
 
 pub placed_named : (before : List Entry) (e : Event) → IsPlaced before e → IsNamed before e
 placed_named before e h = named_fits before e h.0

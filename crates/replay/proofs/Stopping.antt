@@ -8,7 +8,7 @@ use Rattle.login_model.specs.declared.mark.Entry.{Entry}
 use Rattle.login_model.specs.declared.setup.Setup.{Setup}
 use Rattle.login_model.specs.Full.{full}
 use Rattle.login_model.specs.Legal.{IsLegal, IsLegalAfter, IsPlaced, AreInPlace, events_of}
-use Rattle.login_model.proofs.Continuing.{one-journal}
+use Rattle.login_laws.proofs.Continuing.{one-journal}
 use Rattle.recording.specs.declared.line.Line.{Line}
 use Rattle.recording.specs.declared.line.Line.TheVariants.{Go, Event, End}
 use Rattle.recording.specs.Cut.{cut, first_line}

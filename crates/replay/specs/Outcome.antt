@@ -6,6 +6,7 @@ use Rattle.login_model.specs.declared.event.Event.{Event as AnEvent}
 use Rattle.login_model.specs.declared.mark.Entry.{Entry}
 use Rattle.login_model.specs.Full.{full}
 use Rattle.login_model.specs.Legal.{IsPlaced}
+use Rattle.login_laws.specs.Lawful.{IsLawful}
 use Rattle.recording.specs.declared.line.Line.{Line}
 use Rattle.recording.specs.declared.line.Line.TheVariants.{Event}
 use Rattle.recording.specs.Cut.{NoLineFeed, cut}
@@ -28,9 +29,10 @@ pub record IsRecordingText (text : List ℕ) : Type 0 where
   pub read : AreReadAs (cut text) (recording preamble journal)
   pub within : length (recording preamble journal) ≤ most_lines
 
--- the text is a recording, its journal is legal, it was read to its end, and its transcript was written
+-- the text is a recording, its journal has what every legal journal has, it was read to its end, and its transcript was written
 pub record Replayed (text : List ℕ) (left before after : Option (List ℕ)) : Type 0 where
   pub recorded : IsRecordingText text
+  pub lawful : IsLawful (setup_of recorded.preamble) recorded.journal
   pub read_to_end : left ≡ Some []
   pub wrote : Gains before after (transcript recorded.journal)
 

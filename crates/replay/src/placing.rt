@@ -3,19 +3,19 @@
 ghost use Rattle.std.specs.Prelude.{◌≡◌, ◌↔◌, IsTrue};
 ghost use Rattle.login_model.specs.Legal.{IsPlaced, trail_of};
 ghost use Rattle.login_model.specs.Where.{is_connected};
-ghost use Rattle.recording.specs.Lines.{Fits};
+ghost use Rattle.recording.specs.Lines.{IsEventLine};
 ghost use Rattle.replay.specs.Placing.{IsNamed};
 
 use crate::player::Player;
 use login_base::ConnId;
 use login_core::Core;
-use login_model::{Event, Key, Look, is_connected_fact};
+use login_model::{Event, Key, Look};
 
 /// Whether a client is connected.
 fn is_connected(core: &Core, who: ConnId) -> bool
     ensures { result ≡ is_connected (trail_of core.now.journal) who }
 {
-    is_connected_fact(core.fact(&Key::Conn(who)))
+    core.fact(&Key::Conn(who)).is_connected()
 }
 
 /// Whether whom an event names is as it must be after the entries so far.
@@ -32,7 +32,7 @@ fn is_named(player: &Player, event: &Event) -> bool
 
 /// Whether an event may come after the entries so far.
 pub fn is_placed(player: &Player, event: &Event) -> bool
-    requires { Fits event.now }
+    requires { IsEventLine event.now }
     ensures { IsTrue result ↔ IsPlaced player.now.journal event.now }
 {
     match player.core().stopped(event) {

@@ -1,7 +1,6 @@
 // One event of a recording.
 
 ghost use Rattle.std.specs.Prelude.{◌≡◌, true, None};
-ghost use Rattle.login_model.specs.Built.{is_built};
 ghost use Rattle.login_model.specs.Full.{full};
 ghost use Rattle.login_model.specs.Legal.{IsPlaced};
 ghost use Rattle.login_core.specs.State.{IsReady, IsSame};
@@ -39,7 +38,6 @@ fn step_event<K: Sink>(
     sink: &mut K,
 ) -> Played
     requires placed { IsPlaced core.old.journal event }
-    requires built { is_built event ≡ true }
     requires ready { IsReady core.old event }
     requires room { full core.old.setup core.old.journal event ≡ None }
     requires used { AreUsed used.old core.old.journal }
@@ -71,7 +69,6 @@ enum Room {
 /// Makes room for an event that may come next.
 fn make_room(player: &mut Player, event: &Event) -> Room
     requires placed { IsPlaced player.old.journal event.now }
-    requires built { is_built event.now ≡ true }
     ensures gives { MakesRoom player.old player.new event.now result }
     ensures same { IsSame player.old player.new }
 {
@@ -86,7 +83,6 @@ fn make_room(player: &mut Player, event: &Event) -> Room
 /// Steps an event that may come next, where the journal has room, and writes its entry.
 fn play_placed<K: Sink>(alloc: Global, player: &mut Player, event: Event, sink: &mut K) -> Played
     requires placed { IsPlaced player.old.journal event }
-    requires built { is_built event ≡ true }
     ensures gives { Plays player.old event player.new (K.held sink.old) (K.held sink.new) result }
     ensures cause { PlayCause (K.faults sink.old) (K.faults sink.new) result }
 {

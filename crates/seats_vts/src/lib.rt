@@ -2,17 +2,12 @@
 //! Objects").
 #![tactic(auto)]
 
-ghost use Rattle.std.specs.Prelude.{◌≡◌, ◌+◌, ◌<◌, ◌≤◌, [], ◌∷◌, OnOk, MatchOption, None, Some, false};
-ghost use Rattle.login_model.specs.Trail.{Trail};
-ghost use Rattle.login_model.specs.Names.{IsNext, seat_lt};
-ghost use Rattle.login_model.specs.Where.{is_seat};
-ghost use Rattle.login_model.specs.declared.mark.Mark.TheVariants.{Set};
-ghost use Rattle.login_table.specs.Stands.{Stands, told};
+ghost use Rattle.std.specs.Prelude.{◌≡◌};
 ghost use Rattle.seats_vts.specs.Own.{is_seat_key};
 
-use login_base::{NoMemory, SeatName};
+use login_base::NoMemory;
 use login_model::{Fact, Key};
-use login_table::Rows;
+use login_table::{Rows, Table};
 use std::alloc::Global;
 use std::marker::Model;
 
@@ -20,10 +15,10 @@ use std::marker::Model;
 pub fn is_seat_key(key: &Key) -> bool
     ensures { result ≡ is_seat_key key.now }
 {
-    match key {
-        Key::Seat(_) | Key::Act(_) | Key::Vt | Key::Getty(_) | Key::Pending => true,
-        _ => false,
-    }
+    matches!(
+        key,
+        Key::Seat(_) | Key::Act(_) | Key::Vt | Key::Getty(_) | Key::Pending
+    )
 }
 
 /// Which seats are there, which session was made active on one without terminals, the current and the
@@ -41,53 +36,31 @@ impl Model for SeatsVts {
     ghost view = { λ t. t.rows };
 }
 
-impl SeatsVts {
-    /// The table of no marks. It takes no memory.
-    pub fn new(alloc: Global) -> SeatsVts
-        ensures { Stands is_seat_key result.trail [] }
-    {
+impl Table for SeatsVts {
+    ghost owns = { is_seat_key };
+
+    ghost list = { λ t. t };
+
+    fn is_own(key: &Key) -> bool {
+        is_seat_key(key)
+    }
+
+    fn new(alloc: Global) -> SeatsVts {
         SeatsVts {
             rows: Rows::new(alloc),
         }
     }
 
-    /// The fact under a key, where it is one of the table's.
-    pub fn look(&self, key: &Key) -> Option<&Fact>
-        ensures { MatchOption result (told is_seat_key self.now.trail key.now ≡ None) (λ fact. told is_seat_key self.now.trail key.now ≡ Some fact.now) }
-    {
-        if is_seat_key(key) {
-            Some(self.rows.fact(key))
-        } else {
-            None
-        }
+    fn rows(&self) -> &Rows {
+        &self.rows
     }
 
-    /// Makes the spare at least so much: so many more marks can be applied without memory.
-    pub fn room(&mut self, marks: usize) -> Result<(), NoMemory>
-        ensures ok { OnOk result (marks ≤ self.new.spare) }
-        ensures same { self.new.trail ≡ self.old.trail }
-        ensures spare { self.old.spare ≤ self.new.spare }
-    {
+    fn room(&mut self, marks: usize) -> Result<(), NoMemory> {
         self.rows.reserve(marks)
     }
 
-    /// Applies a setting. One under another table's key changes nothing. It takes no memory.
-    pub fn apply(&mut self, key: Key, fact: Fact)
-        requires { 0 < self.old.spare }
-        ensures stands { (t : Trail) → Stands is_seat_key self.old.trail t → Stands is_seat_key self.new.trail (Set key fact ∷ t) }
-        ensures other { is_seat_key key ≡ false → self.new ≡ self.old }
-        ensures spare { self.old.spare ≤ self.new.spare + 1 }
-    {
-        if is_seat_key(&key) {
-            self.rows.set(key, fact);
-        }
-    }
-
-    /// The least seat above that one that is there.
-    pub fn next_seat(&self, above: Option<SeatName>) -> Option<SeatName>
-        ensures { (t : Trail) → Stands is_seat_key self.now.trail t → IsNext seat_lt (is_seat t) above result }
-    {
-        self.rows.next(above)
+    fn set(&mut self, key: Key, fact: Fact) {
+        self.rows.set(key, fact);
     }
 }
 

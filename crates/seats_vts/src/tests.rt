@@ -1,7 +1,7 @@
 // What no clause can show: that there is room.
 
 use super::*;
-use login_base::NoMemory;
+use login_base::{NoMemory, SeatName};
 use login_model::{Fact, Key, seat0};
 
 #[test]
@@ -13,10 +13,10 @@ fn the_first_seat_is_there_from_the_start(rt: HostRuntime) -> Result<(), NoMemor
         Some(fact) => assert!(rt; matches!(fact, Fact::Number(2))),
         None => assert!(rt; false),
     }
-    match seats.next_seat(None) {
+    match seats.next::<SeatName>(None) {
         Some(seat) => assert!(rt; seat.as_slice() == b"seat0".as_slice()),
         None => assert!(rt; false),
     }
-    assert!(rt; seats.next_seat(Some(seat0())).is_none());
+    assert!(rt; seats.next::<SeatName>(Some(seat0())).is_none());
     Ok(())
 }

@@ -1,7 +1,7 @@
 // What no clause can show: that there is room.
 
 use super::*;
-use login_base::NoMemory;
+use login_base::{NoMemory, SessId};
 use login_model::{Fact, Key};
 
 #[test]
@@ -13,7 +13,7 @@ fn hints_are_told(rt: HostRuntime) -> Result<(), NoMemory> {
         Some(fact) => assert!(rt; matches!(fact, Fact::Flag(true))),
         None => assert!(rt; false),
     }
-    assert!(rt; sessions.next_session(None).is_none());
+    assert!(rt; sessions.next::<SessId>(None).is_none());
     assert!(rt; sessions.look(&Key::Vt).is_none());
     Ok(())
 }

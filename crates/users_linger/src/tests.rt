@@ -1,8 +1,8 @@
 // What no clause can show: that there is room, and each call once.
 
 use super::*;
-use login_base::NoMemory;
-use login_model::{Fact, is_user_fact};
+use login_base::{NoMemory, Uid};
+use login_model::Fact;
 
 #[test]
 fn users_are_told_in_their_order(rt: HostRuntime) -> Result<(), NoMemory> {
@@ -11,8 +11,8 @@ fn users_are_told_in_their_order(rt: HostRuntime) -> Result<(), NoMemory> {
     users.apply(Key::User(Uid(1000)), Fact::Known);
     users.apply(Key::User(Uid(120)), Fact::Known);
     users.apply(Key::User(Uid(1000)), Fact::Absent);
-    assert!(rt; users.next_user(None) == Some(Uid(120)));
-    assert!(rt; users.next_user(Some(Uid(120))) == None);
+    assert!(rt; users.next::<Uid>(None) == Some(Uid(120)));
+    assert!(rt; users.next::<Uid>(Some(Uid(120))) == None);
     Ok(())
 }
 
@@ -22,7 +22,7 @@ fn a_key_of_another_table_is_not_told(rt: HostRuntime) -> Result<(), NoMemory> {
     users.room(1)?;
     users.apply(Key::User(Uid(7)), Fact::Known);
     match users.look(&Key::User(Uid(7))) {
-        Some(fact) => assert!(rt; is_user_fact(fact)),
+        Some(fact) => assert!(rt; fact.is_user()),
         None => assert!(rt; false),
     }
     assert!(rt; users.look(&Key::Linger(Uid(7))).is_some());

@@ -1,6 +1,6 @@
 // The facts, in their tables.
 
-ghost use Rattle.std.specs.Prelude.{◌≡◌, ◌+◌, ◌<◌, ◌≤◌, ◌^◌, [], ◌∷◌, OnOk, nat_lt};
+ghost use Rattle.std.specs.Prelude.{◌≡◌, ◌+◌, ◌<◌, ◌≤◌, [], ◌∷◌, OnOk, nat_lt};
 ghost use Rattle.login_model.specs.Trail.{Trail, value};
 ghost use Rattle.login_model.specs.Fresh.{next_session, next_handle};
 ghost use Rattle.login_model.specs.Names.{IsNext, session_lt, user_lt, conn_lt, seat_lt, device_lt, lock_lt};
@@ -11,19 +11,22 @@ ghost use Rattle.login_table.specs.Nearest.{nearer};
 ghost use Rattle.login_table.specs.declared.rows.Row.{Row as RowValue};
 ghost use Rattle.std.specs.List.{list_any};
 ghost use Rattle.login_core.specs.Awaiting.{is_awaited_key};
-ghost use Rattle.login_core.specs.Facts.{StandFor, is_take_key, opens, gives};
+ghost use Rattle.login_core.specs.Counts.{AreCounted};
+ghost use Rattle.login_core.specs.Facts.{StandFor, StandForFew, table, opens, gives};
 
+use crate::board::home::Home;
+use crate::room::counts::Counts;
 use login_base::{ConnId, DevNo, HandleNo, LockNo, NoMemory, SeatName, SessId, Uid};
-use login_model::{Fact, Key, is_handle_fact, is_open_fact, is_owned_fact, is_set};
-use login_table::{Row, Rows, is_above, is_lower};
-use seats_vts::{SeatsVts, is_seat_key};
-use sessions::{Sessions, is_session_key};
+use login_model::{Fact, Key};
+use login_table::{Row, Rows, Table, is_above, is_lower};
+use seats_vts::SeatsVts;
+use sessions::Sessions;
 use std::alloc::Global;
 use std::marker::Model;
-use users_linger::{UsersLinger, is_user_key};
+use users_linger::UsersLinger;
 
-/// The facts, and the numbers of the next session and the next handle. They stand for the marks whose
-/// settings were put in.
+/// The facts, how many there are of what needs room, and the numbers of the next session and the next handle.
+/// They stand for the marks whose settings were put in.
 #[derive(Drop)]
 pub struct Facts {
     users: UsersLinger,
@@ -31,6 +34,7 @@ pub struct Facts {
     seats: SeatsVts,
     takes: Rows,
     others: Rows,
+    counts: Counts,
     session: u32,
     handle: u32,
     spare: usize,
@@ -48,6 +52,7 @@ impl Model for Facts {
       seats = f.seats.trail;
       takes = f.takes.trail;
       others = f.others.trail;
+      counts = f.counts;
       session = f.session;
       handle = f.handle;
       spare = f.spare;
@@ -61,7 +66,7 @@ fn opened(key: &Key, fact: &Fact) -> u32
     ensures { result ≡ opens key.now fact.now }
 {
     match key {
-        Key::Sess(_) => { if is_open_fact(fact) { 1 } else { 0 } }
+        Key::Sess(_) => { if fact.is_open() { 1 } else { 0 } }
         _ => 0,
     }
 }
@@ -71,18 +76,8 @@ fn given(key: &Key, fact: &Fact) -> u32
     ensures { result ≡ gives key.now fact.now }
 {
     match key {
-        Key::Owner(_) => { if is_owned_fact(fact) { 1 } else { 0 } }
+        Key::Owner(_) => { if fact.is_held() { 1 } else { 0 } }
         _ => 0,
-    }
-}
-
-/// Whether a key is about a device that a session has taken, or about a pause that is awaited.
-fn is_take_key(key: &Key) -> bool
-    ensures { result ≡ is_take_key key.now }
-{
-    match key {
-        Key::Taken(_, _) | Key::Awaited(_, _) => true,
-        _ => false,
     }
 }
 
@@ -116,7 +111,7 @@ fn nearer_taken(
         Some(device) => {
             if is_above(above, device)
                 && is_lower(device, best)
-                && is_handle_fact(takes.fact(&Key::Taken(session, device)))
+                && takes.fact(&Key::Taken(session, device)).is_handle()
             {
                 Some(device)
             } else {
@@ -143,7 +138,7 @@ fn is_awaited(takes: &Rows, key: &Key) -> bool
     ensures { result ≡ is_awaited_key takes.now.trail key.now }
 {
     match key {
-        Key::Awaited(_, _) => is_set(takes.fact(key)),
+        Key::Awaited(_, _) => takes.fact(key).is_set(),
         _ => false,
     }
 }
@@ -166,6 +161,7 @@ impl Facts {
             seats: SeatsVts::new(alloc),
             takes: Rows::new(alloc),
             others: Rows::new(alloc),
+            counts: Counts::NONE,
             session: 1,
             handle: 1,
             spare: 0,
@@ -190,48 +186,52 @@ impl Facts {
         Ok(())
     }
 
+    /// The rows of a table.
+    fn rows(&self, at: Home) -> &Rows
+        ensures { result.now.trail ≡ table self.now at }
+    {
+        match at {
+            Home::Users => self.users.rows(),
+            Home::Sessions => self.sessions.rows(),
+            Home::Seats => self.seats.rows(),
+            Home::Takes => &self.takes,
+            Home::Others => &self.others,
+        }
+    }
+
     /// The fact of the last setting of a key, or the fact at the start.
     pub fn fact(&self, key: &Key) -> &Fact
         ensures { (t : Trail) → StandFor self.now t → result.now ≡ value t key.now }
     {
-        if let Some(fact) = self.users.look(key) {
-            return fact;
-        }
-        if let Some(fact) = self.sessions.look(key) {
-            return fact;
-        }
-        if let Some(fact) = self.seats.look(key) {
-            return fact;
-        }
-        if is_take_key(key) {
-            self.takes.fact(key)
-        } else {
-            self.others.fact(key)
-        }
+        self.rows(Home::of(key)).fact(key)
     }
 
     /// Puts a setting in. It takes no memory.
     pub fn set(&mut self, key: Key, fact: Fact)
         requires spare { 0 < self.old.spare }
-        requires session { self.old.session + opens key fact < 2 ^ 32 }
-        requires handle { self.old.handle + gives key fact < 2 ^ 32 }
+        requires few { StandForFew self.old }
         ensures stands { (t : Trail) → StandFor self.old t → StandFor self.new (Set key fact ∷ t) }
         ensures spare { self.old.spare ≡ self.new.spare + 1 }
     {
+        let lost = Counts::of(&key, self.fact(&key));
+        self.counts = self.counts.moved(lost, Counts::of(&key, &fact));
         self.session += opened(&key, &fact);
         self.handle += given(&key, &fact);
         self.spare -= 1;
-        if is_user_key(&key) {
-            self.users.apply(key, fact);
-        } else if is_session_key(&key) {
-            self.sessions.apply(key, fact);
-        } else if is_seat_key(&key) {
-            self.seats.apply(key, fact);
-        } else if is_take_key(&key) {
-            self.takes.set(key, fact);
-        } else {
-            self.others.set(key, fact);
+        match Home::of(&key) {
+            Home::Users => self.users.set(key, fact),
+            Home::Sessions => self.sessions.set(key, fact),
+            Home::Seats => self.seats.set(key, fact),
+            Home::Takes => self.takes.set(key, fact),
+            Home::Others => self.others.set(key, fact),
         }
+    }
+
+    /// How many there are of what needs room.
+    pub fn counts(&self) -> Counts
+        ensures { (t : Trail) → StandFor self.now t → AreCounted result t }
+    {
+        self.counts
     }
 
     /// The number of the next session.
@@ -252,21 +252,21 @@ impl Facts {
     pub fn next_session(&self, above: Option<SessId>) -> Option<SessId>
         ensures { (t : Trail) → StandFor self.now t → IsNext session_lt (is_session t) above result }
     {
-        self.sessions.next_session(above)
+        self.sessions.next(above)
     }
 
     /// The least user above that one that is not absent.
     pub fn next_user(&self, above: Option<Uid>) -> Option<Uid>
         ensures { (t : Trail) → StandFor self.now t → IsNext user_lt (is_user t) above result }
     {
-        self.users.next_user(above)
+        self.users.next(above)
     }
 
     /// The least seat above that one that is there.
     pub fn next_seat(&self, above: Option<SeatName>) -> Option<SeatName>
         ensures { (t : Trail) → StandFor self.now t → IsNext seat_lt (is_seat t) above result }
     {
-        self.seats.next_seat(above)
+        self.seats.next(above)
     }
 
     /// The least device above that one that is there.

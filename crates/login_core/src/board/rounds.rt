@@ -7,17 +7,16 @@ ghost use Rattle.login_model.specs.Devices.{taken_in, is_taken};
 ghost use Rattle.login_model.specs.Procedure.{each};
 ghost use Rattle.login_model.proofs.Keys.{both};
 ghost use Rattle.login_model.proofs.InOrder.{Enumerates, enumerated, taken-enumerated};
-ghost use Rattle.login_model.proofs.Grows.{Grows};
+ghost use Rattle.login_laws.proofs.Grows.{Grows};
 ghost use Rattle.login_table.specs.Listed.{is_there, listed};
 ghost use Rattle.login_core.specs.Chosen.{is_chosen};
 ghost use Rattle.login_core.specs.Rounds.{SparesAbove};
 ghost use Rattle.login_core.specs.Board.{trail};
 
 use crate::board::Board;
-use crate::board::choosing::Test;
 use login_base::{DevNo, SessId};
 use login_model::Look;
-use login_table::Listed;
+use login_table::{Listed, Test};
 
 /// Names of one kind that are told one after the other.
 pub trait Choice<N> {

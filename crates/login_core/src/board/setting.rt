@@ -4,29 +4,12 @@ ghost use Rattle.std.specs.Prelude.{◌≡◌, ◌+◌, ◌≤◌, length};
 ghost use Rattle.login_model.specs.Trail.{value, put, tell_all};
 ghost use Rattle.login_model.specs.Devices.{is_live};
 ghost use Rattle.login_model.specs.Procedure.{tell_controller};
-ghost use Rattle.login_core.specs.Told.{handle_in, controller_in, controller_fact};
+ghost use Rattle.login_core.specs.Told.{controller_fact};
+ghost use Rattle.login_model.specs.Facts.{handle_in, controller_in};
 
 use crate::board::Board;
 use login_base::{ConnId, DevNo, HandleNo, SeatName, SessId};
-use login_model::{Fact, Key, Look, Notice, Owner, Whom, is_set};
-
-fn handle_in(fact: &Fact) -> Option<HandleNo>
-    ensures { result ≡ handle_in fact.now }
-{
-    match fact {
-        Fact::Handle(handle) => Some(*handle),
-        _ => None,
-    }
-}
-
-fn controller_in(fact: &Fact) -> Option<ConnId>
-    ensures { result ≡ controller_in fact.now }
-{
-    match fact {
-        Fact::Controller(who) => Some(*who),
-        _ => None,
-    }
-}
+use login_model::{Fact, Key, Look, Notice, Owner, Whom};
 
 #[tactic(auto, using(crate::proofs::Growing::growing))]
 impl Board {
@@ -36,21 +19,21 @@ impl Board {
     pub fn handle_of(&self, session: SessId, device: DevNo) -> Option<HandleNo>
         ensures { result ≡ handle_in (value (trail self.now) (Key.Taken session device)) }
     {
-        handle_in(self.fact(&Key::Taken(session, device)))
+        self.fact(&Key::Taken(session, device)).handle()
     }
 
     /// The connection that controls a session.
     pub fn controller(&self, session: SessId) -> Option<ConnId>
         ensures { result ≡ controller_in (value (trail self.now) (Key.Ctl session)) }
     {
-        controller_in(self.fact(&Key::Ctl(session)))
+        self.fact(&Key::Ctl(session)).controller()
     }
 
     /// Whether a handle gives access to its device.
     pub fn is_live(&self, handle: HandleNo) -> bool
         ensures { result ≡ is_live (trail self.now) handle }
     {
-        is_set(self.fact(&Key::Live(handle)))
+        self.fact(&Key::Live(handle)).is_set()
     }
 
     /// There is nothing under a key.

@@ -11,15 +11,6 @@ use login_base::{SeatName, SessId};
 use login_model::{Fact, Key, Look, seat0};
 use login_table::seat_of_session;
 
-fn vt_in(fact: &Fact) -> u32
-    ensures { result ≡ vt_in fact.now }
-{
-    match fact {
-        Fact::Session(session) => session.vt,
-        _ => 0,
-    }
-}
-
 #[tactic(auto, using(crate::proofs::Growing::growing))]
 impl Board {
     ghost use Rattle.login_core.specs.Board.{trail};
@@ -28,7 +19,7 @@ impl Board {
     pub(crate) fn vt_of(&self, session: SessId) -> u32
         ensures { result ≡ vt_in (value (trail self.now) (Key.Sess session)) }
     {
-        vt_in(self.fact(&Key::Sess(session)))
+        self.fact(&Key::Sess(session)).vt()
     }
 
     /// The terminal of a session is asked for.

@@ -3,6 +3,7 @@
 ghost use Rattle.std.specs.Prelude.{◌≡◌, ◌≤◌, None, length, true};
 ghost use Rattle.std.specs.Str.{bytes_eq};
 ghost use Rattle.login_base.specs.Seat.{is_seat_name};
+ghost use Rattle.login_model.specs.Built.{is_built_call};
 ghost use Rattle.login_model.specs.Trail.{value};
 ghost use Rattle.login_model.specs.Fresh.{next_session};
 ghost use Rattle.login_model.specs.MadeWith.{texts_in};
@@ -15,7 +16,6 @@ ghost use Rattle.login_core.specs.Kept.{AreClosing, AreReadyToCall, HaveTexts};
 ghost use Rattle.login_core.specs.Calls.{IsPlain, NamesSeat, call_on, fifo_session, session_in};
 
 use crate::board::Board;
-use crate::direct::handles::owner_in;
 use crate::room::kept::Kept;
 use crate::room::texts::Texts;
 use login_base::{ConnId, HandleNo, SeatName, SessId, Uid, Word};
@@ -147,7 +147,7 @@ impl Board {
     fn session_of_fifo(&self, handle: HandleNo) -> Option<SessId>
         ensures { result ≡ fifo_session (value (trail self.now) (Key.Owner handle)) }
     {
-        match owner_in(self.fact(&Key::Owner(handle))) {
+        match self.fact(&Key::Owner(handle)).owner() {
             Some(Owner::Fifo(_, session)) => Some(session),
             _ => None,
         }
@@ -171,6 +171,7 @@ impl Board {
     /// A call that needs no texts.
     fn call_plain(&mut self, setup: &Setup, who: ConnId, call: &Call)
         requires plain { IsPlain call.now }
+        requires built { is_built_call call.now ≡ true }
         requires named { NamesSeat call.now }
         requires room { length (direct_call setup.now who call.now (trail self.old)) ≤ self.old.journal.reach }
         ensures marked { trail self.new ≡ direct_call setup.now who call.now (trail self.old) }
@@ -184,6 +185,11 @@ impl Board {
             Call::SwitchTo(_, vt) => self.request(*vt),
             Call::SwitchToNext(seat) => self.next_on(seat),
             Call::SwitchToPrevious(seat) => self.previous_on(seat),
+            Call::Power(_) | Call::Inhibit(_) => unreachable!(),
+            Call::TakeDevice(..) | Call::ReleaseDevice(..) | Call::PauseComplete(..) => {
+                unreachable!()
+            }
+            Call::SetMode(..) => unreachable!(),
             _ => self.call_session(who, call),
         }
     }
@@ -192,6 +198,7 @@ impl Board {
     pub fn direct_call(&mut self, setup: &Setup, who: ConnId, call: &Call, texts: &mut Texts)
         requires unmade { texts_in (value (trail self.old) (Key.Sess (next_session (trail self.old)))) ≡ None }
         requires named { NamesSeat call.now }
+        requires built { is_built_call call.now ≡ true }
         requires ready { AreReadyToCall call.now texts.old }
         requires texts { HaveTexts texts.old (trail self.old) }
         requires room { length (direct_call setup.now who call.now (trail self.old)) ≤ self.old.journal.reach }

@@ -6,7 +6,7 @@ ghost use Rattle.login_model.specs.Direct.{controlled_by, unlock, disconnect};
 ghost use Rattle.login_model.specs.Trail.{put};
 ghost use Rattle.login_model.specs.declared.fact.Key.TheVariants.{Lock};
 ghost use Rattle.login_model.specs.declared.fact.Fact.TheVariants.{Absent};
-ghost use Rattle.login_model.proofs.Grows.{put-grows, release-grows};
+ghost use Rattle.login_laws.proofs.Grows.{put-grows, release-grows};
 ghost use Rattle.login_core.specs.Kept.{AreClosing};
 
 use crate::board::Board;

@@ -8,29 +8,10 @@ ghost use Rattle.login_core.specs.Kept.{AreClosing};
 ghost use Rattle.login_core.specs.Ending.{sessions_such, StaysAbove, is_kept_open_by};
 
 use crate::board::Board;
-use crate::board::choosing::{OfUser, Test};
 use crate::room::kept::Kept;
 use login_base::{ConnId, HandleNo, SeatName, SessId, Uid};
-use login_model::{Fact, Key, Look, Owner, is_open_fact};
-use login_table::seat_of_session;
-
-fn fifo_of(fact: &Fact) -> HandleNo
-    ensures { result ≡ fifo_of fact.now }
-{
-    match fact {
-        Fact::Session(session) => session.fifo,
-        _ => HandleNo(0),
-    }
-}
-
-fn is_fifo_of(who: ConnId, fact: &Fact) -> bool
-    ensures { result ≡ is_fifo_of who fact.now }
-{
-    match fact {
-        Fact::Owned(Owner::Fifo(conn, _)) => conn.0 == who.0,
-        _ => false,
-    }
-}
+use login_model::{Fact, Key, Look, Owner};
+use login_table::{OfUser, Test, seat_of_session};
 
 /// It is on a seat.
 #[derive(Drop)]
@@ -56,7 +37,7 @@ impl Test<SessId> for KeptOpenBy {
 
     fn is_met<F: Look>(&self, facts: &F, session: SessId) -> bool {
         let fact = facts.fact(&Key::Sess(session));
-        is_open_fact(fact) && is_fifo_of(self.0, facts.fact(&Key::Owner(fifo_of(fact))))
+        fact.is_open() && facts.fact(&Key::Owner(fact.fifo())).is_fifo_of(self.0)
     }
 }
 

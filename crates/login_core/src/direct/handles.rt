@@ -6,30 +6,13 @@ ghost use Rattle.login_model.specs.Where.{is_open};
 ghost use Rattle.login_model.specs.Procedure.{untake, shut};
 ghost use Rattle.login_model.specs.Direct.{is_this_handle, close_handle, close_owned, close};
 ghost use Rattle.login_core.specs.Texts.{AreSome};
-ghost use Rattle.login_core.specs.Handles.{owner_in, owner_fact, AreForClosing};
+ghost use Rattle.login_core.specs.Handles.{owner_fact, AreForClosing};
+ghost use Rattle.login_model.specs.Facts.{owner_in};
 
 use crate::board::Board;
 use crate::room::copies::Copies;
 use login_base::{DevNo, HandleNo, LockNo, SessId};
 use login_model::{Fact, Key, Look, Owner};
-
-pub(crate) fn owner_in(fact: &Fact) -> Option<Owner>
-    ensures { result ≡ owner_in fact.now }
-{
-    match fact {
-        Fact::Owned(owner) => Some(*owner),
-        _ => None,
-    }
-}
-
-fn is_this_handle(handle: HandleNo, fact: &Fact) -> bool
-    ensures { result ≡ is_this_handle handle fact.now }
-{
-    match fact {
-        Fact::Handle(other) => other.0 == handle.0,
-        _ => false,
-    }
-}
 
 #[tactic(auto, using(crate::proofs::Growing::growing))]
 impl Board {
@@ -71,7 +54,10 @@ impl Board {
         ensures marked { trail self.new ≡ (if is_this_handle handle (value (trail self.old) (Key.Taken session device)) then untake session device (trail self.old) else trail self.old) }
         ensures journal { self.new.journal ≡ self.old.journal }
     {
-        if is_this_handle(handle, self.fact(&Key::Taken(session, device))) {
+        if self
+            .fact(&Key::Taken(session, device))
+            .is_this_handle(handle)
+        {
             self.untake(session, device);
         }
     }
@@ -109,7 +95,7 @@ impl Board {
         ensures marked { trail self.new ≡ close handle (trail self.old) }
         ensures journal { self.new.journal ≡ self.old.journal }
     {
-        let owner = owner_in(self.fact(&Key::Owner(handle)));
+        let owner = self.fact(&Key::Owner(handle)).owner();
         self.close_owned(handle, owner, closing);
     }
 }

@@ -2,58 +2,20 @@
 
 ghost use Rattle.std.specs.Prelude.{◌≡◌, ◌≤◌, not, true, length};
 ghost use Rattle.login_model.specs.Trail.{value, put, tell_all};
-ghost use Rattle.login_model.proofs.Grows.{forget-grows};
+ghost use Rattle.login_laws.proofs.Grows.{forget-grows};
 ghost use Rattle.login_model.specs.Where.{is_open, sessions_of, moment_in, now};
 ghost use Rattle.login_model.specs.Procedure.{each, is_empty, is_kept, forget, leave, set_phase, shut};
 ghost use Rattle.login_model.specs.Direct.{leave_known, begin_linger, end_linger, linger, owner_of, exit, is_overdue_fact, overdue, tick};
 ghost use Rattle.login_core.specs.Texts.{AreCopies, AreSome};
-ghost use Rattle.login_core.specs.Leaving.{is_known, is_overdue};
+ghost use Rattle.login_core.specs.Leaving.{is_overdue};
+ghost use Rattle.login_model.specs.Facts.{is_known};
 
 use crate::board::Board;
-use crate::board::choosing::{OfUser, Test};
 use crate::board::rounds::Task;
 use crate::room::copies::Copies;
 use login_base::{Millis, SessId, Uid};
-use login_model::{Fact, Key, Look, Notice, Phase, Setup, is_set};
-use login_table::find_session;
-
-fn is_known(fact: &Fact) -> bool
-    ensures { result ≡ is_known fact.now }
-{
-    match fact {
-        Fact::Known => true,
-        _ => false,
-    }
-}
-
-fn moment_in(fact: &Fact) -> u64
-    ensures { result ≡ moment_in fact.now }
-{
-    match fact {
-        Fact::Moment(moment) => moment.0,
-        _ => 0,
-    }
-}
-
-/// The user whose session it is.
-pub(crate) fn owner_of(fact: &Fact) -> Uid
-    ensures { result ≡ owner_of fact.now }
-{
-    match fact {
-        Fact::Session(session) => session.uid,
-        _ => Uid(0),
-    }
-}
-
-/// Whether a user's delay is over at a moment.
-fn is_overdue_fact(setup: &Setup, moment: u64, fact: &Fact) -> bool
-    ensures { result ≡ is_overdue_fact setup.now moment fact.now }
-{
-    match fact {
-        Fact::Leaving(since) => { setup.conf.user_stop_delay.0 <= moment.saturating_sub(since.0) }
-        _ => false,
-    }
-}
+use login_model::{Fact, Key, Look, Notice, Phase, Setup};
+use login_table::{OfUser, Test, find_session};
 
 /// The user's delay is over at a moment.
 #[derive(Drop)]
@@ -66,7 +28,9 @@ impl<'a> Test<Uid> for Overdue<'a> {
     ghost meets = { λ o t u. is_overdue o.setup.now o.moment t u };
 
     fn is_met<F: Look>(&self, facts: &F, user: Uid) -> bool {
-        is_overdue_fact(self.setup, self.moment, facts.fact(&Key::User(user)))
+        facts
+            .fact(&Key::User(user))
+            .is_overdue(self.setup, self.moment)
     }
 }
 
@@ -99,14 +63,14 @@ impl Board {
     pub fn is_kept(&self, user: Uid) -> bool
         ensures { result ≡ is_kept (trail self.now) user }
     {
-        self.has_session(user) || is_set(self.fact(&Key::Linger(user)))
+        self.has_session(user) || self.fact(&Key::Linger(user)).is_set()
     }
 
     /// The moment that the clock reached last, in milliseconds.
     fn now(&self) -> u64
         ensures { result ≡ now (trail self.now) }
     {
-        moment_in(self.fact(&Key::Now))
+        self.fact(&Key::Now).moment_or_zero()
     }
 
     /// A user is leaving since the moment that it is.
@@ -141,7 +105,7 @@ impl Board {
         ensures marked { trail self.new ≡ leave_known setup.now user (value (trail self.old) (Key.User user)) (trail self.old) }
         ensures journal { self.new.journal ≡ self.old.journal }
     {
-        if is_known(self.fact(&Key::User(user))) {
+        if self.fact(&Key::User(user)).is_known() {
             self.leave(setup, user);
         }
     }
@@ -230,7 +194,7 @@ impl Board {
         ensures marked { trail self.new ≡ exit setup.now session (trail self.old) }
         ensures journal { self.new.journal ≡ self.old.journal }
     {
-        let owner = owner_of(self.fact(&Key::Sess(session)));
+        let owner = self.fact(&Key::Sess(session)).user_or_root();
         self.remove_session(session, closing, gone);
         self.leave(setup, owner);
     }

@@ -10,7 +10,8 @@ ghost use Rattle.login_model.specs.Creating.{create};
 ghost use Rattle.login_model.specs.Direct.{at_session, direct, exit, happen};
 ghost use Rattle.login_model.specs.Policy.{verdict as policy_verdict};
 ghost use Rattle.login_model.specs.declared.rule.Verdict.TheVariants.{Granted};
-ghost use Rattle.login_model.specs.Sound.{IsSound};
+ghost use Rattle.login_model.specs.Built.{is_built, is_built_hardware};
+ghost use Rattle.login_laws.specs.Sound.{IsSound};
 ghost use Rattle.login_core.specs.Calls.{ExitsHere};
 ghost use Rattle.login_core.specs.Kept.{AreReady, AreReadyFor, HaveTexts};
 
@@ -81,6 +82,7 @@ impl Board {
     /// What happens to the machine.
     fn happen(&mut self, setup: &Setup, hardware: &Hardware, texts: &mut Texts)
         requires here { ExitsHere (trail self.old) hardware.now }
+        requires built { is_built_hardware hardware.now ≡ true }
         requires texts { HaveTexts texts.old (trail self.old) }
         requires room { length (happen setup.now hardware.now (trail self.old)) ≤ self.old.journal.reach }
         ensures marked { trail self.new ≡ happen setup.now hardware.now (trail self.old) }
@@ -90,7 +92,7 @@ impl Board {
         match hardware {
             Hardware::VtKey(vt) => self.request(*vt),
             Hardware::Exit(id) => self.exit_id(setup, id, texts),
-            _ => {}
+            _ => unreachable!(),
         }
     }
 
@@ -106,8 +108,9 @@ impl Board {
     /// What a granted event does by itself.
     #[tactic(auto, unfolding(login_model::specs::Direct::direct))]
     pub fn direct(&mut self, setup: &Setup, event: &Event, texts: &mut Texts)
+        requires built { is_built event.now ≡ true }
         requires granted { policy_verdict setup.now (trail self.old) event.now ≡ Granted }
-        requires sound { IsSound (trail self.old) }
+        requires sound { IsSound setup.now (trail self.old) }
         requires ready { AreReady event.now texts.old }
         requires texts { HaveTexts texts.old (trail self.old) }
         requires room { length (direct setup.now event.now (trail self.old)) ≤ self.old.journal.reach }

@@ -9,14 +9,14 @@ ghost use Rattle.login_model.specs.declared.fact.Key.TheVariants.{Sig};
 ghost use Rattle.login_model.specs.declared.fact.Fact.TheVariants.{Signal};
 ghost use Rattle.login_model.specs.declared.session.KillWhom.TheVariants.{All};
 ghost use Rattle.login_model.specs.declared.mark.Notice.TheVariants.{Lock, Unlock};
-ghost use Rattle.login_model.proofs.Grows.{put-grows, tell_all-grows};
+ghost use Rattle.login_laws.proofs.Grows.{put-grows, tell_all-grows};
 ghost use Rattle.login_model.specs.Direct.{lock_session, unlock_session};
 
 use crate::board::Board;
-use crate::board::choosing::{IsOpen, OfUser};
 use crate::board::rounds::Task;
 use login_base::{SessId, Uid};
 use login_model::{Fact, Key, KillWhom};
+use login_table::{IsOpen, OfUser};
 
 /// The screen of a session is to be locked.
 #[derive(Drop)]

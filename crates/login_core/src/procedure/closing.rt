@@ -10,7 +10,7 @@ ghost use Rattle.login_core.specs.Texts.{HasTexts, AreCopies, AreSome};
 use crate::board::Board;
 use crate::room::copies::Copies;
 use login_base::{SeatName, SessId};
-use login_model::{Fact, Key, Look, Notice, Phase, Session, SessionTexts, is_open_fact, seat0};
+use login_model::{Fact, Key, Look, Notice, Phase, Session, SessionTexts, seat0};
 use login_table::{is_active, seat_of_session};
 
 /// A session's fact in another phase, with a copy of its texts.
@@ -115,7 +115,7 @@ impl Board {
         ensures marked { trail self.new ≡ shut session (trail self.old) }
         ensures journal { self.new.journal ≡ self.old.journal }
     {
-        if is_open_fact(self.fact(&Key::Sess(session))) {
+        if self.fact(&Key::Sess(session)).is_open() {
             if let Some(copies) = copies {
                 self.close_session(session, copies);
             }

@@ -6,22 +6,14 @@ ghost use Rattle.login_model.specs.Fresh.{next_handle};
 ghost use Rattle.login_model.specs.Devices.{taken_devices};
 ghost use Rattle.login_model.specs.Procedure.{yes, no, tell_controller, force_handle, force_device, force, renew, revive, resume_handle, resume_device, resume};
 ghost use Rattle.login_model.specs.declared.fact.Key.TheVariants.{Taken};
-ghost use Rattle.login_model.proofs.Grows.{force_handle-grows, resume_handle-grows};
-ghost use Rattle.login_core.specs.Told.{handle_fact, controller_fact, kind_in, kind_fact};
+ghost use Rattle.login_laws.proofs.Grows.{force_handle-grows, resume_handle-grows};
+ghost use Rattle.login_core.specs.Told.{handle_fact, controller_fact, kind_fact};
+ghost use Rattle.login_model.specs.Facts.{kind_in};
 
 use crate::board::Board;
 use crate::board::rounds::{TakenBy, Task};
 use login_base::{ConnId, DevNo, HandleNo, SessId};
 use login_model::{DevKind, Fact, Key, Look, Notice, Owner, PauseKind, Whom};
-
-fn kind_in(fact: &Fact) -> Option<DevKind>
-    ensures { result ≡ kind_in fact.now }
-{
-    match fact {
-        Fact::Device(kind, _) => Some(*kind),
-        _ => None,
-    }
-}
 
 /// A live device of a session is taken from it by force.
 #[derive(Drop)]
@@ -167,7 +159,7 @@ impl Board {
         ensures marked { trail self.new ≡ revive session device handle (value (trail self.old) (Key.Dev device)) (trail self.old) }
         ensures journal { self.new.journal ≡ self.old.journal }
     {
-        let kind = kind_in(self.fact(&Key::Dev(device)));
+        let kind = self.fact(&Key::Dev(device)).device_kind();
         self.revive(session, device, handle, kind);
     }
 

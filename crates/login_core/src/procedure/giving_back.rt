@@ -3,7 +3,7 @@
 ghost use Rattle.std.specs.Prelude.{◌≡◌, ◌+◌, ◌*◌, ◌≤◌, length};
 ghost use Rattle.login_model.specs.Devices.{taken_devices};
 ghost use Rattle.login_model.specs.Procedure.{kill, untake, release, revoke, oust};
-ghost use Rattle.login_model.proofs.Grows.{untake-grows, revoke-grows};
+ghost use Rattle.login_laws.proofs.Grows.{untake-grows, revoke-grows};
 ghost use Rattle.login_core.specs.Told.{handle_fact};
 
 use crate::board::Board;

@@ -3,20 +3,12 @@
 ghost use Rattle.std.specs.Prelude.{◌≡◌, ◌+◌, ◌≤◌, length};
 ghost use Rattle.login_model.specs.Trail.{put};
 ghost use Rattle.login_model.specs.Procedure.{tell_new_user, know, forget};
-ghost use Rattle.login_core.specs.Told.{is_absent, absent_or_known};
+ghost use Rattle.login_core.specs.Told.{absent_or_known};
+ghost use Rattle.login_model.specs.Facts.{is_absent};
 
 use crate::board::Board;
 use login_base::{Millis, Uid};
 use login_model::{Fact, Key, Look, Notice};
-
-fn is_absent(fact: &Fact) -> bool
-    ensures { result ≡ is_absent fact.now }
-{
-    match fact {
-        Fact::Absent => true,
-        _ => false,
-    }
-}
 
 #[tactic(auto, using(crate::proofs::Growing::growing))]
 impl Board {
@@ -57,7 +49,7 @@ impl Board {
         ensures marked { trail self.new ≡ know user (trail self.old) }
         ensures journal { self.new.journal ≡ self.old.journal }
     {
-        let was_absent = is_absent(self.fact(&Key::User(user)));
+        let was_absent = self.fact(&Key::User(user)).is_absent();
         self.put_known(user);
         self.tell_new_user(user, was_absent);
     }

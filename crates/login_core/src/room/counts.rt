@@ -1,149 +1,121 @@
 // How many there are of what needs room.
 
-ghost use Rattle.std.specs.Prelude.{◌≡◌, ◌<◌, ◌≤◌, ◌+◌, ◌^◌, length};
-ghost use Rattle.login_model.specs.declared.fact.Key.TheVariants.{Ctl};
-ghost use Rattle.login_model.specs.Trail.{value};
-ghost use Rattle.login_model.specs.Where.{connections, sessions, users, locks, is_open, open_sessions};
-ghost use Rattle.login_model.specs.Devices.{taken_devices};
-ghost use Rattle.login_model.specs.Full.{is_controlled_fact, controlled_sessions, taken_count, marks_needed};
+ghost use Rattle.std.specs.Prelude.{◌≡◌, ◌+◌, ◌<◌, ◌≤◌, ◌^◌};
+ghost use Rattle.login_model.specs.Full.{marks_needed};
+ghost use Rattle.login_model.specs.Trail.{Trail};
+ghost use Rattle.login_core.specs.Counts.{AreCounted, Fit, Follow, HoldersAreThere, counts_of, one_if};
 
-use login_base::{ConnId, LockNo, SessId, Uid};
-use login_model::{Fact, Key, Look, is_open_fact};
-use login_table::{SessionTest, count, count_sessions};
+use login_model::{Fact, Key};
 
-/// How many clients are connected.
-#[tactic(auto, unfolding(login_model::specs::Where::connections))]
-pub fn count_connections<F: Look>(facts: &F) -> u64
-    requires { length (F.trail facts.now) < 2 ^ 32 }
-    ensures value { result ≡ length (connections (F.trail facts.now)) }
-    ensures bound { result ≤ 2 ^ 32 }
-{
-    count::<ConnId, F>(facts)
+/// How many there are of what needs room in the journal.
+#[derive(Clone, Copy, Debug)]
+pub struct Counts {
+    /// Clients that are connected.
+    pub connections: u32,
+    /// Sessions that some connection controls.
+    pub controlled: u32,
+    /// Locks that stand.
+    pub locks: u32,
+    /// Sessions that are open.
+    pub opened: u32,
+    /// Sessions that are not gone.
+    pub present: u32,
+    /// Pairs of a session and a device that it has taken.
+    pub taken: u32,
+    /// Users that are not absent.
+    pub users: u32,
 }
 
-/// How many sessions are not gone.
-#[tactic(auto, unfolding(login_model::specs::Where::sessions))]
-pub fn count_present<F: Look>(facts: &F) -> u64
-    requires { length (F.trail facts.now) < 2 ^ 32 }
-    ensures value { result ≡ length (sessions (F.trail facts.now)) }
-    ensures bound { result ≤ 2 ^ 32 }
+/// One where it is so, else none.
+fn one_if(is_so: bool) -> u32
+    ensures { result ≡ one_if is_so }
 {
-    count::<SessId, F>(facts)
+    if is_so { 1 } else { 0 }
 }
 
-/// How many users are not absent.
-#[tactic(auto, unfolding(login_model::specs::Where::users))]
-pub fn count_users<F: Look>(facts: &F) -> u64
-    requires { length (F.trail facts.now) < 2 ^ 32 }
-    ensures value { result ≡ length (users (F.trail facts.now)) }
-    ensures bound { result ≤ 2 ^ 32 }
+/// A count that loses so many and gains so many.
+fn moved(count: u32, lost: u32, gained: u32) -> u32
+    requires lost { lost ≤ count }
+    requires gained { count + gained < 2 ^ 32 }
+    ensures { result + lost ≡ count + gained }
 {
-    count::<Uid, F>(facts)
+    count - lost + gained
 }
 
-/// How many locks stand.
-#[tactic(auto, unfolding(login_model::specs::Where::locks))]
-pub fn count_locks<F: Look>(facts: &F) -> u64
-    requires { length (F.trail facts.now) < 2 ^ 32 }
-    ensures value { result ≡ length (locks (F.trail facts.now)) }
-    ensures bound { result ≤ 2 ^ 32 }
-{
-    count::<LockNo, F>(facts)
-}
+impl Counts {
+    /// Nothing is there.
+    pub const NONE: Counts = Counts {
+        connections: 0,
+        controlled: 0,
+        locks: 0,
+        opened: 0,
+        present: 0,
+        taken: 0,
+        users: 0,
+    };
 
-/// It is open.
-#[derive(Drop)]
-struct IsOpen;
-
-impl SessionTest for IsOpen {
-    ghost meets = { λ test t s. is_open t s };
-
-    fn is_met<F: Look>(&self, facts: &F, session: SessId) -> bool {
-        is_open_fact(facts.fact(&Key::Sess(session)))
+    /// What one fact under a key counts for.
+    pub fn of(key: &Key, fact: &Fact) -> Counts
+        ensures { result ≡ counts_of key.now fact.now }
+    {
+        match key {
+            Key::Conn(_) => Counts {
+                connections: one_if(fact.is_connected()),
+                ..Counts::NONE
+            },
+            Key::Ctl(_) => Counts {
+                controlled: one_if(fact.is_controlled()),
+                ..Counts::NONE
+            },
+            Key::Lock(_) => Counts {
+                locks: one_if(fact.is_lock()),
+                ..Counts::NONE
+            },
+            Key::Sess(_) => Counts {
+                opened: one_if(fact.is_open()),
+                present: one_if(fact.is_session()),
+                ..Counts::NONE
+            },
+            Key::Taken(_, _) => Counts {
+                taken: one_if(fact.is_handle()),
+                ..Counts::NONE
+            },
+            Key::User(_) => Counts {
+                users: one_if(fact.is_user()),
+                ..Counts::NONE
+            },
+            _ => Counts::NONE,
+        }
     }
-}
 
-/// How many sessions are open.
-#[tactic(auto, unfolding(login_model::specs::Where::open_sessions))]
-pub fn count_open<F: Look>(facts: &F) -> u64
-    requires { length (F.trail facts.now) < 2 ^ 32 }
-    ensures value { result ≡ length (open_sessions (F.trail facts.now)) }
-    ensures bound { result ≤ 2 ^ 32 }
-{
-    count_sessions(facts, &IsOpen)
-}
-
-fn is_controlled_fact(fact: &Fact) -> bool
-    ensures { result ≡ is_controlled_fact fact.now }
-{
-    match fact {
-        Fact::Controller(_) => true,
-        _ => false,
+    /// The counts when so many are lost and so many are gained.
+    pub fn moved(self, lost: Counts, gained: Counts) -> Counts
+        requires { Fit self lost gained }
+        ensures { Follow self lost gained result }
+    {
+        Counts {
+            connections: moved(self.connections, lost.connections, gained.connections),
+            controlled: moved(self.controlled, lost.controlled, gained.controlled),
+            locks: moved(self.locks, lost.locks, gained.locks),
+            opened: moved(self.opened, lost.opened, gained.opened),
+            present: moved(self.present, lost.present, gained.present),
+            taken: moved(self.taken, lost.taken, gained.taken),
+            users: moved(self.users, lost.users, gained.users),
+        }
     }
-}
 
-/// Some connection controls it.
-#[derive(Drop)]
-struct IsControlled;
-
-impl SessionTest for IsControlled {
-    ghost meets = { λ test t s. is_controlled_fact (value t (Ctl s)) };
-
-    fn is_met<F: Look>(&self, facts: &F, session: SessId) -> bool {
-        is_controlled_fact(facts.fact(&Key::Ctl(session)))
+    /// The marks with those that an event and all ends may make.
+    pub fn marks_needed(self, marks: u32) -> u64
+        ensures { (t : Trail) → AreCounted self t → HoldersAreThere t → result ≡ marks_needed t marks }
+    {
+        u64::from(marks)
+            + u64::from(self.connections)
+            + u64::from(self.controlled)
+            + 4 * u64::from(self.locks)
+            + 4 * u64::from(self.opened)
+            + 32 * u64::from(self.taken)
+            + 8 * u64::from(self.present)
+            + 4 * u64::from(self.users)
+            + 64
     }
-}
-
-/// How many sessions some connection controls.
-pub fn count_controlled<F: Look>(facts: &F) -> u64
-    requires { length (F.trail facts.now) < 2 ^ 32 }
-    ensures value { result ≡ length (controlled_sessions (F.trail facts.now)) }
-    ensures bound { result ≤ 2 ^ 32 }
-{
-    count_sessions(facts, &IsControlled)
-}
-
-/// How many devices a session has taken.
-fn count_taken_by<F: Look>(facts: &F, session: SessId) -> u64
-    requires { length (F.trail facts.now) < 2 ^ 32 }
-    ensures { result ≡ length (taken_devices (F.trail facts.now) session) }
-{
-    let mut count = 0;
-    let mut above = None;
-    while let Some(device) = facts.next_taken(session, above) {
-        count += 1;
-        above = Some(device);
-    }
-    count
-}
-
-/// How many pairs of a session and a device there are that it has taken.
-pub fn count_taken<F: Look>(facts: &F) -> u64
-    requires { length (F.trail facts.now) < 2 ^ 32 }
-    ensures value { result ≡ taken_count (F.trail facts.now) }
-    ensures bound { result ≤ 2 ^ 32 }
-{
-    let mut count = 0;
-    let mut above = None;
-    while let Some(session) = facts.next_session(above) {
-        count += count_taken_by(facts, session);
-        above = Some(session);
-    }
-    count
-}
-
-/// The marks with those that an event and all ends may make.
-pub fn marks_needed<F: Look>(facts: &F, marks: u32) -> u64
-    requires { length (F.trail facts.now) < 2 ^ 32 }
-    ensures { result ≡ marks_needed (F.trail facts.now) marks }
-{
-    u64::from(marks)
-        + count_connections(facts)
-        + count_controlled(facts)
-        + 4 * count_locks(facts)
-        + 4 * count_open(facts)
-        + 32 * count_taken(facts)
-        + 8 * count_present(facts)
-        + 4 * count_users(facts)
-        + 64
 }

@@ -1,15 +1,17 @@
 // Whether the journal is full.
 
-ghost use Rattle.std.specs.Prelude.{◌≡◌, ◌<◌, ◌≤◌, ◌+◌, ◌^◌, length, List};
+ghost use Rattle.std.specs.Prelude.{◌≡◌, ◌≤◌, ◌+◌, ◌^◌, length, List};
 ghost use Rattle.login_model.specs.declared.mark.Entry.{Entry};
 ghost use Rattle.login_model.specs.Legal.{trail_of};
 ghost use Rattle.login_model.specs.declared.setup.Setup.{Setup};
 ghost use Rattle.login_model.specs.Full.{is_granted, mark_count, full};
 ghost use Rattle.login_model.specs.Policy.{verdict as policy_verdict};
+ghost use Rattle.login_model.specs.Trail.{Trail};
+ghost use Rattle.login_core.specs.Counts.{AreCounted, HoldersAreThere};
 ghost use Rattle.login_core.specs.Fullness.{always_fits, connected_by, full_by};
 
-use crate::room::counts::{count_connections, marks_needed};
-use login_model::{Count, Event, Look, Verdict};
+use crate::room::counts::Counts;
+use login_model::{Count, Event, Verdict};
 
 /// The most entries of a journal.
 const MOST_ENTRIES: u64 = 200_000;
@@ -27,12 +29,11 @@ fn is_granted(verdict: Verdict) -> bool
 }
 
 /// The connections that are connected after an event with this verdict.
-pub fn connected_after<F: Look>(facts: &F, event: &Event, verdict: Verdict) -> u64
-    requires { length (F.trail facts.now) < 2 ^ 32 }
-    ensures value { result ≡ connected_by verdict (F.trail facts.now) event.now }
+pub fn connected_after(counts: Counts, event: &Event, verdict: Verdict) -> u64
+    ensures value { (t : Trail) → AreCounted counts t → result ≡ connected_by verdict t event.now }
     ensures bound { result ≤ 2 ^ 33 }
 {
-    let connected = count_connections(facts);
+    let connected = u64::from(counts.connections);
     match event {
         Event::Connect(_, _) => {
             if is_granted(verdict) {
@@ -53,41 +54,40 @@ pub fn always_fits(event: &Event) -> bool
 }
 
 /// The first count of the journal that is above its limit.
-fn full_by<F: Look>(
-    facts: &F,
+fn full_by(
+    counts: Counts,
     entries: u32,
     marks: u32,
     event: &Event,
     verdict: Verdict,
 ) -> Option<Count>
-    requires { length (F.trail facts.now) < 2 ^ 32 }
-    ensures { result ≡ full_by verdict (F.trail facts.now) entries marks event.now }
+    ensures { (t : Trail) → AreCounted counts t → HoldersAreThere t → result ≡ full_by verdict t entries marks event.now }
 {
-    let entries = u64::from(entries) + connected_after(facts, event, verdict) + 2;
+    let entries = u64::from(entries) + connected_after(counts, event, verdict) + 2;
     if entries > MOST_ENTRIES {
         return Some(Count::Entries(entries));
     }
-    let marks = marks_needed(facts, marks);
+    let marks = counts.marks_needed(marks);
     if marks > MOST_MARKS {
         return Some(Count::Marks(marks));
     }
     None
 }
 
-/// Whether a journal of so many entries and marks is full for an event with this verdict, and of what.
-pub fn full<F: Look>(
-    facts: &F,
+/// Whether a journal of so many entries and marks, after which these are the counts, is full for an event with
+/// this verdict, and of what.
+pub fn full(
+    counts: Counts,
     entries: u32,
     marks: u32,
     event: &Event,
     verdict: Verdict,
 ) -> Option<Count>
-    requires { length (F.trail facts.now) < 2 ^ 32 }
-    ensures { (U : Setup) (before : List Entry) → trail_of before ≡ F.trail facts.now → length before ≡ entries → mark_count before ≡ marks → verdict ≡ policy_verdict U (F.trail facts.now) event.now → result ≡ full U before event.now }
+    ensures { (U : Setup) (before : List Entry) → AreCounted counts (trail_of before) → HoldersAreThere (trail_of before) → length before ≡ entries → mark_count before ≡ marks → verdict ≡ policy_verdict U (trail_of before) event.now → result ≡ full U before event.now }
 {
     if always_fits(event) {
         None
     } else {
-        full_by(facts, entries, marks, event, verdict)
+        full_by(counts, entries, marks, event, verdict)
     }
 }

@@ -8,7 +8,7 @@ ghost use Rattle.login_model.specs.Devices.{taken_devices};
 ghost use Rattle.login_model.specs.Procedure.{if_some, yes, no, tell_controller, resume};
 ghost use Rattle.login_model.specs.Switching.{await_handle, await_device, await_devices, unawait_devices, is_pending_fact, ask_switch, withdraw_switch, request};
 ghost use Rattle.login_model.specs.declared.fact.Key.TheVariants.{Taken, Awaited};
-ghost use Rattle.login_model.proofs.Grows.{put-grows, await_handle-grows};
+ghost use Rattle.login_laws.proofs.Grows.{put-grows, await_handle-grows};
 ghost use Rattle.login_core.specs.Told.{handle_fact};
 
 use crate::board::Board;
@@ -16,15 +16,6 @@ use crate::board::rounds::{TakenBy, Task};
 use login_base::{DevNo, HandleNo, SessId};
 use login_model::{Fact, Key, Look, Notice, PauseKind, seat0};
 use login_table::{active_on, current_vt};
-
-fn is_pending_fact(fact: &Fact) -> bool
-    ensures { result ≡ is_pending_fact fact.now }
-{
-    match fact {
-        Fact::Number(_) => true,
-        _ => false,
-    }
-}
 
 /// The pause of a session's device is awaited, if it is live.
 #[derive(Drop)]
@@ -170,7 +161,7 @@ impl Board {
     fn is_pending(&self) -> bool
         ensures { result ≡ is_pending_fact (value (trail self.now) Key.Pending) }
     {
-        is_pending_fact(self.fact(&Key::Pending))
+        self.fact(&Key::Pending).is_number()
     }
 
     /// Another terminal is asked for; the current one withdraws a switch that is pending.

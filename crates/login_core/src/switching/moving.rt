@@ -4,7 +4,8 @@ ghost use Rattle.std.specs.Prelude.{◌≡◌, ◌+◌, ◌*◌, ◌≤◌, leng
 ghost use Rattle.login_model.specs.Start.{seat0};
 ghost use Rattle.login_model.specs.Where.{active_on};
 ghost use Rattle.login_model.specs.Switching.{ask_getty, tell_change, arrive, move_to, complete, settle_switch};
-ghost use Rattle.login_core.specs.Told.{terminal_in, terminal_fact};
+ghost use Rattle.login_core.specs.Told.{terminal_fact};
+ghost use Rattle.login_model.specs.Facts.{number_in_fact};
 ghost use Rattle.login_model.specs.Trail.{value};
 ghost use Rattle.login_model.specs.Devices.{is_awaiting};
 
@@ -12,15 +13,6 @@ use crate::board::Board;
 use login_base::SessId;
 use login_model::{Fact, Key, Look, Notice, Setup, seat0};
 use login_table::{active_on, session_on};
-
-fn terminal_in(fact: &Fact) -> Option<u32>
-    ensures { result ≡ terminal_in fact.now }
-{
-    match fact {
-        Fact::Number(vt) => Some(*vt),
-        _ => None,
-    }
-}
 
 #[tactic(auto, using(crate::proofs::Growing::growing))]
 impl Board {
@@ -82,9 +74,9 @@ impl Board {
 
     /// The virtual terminal to which seat0 is about to switch.
     fn pending_terminal(&self) -> Option<u32>
-        ensures { result ≡ terminal_in (value (trail self.now) Key.Pending) }
+        ensures { result ≡ number_in_fact (value (trail self.now) Key.Pending) }
     {
-        terminal_in(self.fact(&Key::Pending))
+        self.fact(&Key::Pending).number()
     }
 
     fn move_now(&mut self, setup: &Setup, vt: u32)

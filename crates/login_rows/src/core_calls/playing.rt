@@ -12,7 +12,6 @@ use login_base::{ConnId, Items, NoMemory, Uid, Word};
 use login_core::{Core, Refused};
 use login_model::{
     Call, Conf, Creation, Entry, Event, Key, Look, Request, Setup, Table, UserRow, is_built,
-    is_connected_fact,
 };
 use std::alloc::Global;
 
@@ -110,7 +109,7 @@ fn is_unused(entries: &[Entry], who: ConnId) -> bool
 pub fn is_connected(core: &Core, who: ConnId) -> bool
     ensures { result ≡ is_connected (trail_of core.now.journal) who }
 {
-    is_connected_fact(core.fact(&Key::Conn(who)))
+    core.fact(&Key::Conn(who)).is_connected()
 }
 
 /// Whether these bytes are a text of at most so many bytes: UTF-8 without NUL.
@@ -172,12 +171,12 @@ fn fits(core: &Core, event: &Event) -> bool
 fn is_next(core: &Core, event: &Event) -> bool
     ensures { IsTrue result → IsPlaced core.now.journal event.now }
 {
-    core.stopped(event).is_none() && fits(core, event)
+    is_built(event) && core.stopped(event).is_none() && fits(core, event)
 }
 
 /// Makes room for an event, and steps it; whether it could.
 pub fn play(core: &mut Core, event: Event) -> bool {
-    if !is_built(&event) || !is_next(core, &event) {
+    if !is_next(core, &event) {
         drop(event);
         return false;
     }

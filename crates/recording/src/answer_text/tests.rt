@@ -1,7 +1,8 @@
 // The values of each answer.
 
 use super::*;
-use login_base::{Items, Word};
+use login_base::{ConnId, Items, Word};
+use login_model::{Inhibited, LockMode};
 use std::alloc::Global;
 use std::test::Fail;
 
@@ -109,5 +110,69 @@ fn a_list_of_seats(rt: HostRuntime) -> Result<(), Fail> {
         text.as_slice(),
         " [(seat /org/freedesktop/login1/seat/seat) (seat-x /org/freedesktop/login1/seat/seat_2dx) (seat0 /org/freedesktop/login1/seat/seat0)]".as_bytes()
     );
+    Ok(())
+}
+
+/// A lock on the sleep and the lid.
+fn a_lock(alloc: Global) -> Result<Lock, NoMemory> {
+    Ok(Lock {
+        what: Inhibited {
+            shutdown: false,
+            sleep: true,
+            idle: false,
+            handle_power_key: false,
+            handle_suspend_key: false,
+            handle_hibernate_key: false,
+            handle_lid_switch: true,
+        },
+        mode: LockMode::Block,
+        uid: Uid(1000),
+        who: Word::from_slice(alloc, b"a player")?,
+        why: Word::new(alloc),
+        holder: ConnId(7),
+    })
+}
+
+#[test]
+fn a_list_of_locks(rt: HostRuntime) -> Result<(), Fail> {
+    let alloc = rt.alloc();
+    let mut locks = Items::new(alloc);
+    locks.push(a_lock(alloc)?)?;
+    assert_eq!(rt;
+        printed(alloc, &Answer::Inhibitors(locks))?.as_slice(),
+        " [(sleep:handle-lid-switch a%20player % block 1000 7)]".as_bytes()
+    );
+    Ok(())
+}
+
+#[test]
+fn what_devices_reported(rt: HostRuntime) -> Result<(), Fail> {
+    let alloc = rt.alloc();
+    let mut inputs = Items::new(alloc);
+    for (kind, code, value) in [(1, 30, 1), (3, 65535, -2147483648)] {
+        inputs.push(Input { kind, code, value })?;
+    }
+    assert_eq!(rt;
+        printed(alloc, &Answer::Inputs(inputs))?.as_slice(),
+        " [(1 30 1) (3 65535 -2147483648)]".as_bytes()
+    );
+    Ok(())
+}
+
+#[test]
+fn handles_and_what_can_be(rt: HostRuntime) -> Result<(), Fail> {
+    for (answer, expected) in [
+        (Answer::Can(Say::No), " no"),
+        (Answer::Can(Say::Challenge), " challenge"),
+        (Answer::Can(Say::Yes), " yes"),
+        (Answer::Handle(HandleNo(5)), " 5"),
+        (Answer::Taken(HandleNo(5), false), " 5 false"),
+        (Answer::Taken(HandleNo(6), true), " 6 true"),
+    ] {
+        assert_eq!(rt;
+            printed(rt.alloc(), &answer)?.as_slice(),
+            expected.as_bytes()
+        );
+    }
     Ok(())
 }

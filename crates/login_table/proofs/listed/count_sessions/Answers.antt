@@ -10,13 +10,13 @@ one b = cond b 1 0
 pub loop-session-init : goal.loop-session-init
 loop-session-init g c =
     let t = g.F.Look.trail c.args.facts.now in
-    let p = g.T.SessionTest.meets c.args.test.now t in
+    let p = g.T.Test.meets c.args.test.now t in
     ap (λ (xs : List SessId). length (filter p xs)) (sessions-all t) ∙ met-start session_kind t p
 
 pub overflow_add-count : goal.overflow_add-count
 overflow_add-count g c =
     let t = g.F.Look.trail c.args.facts.now in
-    let p = g.T.SessionTest.meets c.args.test.now t in
+    let p = g.T.Test.meets c.args.test.now t in
     let e = session-fits t p c.loop-session.count (c.loop-session.count + c.one_if-count.result) c.loop-session.above c.in-Some.session c.loop-session.invariant c.in-Some.ensures
     (ap (λ (n : ℕ). c.loop-session.count + n) (c.one_if-count.ensures ∙ ap one c.is_met.ensures)) c.requires in
     omega arith
@@ -27,20 +27,20 @@ loop-session-smaller g c = count-less session_kind (g.F.Look.trail c.args.facts.
 pub loop-session-preserved : goal.loop-session-preserved
 loop-session-preserved g c =
     let t = g.F.Look.trail c.args.facts.now in
-    let p = g.T.SessionTest.meets c.args.test.now t in
+    let p = g.T.Test.meets c.args.test.now t in
     met-next session_kind t p (length (filter p (sessions t))) c.loop-session.count (c.loop-session.count + c.one_if-count.result) c.loop-session.above c.in-Some.session c.loop-session.invariant c.in-Some.ensures
     (ap (λ (n : ℕ). c.loop-session.count + n) (c.one_if-count.ensures ∙ ap one c.is_met.ensures))
 
 pub returns-clause-value : goal.returns-clause-value
 returns-clause-value g c =
     let t = g.F.Look.trail c.args.facts.now in
-    let p = g.T.SessionTest.meets c.args.test.now t in
+    let p = g.T.Test.meets c.args.test.now t in
     met-none session_kind t p (length (filter p (sessions t))) c.loop-session.count c.loop-session.above c.loop-session.invariant c.in_default.ensures
 
 pub returns-clause-bound : goal.returns-clause-bound
 returns-clause-bound g c =
     let t = g.F.Look.trail c.args.facts.now in
-    let p = g.T.SessionTest.meets c.args.test.now t in
+    let p = g.T.Test.meets c.args.test.now t in
     let e = met-none session_kind t p (length (filter p (sessions t))) c.loop-session.count c.loop-session.above c.loop-session.invariant c.in_default.ensures in
     let w = met-length session_kind t p in
     let m = ap (λ (xs : List SessId). length (filter p xs)) (sessions-all t) in

@@ -7,7 +7,7 @@ use Rattle.login_table.proofs.listed.count_sessions.Given as goal
 abbrev pub invariant-loop-session : goal.invariant-loop-session
 invariant-loop-session g l =
     let t = g.F.Look.trail l.facts in
-    let p = g.T.SessionTest.meets l.test t in
+    let p = g.T.Test.meets l.test t in
     length (filter p (sessions t)) ≡ l.count + length (filter p (left session_kind t l.above))
 
 abbrev pub decreases-loop-session : goal.decreases-loop-session

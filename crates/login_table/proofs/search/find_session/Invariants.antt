@@ -7,7 +7,7 @@ use Rattle.login_table.proofs.search.find_session.Given as goal
 abbrev pub invariant-loop-session : goal.invariant-loop-session
 invariant-loop-session g l =
     let t = g.F.Look.trail l.facts in
-    let p = g.T.SessionTest.meets l.test t in
+    let p = g.T.Test.meets l.test t in
     find p (left session_kind t l.above) ≡ find p (sessions t)
 
 abbrev pub decreases-loop-session : goal.decreases-loop-session

@@ -5,7 +5,7 @@ use Rattle.login_model.specs.Procedure.{if_some, resume}
 use Rattle.login_model.specs.Switching.{tell_change, arrive}
 use Rattle.login_core.specs.Board.{trail}
 use Rattle.login_core.proofs.Growing.{fits}
-use Rattle.login_model.proofs.Grows.{if_some-grows, resume-grows}
+use Rattle.login_laws.proofs.Grows.{if_some-grows, resume-grows}
 use Rattle.login_core.proofs.board.Board.arrive.Goals as goal
 
 pub resume_some-requires : goal.resume_some-requires

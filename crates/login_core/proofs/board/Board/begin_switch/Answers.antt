@@ -9,7 +9,7 @@ use Rattle.login_model.specs.Procedure.{if_some}
 use Rattle.login_model.specs.Switching.{await_devices}
 use Rattle.login_core.specs.Board.{trail}
 use Rattle.login_core.proofs.Growing.{fits}
-use Rattle.login_model.proofs.Grows.{if_some-grows, await_devices-grows}
+use Rattle.login_laws.proofs.Grows.{if_some-grows, await_devices-grows}
 use Rattle.login_core.proofs.board.Board.begin_switch.Goals as goal
 
 pub await_some-requires : goal.await_some-requires

@@ -4,7 +4,7 @@ use Rattle.login_model.specs.Where.{active_on}
 use Rattle.login_model.specs.Procedure.{take_seat, resume}
 use Rattle.login_core.specs.Board.{trail}
 use Rattle.login_core.proofs.Growing.{fits}
-use Rattle.login_model.proofs.Grows.{resume-grows}
+use Rattle.login_laws.proofs.Grows.{resume-grows}
 use Rattle.login_core.proofs.board.Board.come_front.Goals as goal
 
 pub take_seat-requires : goal.take_seat-requires

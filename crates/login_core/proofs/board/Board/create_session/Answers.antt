@@ -5,7 +5,7 @@ use Rattle.login_model.specs.Fresh.{next_handle}
 use Rattle.login_model.specs.MadeWith.{texts_in}
 use Rattle.login_model.specs.Trail.{Trail, value}
 use Rattle.login_model.specs.declared.fact.Key.TheVariants.{Sess}
-use Rattle.login_model.proofs.Comings.{Comes, create-comes}
+use Rattle.login_laws.proofs.Comings.{Comes, create-comes}
 use Rattle.login_core.specs.Board.{trail}
 use Rattle.login_core.specs.Kept.{AreFresh}
 use Rattle.login_core.specs.Texts.{session_texts}

@@ -6,8 +6,8 @@ use Rattle.login_model.specs.declared.event.Event.{Event}
 use Rattle.login_model.specs.declared.fact.Fact.TheVariants.{Connected}
 use Rattle.login_model.specs.declared.fact.Key.TheVariants.{Conn, Sess}
 use Rattle.login_model.specs.declared.rule.Verdict.TheVariants.{Granted}
-use Rattle.login_model.proofs.Carried.{tick-carried}
-use Rattle.login_model.proofs.Tame.{Tame, tame, later-along, other}
+use Rattle.login_laws.proofs.Carried.{tick-carried}
+use Rattle.login_laws.proofs.Tame.{Tame, tame, tame-clocked, later-along, other}
 use Rattle.login_core.specs.Board.{trail}
 use Rattle.login_core.proofs.GrantedLaws.{exits, named, unmade}
 use Rattle.login_core.proofs.TextsKept.{AllLater, going-later, texts-later}
@@ -15,7 +15,7 @@ use Rattle.login_core.proofs.TextsEnd.{disconnect-later}
 use Rattle.login_core.proofs.board.Board.direct.Goals as goal
 
 pub direct_call-requires-clause-unmade : goal.direct_call-requires-clause-unmade
-direct_call-requires-clause-unmade c = unmade (trail c.args.self.now) c.requires.sound
+direct_call-requires-clause-unmade c = unmade c.args.setup.now (trail c.args.self.now) c.requires.sound
 
 pub direct_call-requires-clause-named : goal.direct_call-requires-clause-named
 direct_call-requires-clause-named c =
@@ -48,5 +48,5 @@ pub returns-in-Tick-clause-texts : goal.returns-in-Tick-clause-texts
 returns-in-Tick-clause-texts c =
     let t = trail c.args.self.now in
     let P : Trail → Type 0 = Tame t in
-    let p = subst P (sym c.tick.ensures.marked) (tick-carried tame c.args.setup.now c.in-Tick.moment t) in
+    let p = subst P (sym c.tick.ensures.marked) (tick-carried tame tame-clocked c.args.setup.now c.in-Tick.moment t) in
     texts-later c.args.texts.now t (trail c.tick.new.self) p.sessions c.requires.texts

@@ -3,8 +3,8 @@ use Rattle.login_base.specs.SessionId.{session_of}
 use Rattle.login_model.specs.Procedure.{shut}
 use Rattle.login_model.specs.Trail.{Trail}
 use Rattle.login_model.specs.Where.{sessions_of, sessions_on}
-use Rattle.login_model.proofs.Carried.{close-carried, direct_call-carried, each-carried, if_some-carried, shut-carried}
-use Rattle.login_model.proofs.Tame.{Tame, tame}
+use Rattle.login_laws.proofs.Carried.{call-carried, close-carried, each-carried, if_some-carried, shut-carried}
+use Rattle.login_laws.proofs.Tame.{Tame, tame, tame-clocked, tame-operated, tame-switched, tame-unlocks}
 use Rattle.login_core.specs.Board.{trail}
 use Rattle.login_core.proofs.TextsKept.{going-later, texts-later}
 use Rattle.login_core.proofs.board.Board.direct_call.Goals as goal
@@ -34,14 +34,14 @@ pub returns-in-Close-clause-texts : goal.returns-in-Close-clause-texts
 returns-in-Close-clause-texts c =
     let t = trail c.args.self.now in
     let P : Trail → Type 0 = Tame t in
-    let p = subst P (sym c.close_kept.ensures.marked) (close-carried tame c.in-Close.handle t) in
+    let p = subst P (sym c.close_kept.ensures.marked) (close-carried tame tame-unlocks c.in-Close.handle t) in
     record { closing = c.close_kept.ensures.copies; gone = going-later c.args.texts.now.gone.items t (trail c.close_kept.new.self) p.sessions c.requires.texts.gone }
 
 pub returns-in_default : goal.returns-in_default
 returns-in_default c =
     let t = trail c.args.self.now in
     let P : Trail → Type 0 = Tame t in
-    let p = subst P (sym c.call_plain.ensures.marked) (direct_call-carried tame c.args.setup.now c.args.who c.args.call.now t (λ x e. absurd (c.in_default.not-Create x e))) in
+    let p = subst P (sym c.call_plain.ensures.marked) (call-carried tame tame-clocked tame-switched tame-operated c.args.setup.now c.args.who c.args.call.now t (λ x e. absurd (c.in_default.not-Create x e))) in
     record {
       marked = c.call_plain.ensures.marked;
       journal = c.call_plain.ensures.journal;

@@ -4,9 +4,9 @@ use Rattle.login_model.specs.declared.fact.Fact.TheVariants.{Absent}
 use Rattle.login_model.specs.Trail.{Trail, value, put}
 use Rattle.login_model.specs.Procedure.{each, release, shut}
 use Rattle.login_model.specs.Direct.{controlled_by, kept_open_by, locks_of, end_sessions, unlock, disconnect}
-use Rattle.login_model.proofs.Grows.{Grows, each-grows, shut-grows, put-grows, grows-trans}
-use Rattle.login_model.proofs.Carried.{each-carried, release-carried}
-use Rattle.login_model.proofs.Tame.{Tame, tame, later-along, other}
+use Rattle.login_laws.proofs.Grows.{Grows, each-grows, shut-grows, put-grows, grows-trans}
+use Rattle.login_laws.proofs.Carried.{each-carried, release-carried}
+use Rattle.login_laws.proofs.Tame.{Tame, tame, later-along, other, tame-unlocks}
 use Rattle.login_core.specs.Board.{trail}
 use Rattle.login_base.specs.declared.ids.ConnId.{ConnId}
 use Rattle.login_core.proofs.Growing.{fits}
@@ -63,7 +63,7 @@ release_controlled-requires c =
     record { room = omega (arith, c.requires.room) }
 
 unlock-tame : (who : ConnId) (t : Trail) → Tame t (unlock who t)
-unlock-tame who t = each-carried tame (λ l u. put (Lock l) Absent u) (λ l u. tame.put (Lock l) Absent u refl) (locks_of t who) t
+unlock-tame who t = each-carried tame (λ l u. put (Lock l) Absent u) tame-unlocks (locks_of t who) t
 
 pub end_sessions-requires-clause-copies : goal.end_sessions-requires-clause-copies
 end_sessions-requires-clause-copies c =

@@ -6,7 +6,7 @@ use Rattle.login_model.specs.declared.fact.Key.TheVariants.{Sess}
 use Rattle.login_model.specs.Trail.{value, tell_all}
 use Rattle.login_model.specs.Procedure.{leave, set_phase, shut}
 use Rattle.login_model.specs.Direct.{exit, owner_of}
-use Rattle.login_model.proofs.Grows.{leave-grows}
+use Rattle.login_laws.proofs.Grows.{leave-grows}
 use Rattle.login_core.specs.Board.{trail}
 use Rattle.login_core.proofs.Growing.{fits}
 use Rattle.login_core.proofs.board.Board.exit.Goals as goal
@@ -19,14 +19,14 @@ remove_session-requires c =
     let g = leave-grows c.args.setup.now (owner_of (value t (Sess s))) (tell_all (SessionRemoved s) (set_phase s Gone (shut s t))) in
     record { closing = c.requires.closing; gone = c.requires.gone; room = omega (arith, c.requires.room) }
 
-left : (c : goal.After-leave-arg-1) → leave c.args.setup.now c.owner_of-owner.result (trail c.remove_session.new.self) ≡ exit c.args.setup.now c.args.session (trail c.args.self.now)
+left : (c : goal.After-leave-arg-1) → leave c.args.setup.now c.user_or_root-owner.result (trail c.remove_session.new.self) ≡ exit c.args.setup.now c.args.session (trail c.args.self.now)
 unfolding exit
 left c =
     let U = c.args.setup.now in
     let s = c.args.session in
     let t = trail c.args.self.now in
-    ap (leave U c.owner_of-owner.result) c.remove_session.ensures.marked
-    ∙ ap (λ (u : Uid). leave U u (tell_all (SessionRemoved s) (set_phase s Gone (shut s t)))) (c.owner_of-owner.ensures ∙ ap owner_of c.fact.ensures)
+    ap (leave U c.user_or_root-owner.result) c.remove_session.ensures.marked
+    ∙ ap (λ (u : Uid). leave U u (tell_all (SessionRemoved s) (set_phase s Gone (shut s t)))) (c.user_or_root-owner.ensures ∙ ap owner_of c.fact.ensures)
 
 pub leave-requires : goal.leave-requires
 leave-requires c = record { room = fits _ _ c.args.self.now.journal c.remove_session.new.self.journal (left c) c.remove_session.ensures.journal c.requires.room }

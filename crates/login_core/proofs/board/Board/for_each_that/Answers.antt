@@ -1,4 +1,4 @@
-use Rattle.std.proofs.Common.{◌∙◌, List, length, filter, ap, sym, arith}
+use Rattle.std.proofs.Common.{◌∙◌, length, ap, arith}
 use Rattle.login_model.specs.Names.{names, insert_some}
 use Rattle.login_model.specs.Procedure.{each}
 use Rattle.login_table.specs.Listed.{is_there}

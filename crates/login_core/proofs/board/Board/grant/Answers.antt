@@ -1,10 +1,18 @@
-use Rattle.std.proofs.Common.{sym, subst, arith}
+use Rattle.std.proofs.Common.{◌≡◌, ◌∙◌, true, length, sym, ap, subst, arith}
+use Rattle.login_model.specs.Built.{is_built}
 use Rattle.login_model.specs.Direct.{direct}
+use Rattle.login_model.specs.Settle.{settle}
+use Rattle.login_model.specs.Switching.{settle_switch}
+use Rattle.login_model.specs.declared.event.Event.{Event}
+use Rattle.login_model.specs.declared.setup.Setup.{Setup}
 use Rattle.login_model.specs.Trail.{Trail}
-use Rattle.login_model.proofs.Carried.{settle-carried}
-use Rattle.login_model.proofs.Grows.{settle-grows}
-use Rattle.login_model.proofs.Tame.{Tame, tame}
+use Rattle.login_laws.proofs.Carried.{settle_switch-carried}
+use Rattle.login_laws.proofs.Grows.{settle-grows}
+use Rattle.login_laws.proofs.Quiet.{direct-quiet, settle-quiet}
+use Rattle.login_laws.proofs.Tame.{Tame, tame, tame-switched}
+use Rattle.login_laws.specs.Quiet.{IsQuiet}
 use Rattle.login_core.specs.Board.{trail}
+use Rattle.login_core.specs.Ledger.{LedgerState}
 use Rattle.login_core.proofs.TextsKept.{texts-later}
 use Rattle.login_core.proofs.board.Board.grant.Goals as goal
 
@@ -19,5 +27,21 @@ pub returns-clause-texts : goal.returns-clause-texts
 returns-clause-texts c =
     let t = trail c.direct.new.self in
     let P : Trail → Type 0 = Tame t in
-    let p = subst P (sym c.settle_switch.ensures.marked) (settle-carried tame c.args.setup.now t) in
+    let p = subst P (sym c.settle_switch.ensures.marked) (settle_switch-carried tame tame-switched c.args.setup.now t) in
     texts-later c.direct.new.texts t (trail c.settle_switch.new.self) p.sessions c.direct.ensures.texts
+
+-- no operation waits, so that the switch is all that is settled
+settled : (U : Setup) (e : Event) (t m : Trail) → is_built e ≡ true → IsQuiet t → m ≡ direct U e t → settle U (direct U e t) ≡ settle_switch U m
+settled U e t m b q h = settle-quiet U (direct U e t) (direct-quiet U e t b q) ∙ ap (settle_switch U) (sym h)
+
+pub settle_switch-requires : goal.settle_switch-requires
+settle_switch-requires c =
+    let s = ap length (settled c.args.setup.now c.args.event.now (trail c.args.self.now) (trail c.direct.new.self) c.requires.built c.requires.quiet c.direct.ensures.marked) in
+    let j = ap (λ (l : LedgerState). l.reach) c.direct.ensures.journal in
+    let h = c.requires.room in
+    record { room = omega arith }
+
+pub returns-clause-marked : goal.returns-clause-marked
+returns-clause-marked c =
+    c.settle_switch.ensures.marked
+    ∙ sym (settled c.args.setup.now c.args.event.now (trail c.args.self.now) (trail c.direct.new.self) c.requires.built c.requires.quiet c.direct.ensures.marked)

@@ -4,10 +4,11 @@ use Rattle.login_model.specs.declared.fact.Fact.TheVariants.{Known}
 use Rattle.login_model.specs.Trail.{value, put}
 use Rattle.login_model.specs.Procedure.{know, tell_new_user}
 use Rattle.login_core.specs.Board.{trail}
-use Rattle.login_core.specs.Told.{is_absent, absent_or_known}
+use Rattle.login_core.specs.Told.{absent_or_known}
+use Rattle.login_model.specs.Facts.{is_absent}
 use Rattle.login_core.proofs.Told.{greeted}
 use Rattle.login_core.proofs.Growing.{fits}
-use Rattle.login_model.proofs.Grows.{tell_new_user-grows}
+use Rattle.login_laws.proofs.Grows.{tell_new_user-grows}
 use Rattle.login_core.proofs.board.Board.know.Goals as goal
 
 pub returns-clause-marked : goal.returns-clause-marked

@@ -1,17 +1,15 @@
 use Rattle.std.proofs.Common.{◌≡◌, ℕ, ◌+◌, ◌<◌, ◌≤◌, ◌^◌, ◌∙◌, [], ◌∷◌, ◌++◌, List, sym, ap, subst, true, false, length, add-one, arith}
 use Rattle.login_model.specs.Same.{same_fact}
 use Rattle.login_model.specs.Trail.{Trail, value, put}
-use Rattle.login_model.specs.Fresh.{fresh_session, fresh_handle}
 use Rattle.login_model.specs.declared.fact.Key.{Key}
 use Rattle.login_model.specs.declared.fact.Fact.{Fact}
 use Rattle.login_model.specs.declared.mark.Mark.{Mark}
 use Rattle.login_model.specs.declared.mark.Mark.TheVariants.{Set}
 use Rattle.login_model.specs.declared.mark.Entry.{Entry}
-use Rattle.login_core.specs.Facts.{StandFor, opens, gives}
+use Rattle.login_core.specs.Facts.{StandFor}
 use Rattle.login_core.specs.UnderWay.{so_far}
 use Rattle.login_core.specs.Board.{trail}
-use Rattle.login_core.proofs.Counting.{opens-bound, gives-bound, sessions-bound, handles-bound}
-use Rattle.login_core.proofs.Standing.{opened, so_far-more, put-same, put-other}
+use Rattle.login_core.proofs.Standing.{so_far-more, put-same, put-other}
 use Rattle.login_core.proofs.board.Board.put.Goals as goal
 
 pub returns-then-is_same_fact-clause-marked : goal.returns-then-is_same_fact-clause-marked
@@ -22,27 +20,13 @@ returns-then-is_same_fact-clause-marked c =
 one-more : (k : Key) (x : Fact) (t : Trail) (n : ℕ) → same_fact (value t k) x ≡ false → length (put k x t) ≤ n → length t + 1 ≤ n
 one-more k x t n other room = let e = ap length (put-other k x t other) in let f : length (Set k x ∷ t) ≡ length t + 1 = sym (add-one (length t)) in omega arith
 
-pub set-requires-clause-session : goal.set-requires-clause-session
-set-requires-clause-session c =
+pub set-requires-clause-few : goal.set-requires-clause-few
+set-requires-clause-few c =
     let m = c.args.self.now in
     let other : same_fact (value (trail m) c.args.key) c.args.fact ≡ false = ap (λ (f : Fact). same_fact f c.args.fact) (sym c.fact.ensures) ∙ sym c.is_same_fact.ensures ∙ c.if-is_same_fact.false in
-    let same : m.facts.session ≡ fresh_session (trail m) = (opened m.facts (trail m) m.stands).session in
-    let most : fresh_session (trail m) ≤ length (trail m) + 1 = sessions-bound (trail m) in
-    let one : opens c.args.key c.args.copy ≤ 1 = opens-bound c.args.key c.args.copy in
     let numbered : m.journal.reach + 2 < 2 ^ 32 = m.numbered in
     let room : length (trail m) + 1 ≤ m.journal.reach = one-more c.args.key c.args.fact (trail m) m.journal.reach other c.requires.room in
-    omega arith
-
-pub set-requires-clause-handle : goal.set-requires-clause-handle
-set-requires-clause-handle c =
-    let m = c.args.self.now in
-    let other : same_fact (value (trail m) c.args.key) c.args.fact ≡ false = ap (λ (f : Fact). same_fact f c.args.fact) (sym c.fact.ensures) ∙ sym c.is_same_fact.ensures ∙ c.if-is_same_fact.false in
-    let same : m.facts.handle ≡ fresh_handle (trail m) = (opened m.facts (trail m) m.stands).handle in
-    let most : fresh_handle (trail m) ≤ length (trail m) + 1 = handles-bound (trail m) in
-    let one : gives c.args.key c.args.copy ≤ 1 = gives-bound c.args.key c.args.copy in
-    let numbered : m.journal.reach + 2 < 2 ^ 32 = m.numbered in
-    let room : length (trail m) + 1 ≤ m.journal.reach = one-more c.args.key c.args.fact (trail m) m.journal.reach other c.requires.room in
-    omega arith
+    record { marks = trail m; stand = m.stands; few = omega arith }
 
 pub set-requires-clause-spare : goal.set-requires-clause-spare
 set-requires-clause-spare c =

@@ -4,7 +4,8 @@ use Rattle.login_model.specs.Trail.{value}
 use Rattle.login_model.specs.declared.hardware.DevKind.{DevKind}
 use Rattle.login_model.specs.Procedure.{revive}
 use Rattle.login_core.specs.Board.{trail}
-use Rattle.login_core.specs.Told.{kind_in, kind_fact}
+use Rattle.login_core.specs.Told.{kind_fact}
+use Rattle.login_model.specs.Facts.{kind_in}
 use Rattle.login_core.proofs.Told.{revived}
 use Rattle.login_core.proofs.board.Board.revive_device.Goals as goal
 
@@ -15,5 +16,5 @@ returns-clause-marked c =
     let h = c.args.handle in
     let t = trail c.args.self.now in
     c.revive.ensures.marked
-    ∙ ap (λ (o : Option DevKind). revive s d h (kind_fact o) t) (c.kind_in-kind.ensures ∙ ap kind_in c.fact.ensures)
+    ∙ ap (λ (o : Option DevKind). revive s d h (kind_fact o) t) (c.device_kind-kind.ensures ∙ ap kind_in c.fact.ensures)
     ∙ revived s d h (value t (key.Dev d)) t

@@ -1,7 +1,7 @@
 use Rattle.std.proofs.Common.{◌∙◌, sym, subst}
 use Rattle.login_model.specs.Trail.{Trail}
-use Rattle.login_model.proofs.Carried.{shut-carried}
-use Rattle.login_model.proofs.Tame.{Tame, tame}
+use Rattle.login_laws.proofs.Carried.{shut-carried}
+use Rattle.login_laws.proofs.Tame.{Tame, tame}
 use Rattle.login_core.specs.Board.{trail}
 use Rattle.login_core.proofs.ShutLaws.{kept-shut}
 use Rattle.login_core.proofs.board.Board.shut_kept.Goals as goal

@@ -1,5 +1,5 @@
 use Rattle.login_model.specs.Procedure.{shut}
-use Rattle.login_model.proofs.Grows.{shut-grows}
+use Rattle.login_laws.proofs.Grows.{shut-grows}
 use Rattle.login_core.specs.Board.{trail}
 use Rattle.login_core.specs.Ending.{sessions_such}
 use Rattle.login_core.proofs.Going.{going-start, going-room, going-less, going-step, going-end}

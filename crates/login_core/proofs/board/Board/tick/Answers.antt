@@ -5,7 +5,7 @@ use Rattle.login_model.specs.declared.fact.Fact.TheVariants.{Moment}
 use Rattle.login_model.specs.Trail.{Trail, put}
 use Rattle.login_model.specs.Procedure.{each, forget}
 use Rattle.login_model.specs.Direct.{overdue, tick}
-use Rattle.login_model.proofs.Grows.{each-grows, forget-grows}
+use Rattle.login_laws.proofs.Grows.{each-grows, forget-grows}
 use Rattle.login_core.specs.Board.{trail}
 use Rattle.login_core.proofs.Departing.{late-then}
 use Rattle.login_core.proofs.Growing.{fits}

@@ -9,7 +9,7 @@ use Rattle.login_model.specs.Procedure.{if_some, resume}
 use Rattle.login_model.specs.Switching.{unawait_devices, withdraw_switch}
 use Rattle.login_core.specs.Board.{trail}
 use Rattle.login_core.proofs.Growing.{fits}
-use Rattle.login_model.proofs.Grows.{if_some-grows, resume-grows, unawait_devices-grows}
+use Rattle.login_laws.proofs.Grows.{if_some-grows, resume-grows, unawait_devices-grows}
 use Rattle.login_core.proofs.board.Board.withdraw_switch.Goals as goal
 
 pub unawait_some-requires : goal.unawait_some-requires

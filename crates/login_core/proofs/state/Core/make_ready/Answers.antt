@@ -4,10 +4,11 @@ use Rattle.login_model.specs.Legal.{answered, trail_of}
 use Rattle.login_model.specs.Policy.{verdict}
 use Rattle.login_model.specs.declared.rule.Verdict.{Verdict}
 use Rattle.login_model.specs.declared.mark.Entry.{Entry}
-use Rattle.login_model.proofs.RoomLaws.{room}
+use Rattle.login_laws.proofs.RoomLaws.{room}
 use Rattle.login_core.specs.State.{CoreState}
 use Rattle.login_core.proofs.Entries.{marks-counted}
 use Rattle.login_core.proofs.Keeping.{small}
+use Rattle.login_core.proofs.Stepping.{has-answer, seen}
 use Rattle.login_core.proofs.state.Core.make_ready.Goals as goal
 
 pub overflow_cast-reach : goal.overflow_cast-reach
@@ -45,5 +46,5 @@ returns-clause-ready c =
       small = (λ i. full (sym setup i) (sym journal i) e) ∙ c.requires.small;
       texts = c.in_ok-prepare.ensures.ready;
       judged = judged;
-      answer = c.in_ok-answer.ensures ∙ ap (λ (v : Verdict). answered U v e (trail_of es)) judged;
+      answer = has-answer (seen U c.reserve.new.self c.prepare.new.self (record { verdict = c.args.verdict; answer = c.in_ok-answer.answer })) e (c.in_ok-answer.ensures ∙ ap (λ (v : Verdict). answered U v e es) judged);
     }

@@ -1,13 +1,20 @@
-use Rattle.std.proofs.Common.{◌∙◌, ap, sym, length}
+use Rattle.std.proofs.Common.{◌∙◌, ap, sym, subst, length}
 use Rattle.login_model.specs.Full.{mark_count, marks_needed}
 use Rattle.login_model.specs.Legal.{trail_of}
+use Rattle.login_model.specs.Trail.{Trail}
+use Rattle.login_core.specs.Counts.{AreCounted}
 use Rattle.login_core.specs.State.{CoreState}
+use Rattle.login_core.proofs.CountedLaws.{legal-holders}
 use Rattle.login_core.proofs.Entries.{marks-counted, trail-is}
 use Rattle.login_core.proofs.state.Core.reach_for.Goals as goal
 
 pub returns : goal.returns
 returns c =
     let m = c.self.inside.board in
+    let es = m.journal.items in
     let t = trail-is m c.self.invariant.no_marks in
-    let n = m.counted ∙ ap length t ∙ sym (marks-counted m.journal.items) in
-    c.marks_needed.ensures ∙ (λ i. marks_needed (t i) (n i)) ∙ ap (λ (s : CoreState). marks_needed (trail_of s.journal) (mark_count s.journal)) c.self.view_is
+    let P : Trail → Type 0 = AreCounted c.counts.result in
+    let n = m.counted ∙ ap length t ∙ sym (marks-counted es) in
+    c.marks_needed.ensures (trail_of es) (subst P t c.counts.ensures) (legal-holders c.self.inside.setup es c.self.invariant.legal)
+    ∙ ap (marks_needed (trail_of es)) n
+    ∙ ap (λ (s : CoreState). marks_needed (trail_of s.journal) (mark_count s.journal)) c.self.view_is

@@ -1,14 +1,17 @@
-use Rattle.std.proofs.Common.{◌≡◌, ◌≤◌, ◌<◌, ◌∙◌, ◌∷◌, ◌++◌, [], Option, ℕ, sym, ap, subst, refl, arith, length}
+use Rattle.std.proofs.Common.{◌≡◌, true, ◌≤◌, ◌<◌, ◌∙◌, ◌∷◌, ◌++◌, [], Option, ℕ, sym, ap, subst, refl, arith, length}
 use Rattle.login_model.specs.Legal.{IsLegal, IsPlaced, stepped}
 use Rattle.login_model.specs.Policy.{verdict}
-use Rattle.login_model.specs.Sound.{IsSound}
+use Rattle.login_laws.specs.Quiet.{IsQuiet}
+use Rattle.login_laws.specs.Sound.{IsSound}
+use Rattle.login_model.specs.Built.{is_built}
 use Rattle.login_model.specs.Trail.{Trail}
 use Rattle.login_model.specs.declared.answer.Answer.{Answer}
 use Rattle.login_model.specs.declared.event.Event.{Event}
 use Rattle.login_model.specs.declared.mark.Entry.{Entry}
 use Rattle.login_model.specs.declared.setup.Setup.{Setup}
 use Rattle.login_model.specs.declared.rule.Verdict.{Verdict}
-use Rattle.login_model.proofs.SoundLaws.{legal-is-sound}
+use Rattle.login_laws.proofs.SoundLaws.{sound-journal}
+use Rattle.login_laws.proofs.LawfulLaws.{legal-is-lawful}
 use Rattle.login_core.specs.Board.{trail}
 use Rattle.login_core.specs.Inside.{IsCore}
 use Rattle.login_core.specs.Kept.{HaveTexts}
@@ -23,8 +26,8 @@ use Rattle.login_core.proofs.Stepping.{Stepping, answered-next, core-closed, has
 use Rattle.login_core.proofs.state.Core.step.Goals as goal
 
 stepping : (U : Setup) (m : Board) (x : Texts) (a : Ready) (stop : Option ℕ) (now : CoreState) (e : Event) (v : Verdict) → IsCore U m x stop → record { setup = U; journal = m.journal.items; entries = m.journal.entries; reach = m.journal.reach; texts = x; ready = a } ≡ now
-    → IsPlaced now.journal e → IsReady now e → v ≡ verdict U (trail m) e → Stepping U m x a stop e v
-stepping U m x a stop now e v k w p r h =
+    → IsPlaced now.journal e → IsReady now e → is_built e ≡ true → v ≡ verdict U (trail m) e → Stepping U m x a stop e v
+stepping U m x a stop now e v k w p r b h =
     let P : CoreState → Type 0 = λ s. IsPlaced s.journal e in
     let Q : CoreState → Type 0 = λ s. IsReady s e in
     record {
@@ -32,26 +35,30 @@ stepping U m x a stop now e v k w p r h =
       placed = subst P (sym w) p;
       ready = subst Q (sym w) r;
       verdict_is = h ∙ ap (λ (t : Trail). verdict U t e) (trail-is m k.no_marks);
-      sound = (legal-is-sound U).after m.journal.items k.legal;
+      sound = sound-journal U m.journal.items k.legal;
+      built = b;
     }
 
 -- the verdict that room was made with, if it was
-pub verdict_for-verdict-requires : goal.verdict_for-verdict-requires
-verdict_for-verdict-requires c = λ f.
+pub verdict_for-verdict-requires-clause-ready : goal.verdict_for-verdict-requires-clause-ready
+verdict_for-verdict-requires-clause-ready c = λ f.
     judged-inside c.self.inside.board _ c.args.self.now c.self.inside.ready.verdict c.args.event c.self.invariant.no_marks refl c.self.view_is
     (ap (λ (s : CoreState). s.ready.verdict) c.self.view_is ∙ ready-judged c.args.self.now c.args.event f c.requires.ready)
 
 pub perform-requires-clause-sound : goal.perform-requires-clause-sound
 perform-requires-clause-sound c =
     let m = c.self.inside.board in
-    let s = stepping c.self.inside.setup m c.self.inside.texts c.self.inside.ready c.self.inside.stop c.args.self.now c.args.event c.verdict_for-verdict.result c.self.invariant c.self.view_is c.requires.placed c.requires.ready c.verdict_for-verdict.ensures in
-    let P : Trail → Type 0 = IsSound in
+    let s = stepping c.self.inside.setup m c.self.inside.texts c.self.inside.ready c.self.inside.stop c.args.self.now c.args.event c.verdict_for-verdict.result c.self.invariant c.self.view_is c.requires.placed c.requires.ready c.requires.placed.2 c.verdict_for-verdict.ensures in
+    let P : Trail → Type 0 = IsSound c.self.inside.setup in
     subst P (sym (trail-is m c.self.invariant.no_marks)) s.sound
+
+pub perform-requires-clause-quiet : goal.perform-requires-clause-quiet
+perform-requires-clause-quiet c = subst IsQuiet (sym (trail-is c.self.inside.board c.self.invariant.no_marks)) c.self.invariant.quiet
 
 pub perform-requires-clause-ready : goal.perform-requires-clause-ready
 perform-requires-clause-ready c =
     let m = c.self.inside.board in
-    let s = stepping c.self.inside.setup m c.self.inside.texts c.self.inside.ready c.self.inside.stop c.args.self.now c.args.event c.verdict_for-verdict.result c.self.invariant c.self.view_is c.requires.placed c.requires.ready c.verdict_for-verdict.ensures in
+    let s = stepping c.self.inside.setup m c.self.inside.texts c.self.inside.ready c.self.inside.stop c.args.self.now c.args.event c.verdict_for-verdict.result c.self.invariant c.self.view_is c.requires.placed c.requires.ready c.requires.placed.2 c.verdict_for-verdict.ensures in
     ready-texts _ c.args.event s.ready
 
 pub perform-requires-clause-texts : goal.perform-requires-clause-texts
@@ -64,7 +71,7 @@ perform-requires-clause-room c =
     let U = c.self.inside.setup in
     let m = c.self.inside.board in
     let v = c.verdict_for-verdict.result in
-    let s = stepping U m c.self.inside.texts c.self.inside.ready c.self.inside.stop c.args.self.now c.args.event v c.self.invariant c.self.view_is c.requires.placed c.requires.ready c.verdict_for-verdict.ensures in
+    let s = stepping U m c.self.inside.texts c.self.inside.ready c.self.inside.stop c.args.self.now c.args.event v c.self.invariant c.self.view_is c.requires.placed c.requires.ready c.requires.placed.2 c.verdict_for-verdict.ensures in
     let P : Trail → Type 0 = λ t. length (stepped U v c.args.event t) ≤ m.journal.reach in
     subst P (sym (trail-is m c.self.invariant.no_marks)) (stays-within U m c.self.inside.texts c.self.inside.ready c.self.inside.stop c.args.event v s)
 
@@ -73,7 +80,7 @@ close_entry-requires c =
     let U = c.self.inside.setup in
     let m = c.self.inside.board in
     let v = c.verdict_for-verdict.result in
-    let s = stepping U m c.self.inside.texts c.self.inside.ready c.self.inside.stop c.args.self.now c.args.event v c.self.invariant c.self.view_is c.requires.placed c.requires.ready c.verdict_for-verdict.ensures in
+    let s = stepping U m c.self.inside.texts c.self.inside.ready c.self.inside.stop c.args.self.now c.args.event v c.self.invariant c.self.view_is c.requires.placed c.requires.ready c.requires.placed.2 c.verdict_for-verdict.ensures in
     let P : ℕ → Type 0 = λ n. 0 < n in
     subst P (sym (ap (λ l. l.entries) c.perform.ensures.journal)) (has-entry U m c.self.inside.texts c.self.inside.ready c.self.inside.stop c.args.event v s)
 
@@ -101,7 +108,7 @@ invariant_of-self c =
     let e = c.args.event in
     let stop = c.self.inside.stop in
     let ms = n.marks.items in
-    let s = stepping U m x a stop c.args.self.now e v c.self.invariant c.self.view_is c.requires.placed c.requires.ready c.verdict_for-verdict.ensures in
+    let s = stepping U m x a stop c.args.self.now e v c.self.invariant c.self.view_is c.requires.placed c.requires.ready c.requires.placed.2 c.verdict_for-verdict.ensures in
     let w = steps U m n x a b stop e v s c.answer_for-answer.ensures c.perform.ensures.journal c.perform.ensures.marked in
     let P : Trail → Type 0 = λ t. HaveTexts c.perform.new.texts (stepped U v e t) in
     let Q : Trail → Type 0 = HaveTexts c.perform.new.texts in
@@ -125,7 +132,7 @@ returns c =
     let stop = c.self.inside.stop in
     let old = c.args.self.now in
     let ms = n.marks.items in
-    let s = stepping U m x a stop old c.args.event v c.self.invariant c.self.view_is c.requires.placed c.requires.ready c.verdict_for-verdict.ensures in
+    let s = stepping U m x a stop old c.args.event v c.self.invariant c.self.view_is c.requires.placed c.requires.ready c.requires.placed.2 c.verdict_for-verdict.ensures in
     let w = steps U m n x a b stop c.args.event v s c.answer_for-answer.ensures c.perform.ensures.journal c.perform.ensures.marked in
     let e : Entry = entry_of c.args.event v b ms in
     let items = c.close_entry.ensures.entry ∙ ap (λ l. l.items ++ e ∷ []) c.perform.ensures.journal in
@@ -142,7 +149,7 @@ returns c =
       ),
       record {
         event = ap (λ (y : Entry). y.event) is;
-        legal = subst Q (sym is) (subst P c.self.view_is (legal-closed U m.journal.items c.args.event v b ms c.self.invariant.legal w));
+        lawful = legal-is-lawful old.setup (old.journal ++ c.entry.result.now ∷ []) (subst Q (sym is) (subst P c.self.view_is (legal-closed U m.journal.items c.args.event v b ms c.self.invariant.legal w)));
         after = tt;
       },
     )

@@ -1,5 +1,5 @@
 use Rattle.std.proofs.Common.{◌≡◌, ◌∙◌, ap, refl, sym}
-use Rattle.login_model.specs.Need.{IsDisconnect}
+use Rattle.login_laws.specs.Need.{IsDisconnect}
 use Rattle.login_model.specs.Stopping.{stopped}
 use Rattle.login_model.specs.declared.event.Event.{Event}
 use Rattle.login_model.specs.declared.event.Event.TheVariants.{Disconnect}

@@ -7,8 +7,6 @@ use Rattle.login_core.proofs.board.facts.Facts.is_awaiting.Goals as goal
 pub returns : goal.returns
 returns c = λ t s.
     let P : Tables → Type 0 = λ f. StandFor f t in
-    let f : Tables = record { users = c.self.inside.users.trail; sessions = c.self.inside.sessions.trail; seats = c.self.inside.seats.trail; takes = c.self.inside.takes.trail; others = c.self.inside.others.trail; session = c.self.inside.session; handle = c.self.inside.handle; spare = c.self.inside.spare } in
-    let stands : StandFor f t = subst P (sym c.self.view_is) s in
-    let inside = opened f t stands in
-    let rows = c.self.inside.takes.trail in
-    c.is_any_awaited.ensures ∙ any-awaited rows c.as_slice.result.now c.as_slice.ensures ∙ awaiting-standing rows t inside.takes
+    let f : Tables = record { users = c.self.inside.users.trail; sessions = c.self.inside.sessions.trail; seats = c.self.inside.seats.trail; takes = c.self.inside.takes.trail; others = c.self.inside.others.trail; counts = c.self.inside.counts; session = c.self.inside.session; handle = c.self.inside.handle; spare = c.self.inside.spare } in
+    let inside = opened f t (subst P (sym c.self.view_is) s) in
+    c.is_any_awaited.ensures ∙ any-awaited c.self.inside.takes.trail c.as_slice.result.now c.as_slice.ensures.rows ∙ awaiting-standing f t inside

@@ -1,19 +1,18 @@
 use Rattle.std.proofs.Common.{sym, [], ap}
 use Rattle.login_model.specs.Trail.{Trail, value}
-use Rattle.login_core.specs.Facts.{Tables, StandFor}
+use Rattle.login_core.specs.Facts.{Tables}
+use Rattle.login_core.proofs.CountedLaws.{counted-none}
 use Rattle.login_core.proofs.Counting.{sessions-none, handles-none}
+use Rattle.login_core.proofs.HomeLaws.{all-stand}
 use Rattle.login_core.proofs.Standing.{closed}
 use Rattle.login_core.proofs.board.facts.Facts.new.Goals as goal
 
 pub returns : goal.returns
 returns c =
-    let f : Tables = record { users = c.new.result.trail; sessions = c.new-2.result.trail; seats = c.new-3.result.trail; takes = c.new-4.result.trail; others = c.new-5.result.trail; session = 1; handle = 1; spare = 0 } in
+    let f : Tables = record { users = c.new.result.trail; sessions = c.new-2.result.trail; seats = c.new-3.result.trail; takes = c.new-4.result.trail; others = c.new-5.result.trail; counts = record { connections = 0; controlled = 0; locks = 0; opened = 0; present = 0; taken = 0; users = 0 }; session = 1; handle = 1; spare = 0 } in
     closed f [] (record {
-      users = c.new.ensures;
-      sessions = c.new-2.ensures;
-      seats = c.new-3.ensures;
-      takes = λ k own. ap (λ (t : Trail). value t k) c.new-4.ensures;
-      others = λ k own. ap (λ (t : Trail). value t k) c.new-5.ensures;
+      facts = all-stand f [] c.new.ensures c.new-2.ensures c.new-3.ensures (λ k. ap (λ (t : Trail). value t k) c.new-4.ensures) (λ k. ap (λ (t : Trail). value t k) c.new-5.ensures);
+      counts = counted-none;
       session = sym sessions-none;
       handle = sym handles-none;
     })

@@ -1,9 +1,10 @@
 use Rattle.std.proofs.Common.{sym, subst}
 use Rattle.login_core.specs.Facts.{Tables, StandFor}
+use Rattle.login_core.proofs.HomeLaws.{seats-stand}
 use Rattle.login_core.proofs.Standing.{opened}
 use Rattle.login_core.proofs.board.facts.Facts.next_seat.Goals as goal
 
 pub returns : goal.returns
 returns c = λ t s.
     let P : Tables → Type 0 = λ f. StandFor f t in
-    c.next_seat.ensures t (opened _ t (subst P (sym c.self.view_is) s)).seats
+    c.next.ensures t (seats-stand _ t (opened _ t (subst P (sym c.self.view_is) s)))

@@ -1,53 +1,159 @@
-use Rattle.std.proofs.Common.{◌≡◌, ℕ, ◌+◌, ◌-◌, ◌∷◌, ◌∙◌, ap, sym, subst}
-use Rattle.login_core.specs.Facts.{Tables, StandFor}
+use Rattle.std.proofs.Common.{◌≡◌, ℕ, ◌+◌, ◌-◌, ◌∙◌, ap, sym, subst, arith}
+use Rattle.login_model.specs.declared.fact.Key.{Key}
+use Rattle.login_model.specs.declared.fact.Fact.{Fact}
+use Rattle.login_model.specs.Fresh.{fresh_session, fresh_handle}
+use Rattle.login_model.specs.Trail.{value}
+use Rattle.login_core.specs.declared.board.home.Home.TheVariants.{Users, Sessions, Seats, Takes, Others}
+use Rattle.login_core.specs.declared.room.counts.Counts.{Counts}
+use Rattle.login_core.specs.Counts.{Fit, Follow, counts_of}
+use Rattle.login_core.specs.Facts.{Tables, StandFor, opens, gives}
+use Rattle.login_core.proofs.CountedLaws.{counted-fit}
+use Rattle.login_core.proofs.Counting.{opens-bound, gives-bound, sessions-bound, handles-bound}
+use Rattle.login_core.proofs.Placed.{Moves, Places, stands-placed, but-users, but-sessions, but-seats, but-takes, but-others}
 use Rattle.login_core.proofs.Standing.{opened}
-use Rattle.login_core.proofs.Placed.{put-user, put-session, put-seat, put-take, put-another}
 use Rattle.login_core.proofs.board.facts.Facts.set.Goals as goal
 
-pub returns-then-is_user_key-clause-stands : goal.returns-then-is_user_key-clause-stands
-returns-then-is_user_key-clause-stands c = λ t s.
-    let P : Tables → Type 0 = λ f. StandFor f t in
-    let f : Tables = record { users = c.self.inside.users.trail; sessions = c.self.inside.sessions.trail; seats = c.self.inside.seats.trail; takes = c.self.inside.takes.trail; others = c.self.inside.others.trail; session = c.self.inside.session; handle = c.self.inside.handle; spare = c.self.inside.spare } in
-    let inside : StandFor f t = subst P (sym c.self.view_is) s in
-    put-user f c.apply.new.self.trail t (c.self.inside.session + c.opened.result) (c.self.inside.handle + c.given.result) (c.self.inside.spare - 1) c.args.key c.args.fact
-    (sym c.is_user_key.ensures ∙ c.if-is_user_key.true) (c.apply.ensures.stands t (opened f t inside).users)
-    (ap (λ (n : ℕ). c.self.inside.session + n) c.opened.ensures) (ap (λ (n : ℕ). c.self.inside.handle + n) c.given.ensures) inside
+fit : (n lost gained : Counts) (k : Key) (x y v : Fact) → lost ≡ counts_of k y → y ≡ v → gained ≡ counts_of k x → Fit n (counts_of k v) (counts_of k x) → Fit n lost gained
+fit n lost gained k x y v l e g h =
+    let P : Counts → Type 0 = λ m. Fit n m (counts_of k x) in
+    let Q : Counts → Type 0 = λ m. Fit n lost m in
+    subst Q (sym g) (subst P (sym (l ∙ ap (counts_of k) e)) h)
 
-pub returns-then-is_session_key-clause-stands : goal.returns-then-is_session_key-clause-stands
-returns-then-is_session_key-clause-stands c = λ t s.
-    let P : Tables → Type 0 = λ f. StandFor f t in
-    let f : Tables = record { users = c.self.inside.users.trail; sessions = c.self.inside.sessions.trail; seats = c.self.inside.seats.trail; takes = c.self.inside.takes.trail; others = c.self.inside.others.trail; session = c.self.inside.session; handle = c.self.inside.handle; spare = c.self.inside.spare } in
-    let inside : StandFor f t = subst P (sym c.self.view_is) s in
-    put-session f c.apply-then-is_session_key.new.self.trail t (c.self.inside.session + c.opened.result) (c.self.inside.handle + c.given.result) (c.self.inside.spare - 1) c.args.key c.args.fact
-    (sym c.is_user_key.ensures ∙ c.if-is_user_key.false) (sym c.is_session_key.ensures ∙ c.if-is_session_key.true) (c.apply-then-is_session_key.ensures.stands t (opened f t inside).sessions)
-    (ap (λ (n : ℕ). c.self.inside.session + n) c.opened.ensures) (ap (λ (n : ℕ). c.self.inside.handle + n) c.given.ensures) inside
+follow : (n lost gained m : Counts) (k : Key) (x y v : Fact) → lost ≡ counts_of k y → y ≡ v → gained ≡ counts_of k x → Follow n lost gained m → Follow n (counts_of k v) (counts_of k x) m
+follow n lost gained m k x y v l e g h =
+    let P : Counts → Type 0 = λ a. Follow n a gained m in
+    let Q : Counts → Type 0 = λ a. Follow n (counts_of k v) a m in
+    subst Q g (subst P (l ∙ ap (counts_of k) e) h)
 
-pub returns-then-is_seat_key-clause-stands : goal.returns-then-is_seat_key-clause-stands
-returns-then-is_seat_key-clause-stands c = λ t s.
-    let P : Tables → Type 0 = λ f. StandFor f t in
-    let f : Tables = record { users = c.self.inside.users.trail; sessions = c.self.inside.sessions.trail; seats = c.self.inside.seats.trail; takes = c.self.inside.takes.trail; others = c.self.inside.others.trail; session = c.self.inside.session; handle = c.self.inside.handle; spare = c.self.inside.spare } in
-    let inside : StandFor f t = subst P (sym c.self.view_is) s in
-    put-seat f c.apply-then-is_seat_key.new.self.trail t (c.self.inside.session + c.opened.result) (c.self.inside.handle + c.given.result) (c.self.inside.spare - 1) c.args.key c.args.fact
-    (sym c.is_user_key.ensures ∙ c.if-is_user_key.false) (sym c.is_session_key.ensures ∙ c.if-is_session_key.false) (sym c.is_seat_key.ensures ∙ c.if-is_seat_key.true)
-    (c.apply-then-is_seat_key.ensures.stands t (opened f t inside).seats)
-    (ap (λ (n : ℕ). c.self.inside.session + n) c.opened.ensures) (ap (λ (n : ℕ). c.self.inside.handle + n) c.given.ensures) inside
+pub moved-self-inside-requires : goal.moved-self-inside-requires
+moved-self-inside-requires c =
+    let few = c.requires.few in
+    let now = c.args.self.now in
+    let counted = counted-fit now.counts c.args.key c.args.fact few.marks (opened now few.marks few.stand).counts few.few in
+    let P : Counts → Type 0 = λ n. Fit n (counts_of c.args.key (value few.marks c.args.key)) (counts_of c.args.key c.args.fact) in
+    fit c.self.inside.counts c.of-lost.result c.of.result c.args.key c.args.fact c.fact.result.now (value few.marks c.args.key) c.of-lost.ensures (c.fact.ensures few.marks few.stand) c.of.ensures
+    (subst P (sym (ap (λ (f : Tables). f.counts) c.self.view_is)) counted)
 
-pub returns-then-is_take_key-clause-stands : goal.returns-then-is_take_key-clause-stands
-returns-then-is_take_key-clause-stands c = λ t s.
-    let P : Tables → Type 0 = λ f. StandFor f t in
-    let f : Tables = record { users = c.self.inside.users.trail; sessions = c.self.inside.sessions.trail; seats = c.self.inside.seats.trail; takes = c.self.inside.takes.trail; others = c.self.inside.others.trail; session = c.self.inside.session; handle = c.self.inside.handle; spare = c.self.inside.spare } in
-    let inside : StandFor f t = subst P (sym c.self.view_is) s in
-    put-take f c.set.new.self.trail t (c.self.inside.session + c.opened.result) (c.self.inside.handle + c.given.result) (c.self.inside.spare - 1) c.args.key c.args.fact
-    (sym c.is_user_key.ensures ∙ c.if-is_user_key.false) (sym c.is_session_key.ensures ∙ c.if-is_session_key.false) (sym c.is_seat_key.ensures ∙ c.if-is_seat_key.false) (sym c.is_take_key.ensures ∙ c.if-is_take_key.true)
-    c.set.ensures.facts
-    (ap (λ (n : ℕ). c.self.inside.session + n) c.opened.ensures) (ap (λ (n : ℕ). c.self.inside.handle + n) c.given.ensures) inside
+pub overflow_add-self : goal.overflow_add-self
+overflow_add-self c =
+    let few = c.requires.few in
+    let now = c.args.self.now in
+    let marks = few.few in
+    let view : c.self.inside.session ≡ now.session = ap (λ (f : Tables). f.session) c.self.view_is in
+    let same : now.session ≡ fresh_session few.marks = (opened now few.marks few.stand).session in
+    let most = sessions-bound few.marks in
+    let one = opens-bound c.args.key c.args.fact in
+    let opens = c.opened.ensures in
+    omega arith
 
-pub returns-else-is_take_key-clause-stands : goal.returns-else-is_take_key-clause-stands
-returns-else-is_take_key-clause-stands c = λ t s.
+pub overflow_add-self-2 : goal.overflow_add-self-2
+overflow_add-self-2 c =
+    let few = c.requires.few in
+    let now = c.args.self.now in
+    let marks = few.few in
+    let view : c.self.inside.handle ≡ now.handle = ap (λ (f : Tables). f.handle) c.self.view_is in
+    let same : now.handle ≡ fresh_handle few.marks = (opened now few.marks few.stand).handle in
+    let most = handles-bound few.marks in
+    let one = gives-bound c.args.key c.args.fact in
+    let gives = c.given.ensures in
+    omega arith
+
+pub returns-in-Users-clause-stands : goal.returns-in-Users-clause-stands
+returns-in-Users-clause-stands c = λ t s.
     let P : Tables → Type 0 = λ f. StandFor f t in
-    let f : Tables = record { users = c.self.inside.users.trail; sessions = c.self.inside.sessions.trail; seats = c.self.inside.seats.trail; takes = c.self.inside.takes.trail; others = c.self.inside.others.trail; session = c.self.inside.session; handle = c.self.inside.handle; spare = c.self.inside.spare } in
-    let inside : StandFor f t = subst P (sym c.self.view_is) s in
-    put-another f c.set-else-is_take_key.new.self.trail t (c.self.inside.session + c.opened.result) (c.self.inside.handle + c.given.result) (c.self.inside.spare - 1) c.args.key c.args.fact
-    (sym c.is_user_key.ensures ∙ c.if-is_user_key.false) (sym c.is_session_key.ensures ∙ c.if-is_session_key.false) (sym c.is_seat_key.ensures ∙ c.if-is_seat_key.false) (sym c.is_take_key.ensures ∙ c.if-is_take_key.false)
-    c.set-else-is_take_key.ensures.facts
-    (ap (λ (n : ℕ). c.self.inside.session + n) c.opened.ensures) (ap (λ (n : ℕ). c.self.inside.handle + n) c.given.ensures) inside
+    let k = c.args.key in
+    let x = c.args.fact in
+    let f : Tables = record { users = c.self.inside.users.trail; sessions = c.self.inside.sessions.trail; seats = c.self.inside.seats.trail; takes = c.self.inside.takes.trail; others = c.self.inside.others.trail; counts = c.self.inside.counts; session = c.self.inside.session; handle = c.self.inside.handle; spare = c.self.inside.spare } in
+    let rows = c.set.new.self.trail in
+    let counts = c.moved-self-inside.result in
+    let session = c.self.inside.session + c.opened.result in
+    let handle = c.self.inside.handle + c.given.result in
+    let spare = c.self.inside.spare - 1 in
+    let g : Tables = record f { users = rows; counts = counts; session = session; handle = handle; spare = spare } in
+    let places : Places f g k x Users = record { at_home = sym c.of-2.ensures ∙ c.in-Users.is; set = c.set.ensures.facts; stays = but-users f rows counts session handle spare } in
+    let moves : Moves f g k x t = record {
+      counts = follow c.self.inside.counts c.of-lost.result c.of.result counts k x c.fact.result.now (value t k) c.of-lost.ensures (c.fact.ensures t s) c.of.ensures c.moved-self-inside.ensures;
+      session = ap (λ (n : ℕ). c.self.inside.session + n) c.opened.ensures;
+      handle = ap (λ (n : ℕ). c.self.inside.handle + n) c.given.ensures;
+    } in
+    stands-placed f g k x Users t places moves (subst P (sym c.self.view_is) s)
+
+pub returns-in-Sessions-clause-stands : goal.returns-in-Sessions-clause-stands
+returns-in-Sessions-clause-stands c = λ t s.
+    let P : Tables → Type 0 = λ f. StandFor f t in
+    let k = c.args.key in
+    let x = c.args.fact in
+    let f : Tables = record { users = c.self.inside.users.trail; sessions = c.self.inside.sessions.trail; seats = c.self.inside.seats.trail; takes = c.self.inside.takes.trail; others = c.self.inside.others.trail; counts = c.self.inside.counts; session = c.self.inside.session; handle = c.self.inside.handle; spare = c.self.inside.spare } in
+    let rows = c.set-in-Sessions.new.self.trail in
+    let counts = c.moved-self-inside.result in
+    let session = c.self.inside.session + c.opened.result in
+    let handle = c.self.inside.handle + c.given.result in
+    let spare = c.self.inside.spare - 1 in
+    let g : Tables = record f { sessions = rows; counts = counts; session = session; handle = handle; spare = spare } in
+    let places : Places f g k x Sessions = record { at_home = sym c.of-2.ensures ∙ c.in-Sessions.is; set = c.set-in-Sessions.ensures.facts; stays = but-sessions f rows counts session handle spare } in
+    let moves : Moves f g k x t = record {
+      counts = follow c.self.inside.counts c.of-lost.result c.of.result counts k x c.fact.result.now (value t k) c.of-lost.ensures (c.fact.ensures t s) c.of.ensures c.moved-self-inside.ensures;
+      session = ap (λ (n : ℕ). c.self.inside.session + n) c.opened.ensures;
+      handle = ap (λ (n : ℕ). c.self.inside.handle + n) c.given.ensures;
+    } in
+    stands-placed f g k x Sessions t places moves (subst P (sym c.self.view_is) s)
+
+pub returns-in-Seats-clause-stands : goal.returns-in-Seats-clause-stands
+returns-in-Seats-clause-stands c = λ t s.
+    let P : Tables → Type 0 = λ f. StandFor f t in
+    let k = c.args.key in
+    let x = c.args.fact in
+    let f : Tables = record { users = c.self.inside.users.trail; sessions = c.self.inside.sessions.trail; seats = c.self.inside.seats.trail; takes = c.self.inside.takes.trail; others = c.self.inside.others.trail; counts = c.self.inside.counts; session = c.self.inside.session; handle = c.self.inside.handle; spare = c.self.inside.spare } in
+    let rows = c.set-in-Seats.new.self.trail in
+    let counts = c.moved-self-inside.result in
+    let session = c.self.inside.session + c.opened.result in
+    let handle = c.self.inside.handle + c.given.result in
+    let spare = c.self.inside.spare - 1 in
+    let g : Tables = record f { seats = rows; counts = counts; session = session; handle = handle; spare = spare } in
+    let places : Places f g k x Seats = record { at_home = sym c.of-2.ensures ∙ c.in-Seats.is; set = c.set-in-Seats.ensures.facts; stays = but-seats f rows counts session handle spare } in
+    let moves : Moves f g k x t = record {
+      counts = follow c.self.inside.counts c.of-lost.result c.of.result counts k x c.fact.result.now (value t k) c.of-lost.ensures (c.fact.ensures t s) c.of.ensures c.moved-self-inside.ensures;
+      session = ap (λ (n : ℕ). c.self.inside.session + n) c.opened.ensures;
+      handle = ap (λ (n : ℕ). c.self.inside.handle + n) c.given.ensures;
+    } in
+    stands-placed f g k x Seats t places moves (subst P (sym c.self.view_is) s)
+
+pub returns-in-Takes-clause-stands : goal.returns-in-Takes-clause-stands
+returns-in-Takes-clause-stands c = λ t s.
+    let P : Tables → Type 0 = λ f. StandFor f t in
+    let k = c.args.key in
+    let x = c.args.fact in
+    let f : Tables = record { users = c.self.inside.users.trail; sessions = c.self.inside.sessions.trail; seats = c.self.inside.seats.trail; takes = c.self.inside.takes.trail; others = c.self.inside.others.trail; counts = c.self.inside.counts; session = c.self.inside.session; handle = c.self.inside.handle; spare = c.self.inside.spare } in
+    let rows = c.set-in-Takes.new.self.trail in
+    let counts = c.moved-self-inside.result in
+    let session = c.self.inside.session + c.opened.result in
+    let handle = c.self.inside.handle + c.given.result in
+    let spare = c.self.inside.spare - 1 in
+    let g : Tables = record f { takes = rows; counts = counts; session = session; handle = handle; spare = spare } in
+    let places : Places f g k x Takes = record { at_home = sym c.of-2.ensures ∙ c.in-Takes.is; set = c.set-in-Takes.ensures.facts; stays = but-takes f rows counts session handle spare } in
+    let moves : Moves f g k x t = record {
+      counts = follow c.self.inside.counts c.of-lost.result c.of.result counts k x c.fact.result.now (value t k) c.of-lost.ensures (c.fact.ensures t s) c.of.ensures c.moved-self-inside.ensures;
+      session = ap (λ (n : ℕ). c.self.inside.session + n) c.opened.ensures;
+      handle = ap (λ (n : ℕ). c.self.inside.handle + n) c.given.ensures;
+    } in
+    stands-placed f g k x Takes t places moves (subst P (sym c.self.view_is) s)
+
+pub returns-in-Others-clause-stands : goal.returns-in-Others-clause-stands
+returns-in-Others-clause-stands c = λ t s.
+    let P : Tables → Type 0 = λ f. StandFor f t in
+    let k = c.args.key in
+    let x = c.args.fact in
+    let f : Tables = record { users = c.self.inside.users.trail; sessions = c.self.inside.sessions.trail; seats = c.self.inside.seats.trail; takes = c.self.inside.takes.trail; others = c.self.inside.others.trail; counts = c.self.inside.counts; session = c.self.inside.session; handle = c.self.inside.handle; spare = c.self.inside.spare } in
+    let rows = c.set-in-Others.new.self.trail in
+    let counts = c.moved-self-inside.result in
+    let session = c.self.inside.session + c.opened.result in
+    let handle = c.self.inside.handle + c.given.result in
+    let spare = c.self.inside.spare - 1 in
+    let g : Tables = record f { others = rows; counts = counts; session = session; handle = handle; spare = spare } in
+    let places : Places f g k x Others = record { at_home = sym c.of-2.ensures ∙ c.in-Others.is; set = c.set-in-Others.ensures.facts; stays = but-others f rows counts session handle spare } in
+    let moves : Moves f g k x t = record {
+      counts = follow c.self.inside.counts c.of-lost.result c.of.result counts k x c.fact.result.now (value t k) c.of-lost.ensures (c.fact.ensures t s) c.of.ensures c.moved-self-inside.ensures;
+      session = ap (λ (n : ℕ). c.self.inside.session + n) c.opened.ensures;
+      handle = ap (λ (n : ℕ). c.self.inside.handle + n) c.given.ensures;
+    } in
+    stands-placed f g k x Others t places moves (subst P (sym c.self.view_is) s)

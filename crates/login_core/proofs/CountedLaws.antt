@@ -1,0 +1,167 @@
+-- The counts that the facts keep.
+use Rattle.std.proofs.Common.{◌≡◌, ℕ, ◌+◌, ◌*◌, ◌<◌, ◌^◌, true, false, None, Some, List, [], ◌∷◌, length, refl, ap, sym, ◌∙◌, arith}
+use Rattle.login_base.specs.declared.ids.SessId.{SessId}
+use Rattle.login_base.specs.declared.ids.ConnId.{ConnId}
+use Rattle.login_base.specs.declared.ids.LockNo.{LockNo}
+use Rattle.login_base.specs.declared.ids.Uid.{Uid}
+use Rattle.login_base.specs.declared.ids.HandleNo.{HandleNo}
+use Rattle.login_model.specs.declared.fact.Key.{Key}
+use Rattle.login_model.specs.declared.fact.Key.TheVariants as key
+use Rattle.login_model.specs.declared.fact.Fact.{Fact}
+use Rattle.login_model.specs.declared.fact.Fact.TheVariants as fact
+use Rattle.login_model.specs.declared.mark.Mark.TheVariants.{Set, Say}
+use Rattle.login_model.specs.declared.mark.Whom.{Whom}
+use Rattle.login_model.specs.declared.mark.Notice.{Notice}
+use Rattle.login_model.specs.declared.mark.Entry.{Entry}
+use Rattle.login_model.specs.declared.setup.Setup.{Setup}
+use Rattle.login_model.specs.Devices.{is_handle_fact}
+use Rattle.login_model.specs.Facts.{is_connected_fact, is_controlled_fact, is_lock_fact, is_open_fact, is_user_fact}
+use Rattle.login_model.specs.Full.{controlled_sessions, marks_needed}
+use Rattle.login_model.specs.Kind.{AreKeys}
+use Rattle.login_model.specs.Legal.{IsLegal, trail_of}
+use Rattle.login_model.specs.Names.{conn_in, conn_lt, lock_in, lock_lt, names, session_in, session_lt, user_in, user_lt}
+use Rattle.login_model.specs.Trail.{Trail, value}
+use Rattle.login_model.specs.Where.{connections, is_open, locks, open_sessions, sessions, users}
+use Rattle.login_model.proofs.NameLaws.{conn_keys, conn_order, lock_keys, lock_order, session_keys, session_order, user_keys, user_order}
+use Rattle.login_laws.specs.Sound.{IsSound}
+use Rattle.login_laws.proofs.Counts.{controlled-list, count-same, open-list}
+use Rattle.login_laws.proofs.Paying.{open-session}
+use Rattle.login_laws.proofs.SoundLaws.{sound-journal}
+use Rattle.login_table.proofs.Listing.{Kind, all, kind, session_kind, sessions-all}
+use Rattle.login_core.specs.declared.room.counts.Counts.{Counts}
+use Rattle.login_core.specs.Counts.{AreCounted, Fit, Follow, HoldersAreThere, controlled, controlled_in, counts_of, is_controlled, taken_pairs}
+use Rattle.login_core.proofs.CountLaws.{count-say, fits, follows, kind-list}
+use Rattle.login_core.proofs.PairLaws.{pair_kind, pairs-all, pairs-taken}
+
+-- ---- the kinds that are counted
+
+abbrev conn_kind : Kind ConnId
+conn_kind = kind conn_lt conn_order conn_in key.Conn is_connected_fact None conn_keys
+
+conns-all : (t : Trail) → length (connections t) ≡ length (all conn_kind t)
+unfolding connections
+conns-all t = refl
+
+abbrev lock_kind : Kind LockNo
+lock_kind = kind lock_lt lock_order lock_in key.Lock is_lock_fact None lock_keys
+
+locks-all : (t : Trail) → length (locks t) ≡ length (all lock_kind t)
+unfolding locks
+locks-all t = refl
+
+abbrev user_kind : Kind Uid
+user_kind = kind user_lt user_order user_in key.User is_user_fact None user_keys
+
+users-all : (t : Trail) → length (users t) ≡ length (all user_kind t)
+unfolding users
+users-all t = refl
+
+present-all : (t : Trail) → length (sessions t) ≡ length (all session_kind t)
+present-all t = ap length (sessions-all t)
+
+no-flag : false ≡ true → ⊥
+no-flag e = cc
+
+no-session : {s : SessId} → None ≡ Some s → ⊥
+no-session e = cc
+
+open_keys : AreKeys session_in key.Sess is_open_fact None
+open_keys = record { own = session_keys.own; named = λ s. refl; start = λ s h. absurd (no-flag h); begins = λ s e. absurd (no-session e) }
+
+abbrev open_kind : Kind SessId
+open_kind = kind session_lt session_order session_in key.Sess is_open_fact None open_keys
+
+open-all : (t : Trail) → length (open_sessions t) ≡ length (all open_kind t)
+open-all t = ap length (count-same session_lt (is_open t) (is_open t) (open_sessions t) (all open_kind t) (open-list t (open-session t)) (kind-list open_kind t) (λ s. refl))
+
+controlled-own : (k : Key) (s : SessId) → controlled_in k ≡ Some s → k ≡ key.Ctl s
+controlled-own (key.Ctl r) s e = cc
+controlled-own _ s e = cc
+
+controlled_keys : AreKeys controlled_in key.Ctl is_controlled_fact None
+controlled_keys = record { own = controlled-own; named = λ s. refl; start = λ s h. absurd (no-flag h); begins = λ s e. absurd (no-session e) }
+
+abbrev controlled_kind : Kind SessId
+controlled_kind = kind session_lt session_order controlled_in key.Ctl is_controlled_fact None controlled_keys
+
+controlled-all : (t : Trail) → length (controlled t) ≡ length (all controlled_kind t)
+unfolding controlled
+controlled-all t = refl
+
+-- ---- counts after one more mark
+
+pub counted-say : (c : Counts) (w : Whom) (n : Notice) (t : Trail) → AreCounted c t → AreCounted c (Say w n ∷ t)
+counted-say c w n t a =
+    let u = Say w n ∷ t in
+    record {
+      connections = a.connections ∙ conns-all t ∙ sym (count-say conn_kind w n t) ∙ sym (conns-all u);
+      controlled = a.controlled ∙ controlled-all t ∙ sym (count-say controlled_kind w n t) ∙ sym (controlled-all u);
+      locks = a.locks ∙ locks-all t ∙ sym (count-say lock_kind w n t) ∙ sym (locks-all u);
+      opened = a.opened ∙ open-all t ∙ sym (count-say open_kind w n t) ∙ sym (open-all u);
+      present = a.present ∙ present-all t ∙ sym (count-say session_kind w n t) ∙ sym (present-all u);
+      taken = a.taken ∙ pairs-all t ∙ sym (count-say pair_kind w n t) ∙ sym (pairs-all u);
+      users = a.users ∙ users-all t ∙ sym (count-say user_kind w n t) ∙ sym (users-all u);
+    }
+
+pub counted-set : (c d : Counts) (k : Key) (x : Fact) (t : Trail) → AreCounted c t → Follow c (counts_of k (value t k)) (counts_of k x) d → AreCounted d (Set k x ∷ t)
+counted-set c d k x t a f = record {
+  connections = follows conn_kind connections conns-all k x t c.connections d.connections a.connections f.connections;
+  controlled = follows controlled_kind controlled controlled-all k x t c.controlled d.controlled a.controlled f.controlled;
+  locks = follows lock_kind locks locks-all k x t c.locks d.locks a.locks f.locks;
+  opened = follows open_kind open_sessions open-all k x t c.opened d.opened a.opened f.opened;
+  present = follows session_kind sessions present-all k x t c.present d.present a.present f.present;
+  taken = follows pair_kind taken_pairs pairs-all k x t c.taken d.taken a.taken f.taken;
+  users = follows user_kind users users-all k x t c.users d.users a.users f.users;
+}
+
+pub counted-fit : (c : Counts) (k : Key) (x : Fact) (t : Trail) → AreCounted c t → length t + 2 < 2 ^ 32 → Fit c (counts_of k (value t k)) (counts_of k x)
+counted-fit c k x t a few = record {
+  connections = fits conn_kind connections conns-all refl k x t c.connections a.connections few;
+  controlled = fits controlled_kind controlled controlled-all refl k x t c.controlled a.controlled few;
+  locks = fits lock_kind locks locks-all refl k x t c.locks a.locks few;
+  opened = fits open_kind open_sessions open-all refl k x t c.opened a.opened few;
+  present = fits session_kind sessions present-all refl k x t c.present a.present few;
+  taken = fits pair_kind taken_pairs pairs-all refl k x t c.taken a.taken few;
+  users = fits user_kind users users-all refl k x t c.users a.users few;
+}
+
+pub counted-none : AreCounted (record { connections = 0; controlled = 0; locks = 0; opened = 0; present = 0; taken = 0; users = 0 }) []
+unfolding connections controlled locks open_sessions sessions taken_pairs users names
+counted-none = record { connections = refl; controlled = refl; locks = refl; opened = refl; present = refl; taken = refl; users = refl }
+
+-- ---- the counts of a sound journal
+
+controller-in : (x : Fact) → is_controlled_fact x ≡ true → (c : ConnId) × (x ≡ fact.Controller c)
+controller-in (fact.Controller c) e = (c, refl)
+controller-in _ e = cc
+
+handle-in : (x : Fact) → is_handle_fact x ≡ true → (h : HandleNo) × (x ≡ fact.Handle h)
+handle-in (fact.Handle h) e = (h, refl)
+handle-in _ e = cc
+
+pub sound-holders : (U : Setup) (t : Trail) → IsSound U t → HoldersAreThere t
+sound-holders U t g = record {
+  controlled = λ s e. (let i = controller-in (value t (key.Ctl s)) e in open-session t s (g.between.controls s i.0 i.1).session_open);
+  taken = λ s d e. (let i = handle-in (value t (key.Taken s d)) e in open-session t s (g.between.takes s d i.0 i.1).session_open);
+}
+
+pub legal-holders : (U : Setup) (journal : List Entry) → IsLegal U journal → HoldersAreThere (trail_of journal)
+legal-holders U journal l = sound-holders U (trail_of journal) (sound-journal U journal l)
+
+controlled-is : (t : Trail) → HoldersAreThere t → length (controlled t) ≡ length (controlled_sessions t)
+controlled-is t h =
+    controlled-all t
+    ∙ ap length (count-same session_lt (is_controlled t) (is_controlled t) (all controlled_kind t) (controlled_sessions t) (kind-list controlled_kind t) (controlled-list t h.controlled) (λ s. refl))
+
+-- the sum of the counts is that of the marks that may be needed
+pub needed : (c : Counts) (t : Trail) (marks n : ℕ) → AreCounted c t → HoldersAreThere t
+    → n ≡ marks + c.connections + c.controlled + 4 * c.locks + 4 * c.opened + 32 * c.taken + 8 * c.present + 4 * c.users + 64 → n ≡ marks_needed t marks
+needed c t marks n a h e =
+    let connections = a.connections in
+    let controlled = a.controlled ∙ controlled-is t h in
+    let locks = a.locks in
+    let opened = a.opened in
+    let present = a.present in
+    let taken = a.taken ∙ pairs-taken t h in
+    let users = a.users in
+    omega arith

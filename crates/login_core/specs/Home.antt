@@ -1,0 +1,22 @@
+-- In which table a fact has its home.
+use Rattle.login_model.specs.declared.fact.Key.{Key}
+use Rattle.login_model.specs.declared.fact.Key.TheVariants as key
+use Rattle.login_core.specs.declared.board.home.Home.{Home}
+use Rattle.login_core.specs.declared.board.home.Home.TheVariants.{Users, Sessions, Seats, Takes, Others}
+
+-- by what the key is about
+abbrev pub home : Key → Home
+home (key.User u) = Users
+home (key.Linger u) = Users
+home (key.Sess s) = Sessions
+home (key.Idle s) = Sessions
+home (key.Locked s) = Sessions
+home (key.Sig s) = Sessions
+home (key.Seat name) = Seats
+home (key.Act name) = Seats
+home key.Vt = Seats
+home (key.Getty v) = Seats
+home key.Pending = Seats
+home (key.Taken s d) = Takes
+home (key.Awaited s d) = Takes
+home _ = Others

@@ -1,0 +1,36 @@
+// In which table a fact has its home.
+
+ghost use Rattle.std.specs.Prelude.{◌≡◌};
+ghost use Rattle.login_core.specs.Home.{home};
+
+use login_model::Key;
+
+/// A table of facts.
+#[derive(Clone, Copy, Debug)]
+pub enum Home {
+    /// Which users are known, and which linger.
+    Users,
+    /// What each session is.
+    Sessions,
+    /// The seats and the virtual terminals.
+    Seats,
+    /// The devices that sessions have taken, and the pauses that are awaited.
+    Takes,
+    /// All other facts.
+    Others,
+}
+
+impl Home {
+    /// The table in which the fact under a key has its home.
+    pub fn of(key: &Key) -> Home
+        ensures { result ≡ home key.now }
+    {
+        match key {
+            Key::User(_) | Key::Linger(_) => Home::Users,
+            Key::Sess(_) | Key::Idle(_) | Key::Locked(_) | Key::Sig(_) => Home::Sessions,
+            Key::Seat(_) | Key::Act(_) | Key::Vt | Key::Getty(_) | Key::Pending => Home::Seats,
+            Key::Taken(_, _) | Key::Awaited(_, _) => Home::Takes,
+            _ => Home::Others,
+        }
+    }
+}

@@ -1,0 +1,12 @@
+pub mod Shapes
+pub mod Sound
+pub mod Withdrawing
+pub mod Handles
+pub mod Asking
+pub mod Guarded
+pub mod Switched
+pub mod Powered
+pub mod Lawful
+pub mod Quiet
+pub mod Need
+pub mod OneJournal

@@ -1,0 +1,38 @@
+// What holds of every legal journal, as functions that do nothing and ensure it.
+
+ghost use Rattle.login_laws.specs.Handles.{NextHandleIsLeastFree};
+ghost use Rattle.login_laws.specs.Lawful.{LegalIsLawful};
+ghost use Rattle.login_laws.specs.Need.{RoomIsKept};
+ghost use Rattle.login_laws.specs.OneJournal.{OneJournal};
+ghost use Rattle.login_laws.specs.Withdrawing.{WithdrawsEach};
+ghost use Rattle.login_model.specs.declared.setup.Setup.{Setup};
+
+/// Every legal journal is sound, also before an entry is settled; a live handle is that of the controller of its
+/// seat's active session; a switch completes exactly when its last awaited pause ends; no operation starts past a
+/// lock that stands in its way and that the policy does not let it pass.
+pub fn legal_is_lawful()
+    ensures { LegalIsLawful }
+{}
+
+/// Where a switch is withdrawn, each awaited device is not awaited, in order.
+pub fn withdrawal_is_of_each_awaited()
+    ensures { WithdrawsEach }
+{}
+
+/// The next handle is the least from 1 on that has no owner, in every legal journal and after any of the
+/// marks of its next legal entry.
+pub fn next_handle_is_least_free()
+    ensures { (U : Setup) → NextHandleIsLeastFree U }
+{}
+
+/// A list of events in place has exactly one legal journal.
+pub fn one_journal()
+    ensures { OneJournal }
+{}
+
+/// The limits of a journal leave room for every end: an event that is no disconnect stays within
+/// the marks and the need that `room` asks for, a disconnect pays for its marks, and the stop makes
+/// none.
+pub fn room_is_kept()
+    ensures { (U : Setup) → RoomIsKept U }
+{}

@@ -1,0 +1,10 @@
+//! What holds of every legal journal, as functions that do nothing and ensure it: a switch of sessions
+//! revokes devices, no operation runs past a lock, and room is kept for every end.
+#![tactic(auto)]
+
+mod law;
+
+pub use law::{
+    legal_is_lawful, next_handle_is_least_free, one_journal, room_is_kept,
+    withdrawal_is_of_each_awaited,
+};

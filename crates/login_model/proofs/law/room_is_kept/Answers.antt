@@ -1,5 +1,0 @@
-use Rattle.login_model.proofs.EventMarks.{room-is-kept}
-use Rattle.login_model.proofs.law.room_is_kept.Goals as goal
-
-pub returns : goal.returns
-returns c = room-is-kept

@@ -1,0 +1,112 @@
+-- How fixed words are spelled, each by the type that it stands for.
+use Rattle.std.specs.Prelude.{ℕ, Option, List, [], ◌∷◌, codes, find}
+use Rattle.std.specs.Str.{bytes_eq}
+use Rattle.login_model.specs.declared.session.SessionType.{SessionType}
+use Rattle.login_model.specs.declared.session.SessionType.TheVariants as session_type
+use Rattle.login_model.specs.declared.session.Class.{Class}
+use Rattle.login_model.specs.declared.session.Class.TheVariants as class
+use Rattle.login_model.specs.declared.session.KillWhom.{KillWhom}
+use Rattle.login_model.specs.declared.session.KillWhom.TheVariants as whom
+use Rattle.login_model.specs.declared.operation.OpKind.{OpKind}
+use Rattle.login_model.specs.declared.operation.OpKind.TheVariants as kind
+use Rattle.login_model.specs.declared.hardware.HardKey.{HardKey}
+use Rattle.login_model.specs.declared.hardware.HardKey.TheVariants as key
+use Rattle.login_model.specs.declared.hardware.DevKind.{DevKind}
+use Rattle.login_model.specs.declared.hardware.DevKind.TheVariants as device
+use Rattle.login_model.specs.declared.lock.LockMode.{LockMode}
+use Rattle.login_model.specs.declared.lock.LockMode.TheVariants as mode
+
+-- the first of these values that is spelled so
+abbrev pub named : {T : Type 0} → (T → List ℕ) → List T → List ℕ → Option T
+named word values text = find (λ x. bytes_eq (word x) text) values
+
+abbrev pub type_word : SessionType → List ℕ
+type_word session_type.Unspecified = codes "unspecified"
+type_word session_type.Tty = codes "tty"
+type_word session_type.X11 = codes "x11"
+type_word session_type.Wayland = codes "wayland"
+type_word session_type.Mir = codes "mir"
+type_word session_type.Web = codes "web"
+
+abbrev pub session_types : List SessionType
+session_types =
+    session_type.Unspecified ∷ session_type.Tty ∷ session_type.X11 ∷ session_type.Wayland ∷ session_type.Mir
+    ∷ session_type.Web ∷ []
+
+abbrev pub type_named : List ℕ → Option SessionType
+type_named text = named type_word session_types text
+
+abbrev pub class_word : Class → List ℕ
+class_word class.User = codes "user"
+class_word class.Greeter = codes "greeter"
+class_word class.LockScreen = codes "lock-screen"
+class_word class.Background = codes "background"
+
+abbrev pub classes : List Class
+classes = class.User ∷ class.Greeter ∷ class.LockScreen ∷ class.Background ∷ []
+
+abbrev pub class_named : List ℕ → Option Class
+class_named text = named class_word classes text
+
+-- which processes of a session a signal is for
+abbrev pub whom_word : KillWhom → List ℕ
+whom_word whom.Leader = codes "leader"
+whom_word whom.All = codes "all"
+
+abbrev pub whoms : List KillWhom
+whoms = whom.Leader ∷ whom.All ∷ []
+
+abbrev pub whom_named : List ℕ → Option KillWhom
+whom_named text = named whom_word whoms text
+
+-- a kind of operation, as recordings and transcripts have it
+abbrev pub operation_word : OpKind → List ℕ
+operation_word kind.PowerOff = codes "poweroff"
+operation_word kind.Reboot = codes "reboot"
+operation_word kind.Halt = codes "halt"
+operation_word kind.Suspend = codes "suspend"
+operation_word kind.Hibernate = codes "hibernate"
+operation_word kind.HybridSleep = codes "hybrid-sleep"
+operation_word kind.SuspendThenHibernate = codes "suspend-then-hibernate"
+
+abbrev pub operations : List OpKind
+operations =
+    kind.PowerOff ∷ kind.Reboot ∷ kind.Halt ∷ kind.Suspend ∷ kind.Hibernate ∷ kind.HybridSleep
+    ∷ kind.SuspendThenHibernate ∷ []
+
+abbrev pub operation_named : List ℕ → Option OpKind
+operation_named text = named operation_word operations text
+
+-- a key or the lid
+abbrev pub key_word : HardKey → List ℕ
+key_word key.Power = codes "power"
+key_word key.Suspend = codes "suspend"
+key_word key.Hibernate = codes "hibernate"
+key_word key.Lid = codes "lid"
+
+abbrev pub keys : List HardKey
+keys = key.Power ∷ key.Suspend ∷ key.Hibernate ∷ key.Lid ∷ []
+
+abbrev pub key_named : List ℕ → Option HardKey
+key_named text = named key_word keys text
+
+abbrev pub device_kind_word : DevKind → List ℕ
+device_kind_word device.Evdev = codes "evdev"
+device_kind_word device.Drm = codes "drm"
+
+abbrev pub device_kinds : List DevKind
+device_kinds = device.Evdev ∷ device.Drm ∷ []
+
+abbrev pub device_kind_named : List ℕ → Option DevKind
+device_kind_named text = named device_kind_word device_kinds text
+
+-- how a lock holds up
+abbrev pub mode_word : LockMode → List ℕ
+mode_word mode.Block = codes "block"
+mode_word mode.Delay = codes "delay"
+
+abbrev pub modes : List LockMode
+modes = mode.Block ∷ mode.Delay ∷ []
+
+abbrev pub mode_named : List ℕ → Option LockMode
+mode_named text = named mode_word modes text

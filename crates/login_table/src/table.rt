@@ -1,0 +1,81 @@
+// What tables of facts have in common.
+
+ghost use Rattle.std.specs.Prelude.{◌≡◌, ◌+◌, ◌<◌, ◌≤◌, Bool, [], ◌∷◌, OnOk, MatchOption, None, Some, true, false};
+ghost use Rattle.login_model.specs.Trail.{Trail, value};
+ghost use Rattle.login_model.specs.Names.{IsNext};
+ghost use Rattle.login_model.specs.declared.fact.Key.{Key as AnyKey};
+ghost use Rattle.login_model.specs.declared.mark.Mark.TheVariants.{Set};
+ghost use Rattle.login_table.specs.Listed.{is_there};
+ghost use Rattle.login_table.specs.Rows.{RowList};
+ghost use Rattle.login_table.specs.Stands.{Stands, told};
+
+use crate::name::Name;
+use crate::rows::Rows;
+use login_base::NoMemory;
+use login_model::{Fact, Key};
+use std::alloc::Global;
+
+/// A table of facts: those under the keys that are its own. It stands for marks whose settings were
+/// applied. A table gives its keys and its rows, and has the rest from here.
+pub trait Table {
+    /// Whether a key is one of its own.
+    ghost owns: { AnyKey → Bool };
+
+    /// Its facts as settings, and how many more can be applied without memory.
+    ghost list: { Self → RowList };
+
+    /// Whether a key is one of its own.
+    fn is_own(key: &Key) -> bool
+        ensures { result ≡ owns key.now };
+
+    /// The table of no marks. It takes no memory.
+    fn new(alloc: Global) -> Self
+        ensures { Stands owns (list result).trail [] };
+
+    /// Its rows.
+    fn rows(&self) -> &Rows
+        ensures { result.now ≡ list self.now };
+
+    /// Makes the spare at least so much: so many more marks can be applied without memory.
+    fn room(&mut self, marks: usize) -> Result<(), NoMemory>
+        ensures ok { OnOk result (marks ≤ (list self.new).spare) }
+        ensures same { (list self.new).trail ≡ (list self.old).trail }
+        ensures spare { (list self.old).spare ≤ (list self.new).spare };
+
+    /// Sets the fact under a key. It takes no memory.
+    fn set(&mut self, key: Key, fact: Fact)
+        requires { 0 < (list self.old).spare }
+        ensures facts { (k : AnyKey) → value (list self.new).trail k ≡ value (Set key fact ∷ (list self.old).trail) k }
+        ensures spare { (list self.old).spare ≤ (list self.new).spare + 1 };
+
+    /// The fact under a key, where it is one of the table's.
+    fn look(&self, key: &Key) -> Option<&Fact>
+        ensures { MatchOption result (told owns (list self.now).trail key.now ≡ None) (λ fact. told owns (list self.now).trail key.now ≡ Some fact.now) }
+    {
+        if Self::is_own(key) {
+            Some(self.rows().fact(key))
+        } else {
+            None
+        }
+    }
+
+    /// Applies a setting. One under another table's key changes nothing. It takes no memory.
+    fn apply(&mut self, key: Key, fact: Fact)
+        requires { 0 < (list self.old).spare }
+        ensures stands { (t : Trail) → Stands owns (list self.old).trail t → Stands owns (list self.new).trail (Set key fact ∷ t) }
+        ensures other { owns key ≡ false → self.new ≡ self.old }
+        ensures spare { (list self.old).spare ≤ (list self.new).spare + 1 }
+    {
+        if Self::is_own(&key) {
+            self.set(key, fact);
+        }
+    }
+
+    /// The least name of a kind above that one that is there. The keys of the kind are the table's.
+    fn next<N: Name>(&self, above: Option<N>) -> Option<N>
+        requires { (a : N) → owns (N.key_of a) ≡ true }
+        ensures { (t : Trail) → Stands owns (list self.now).trail t → IsNext N.lt (is_there N.key_of N.is_fact t) above result }
+    {
+        self.rows().next(above)
+    }
+}

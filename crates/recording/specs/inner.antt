@@ -1,0 +1,5 @@
+-- What serves private functions: how the readers go over the words of a line.
+pub mod CallWords
+pub mod Arguments
+pub mod CallReadings
+pub mod LineReadings
