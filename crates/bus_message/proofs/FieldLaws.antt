@@ -2,33 +2,11 @@
 use Rattle.std.proofs.Common.{◌≡◌, ℕ, zero, suc, ◌+◌, ◌<◌, ◌≤◌, List, [], ◌∷◌, length, get_or, take, drop, drop-cons, add-one, Bool, true, false, cond, eqb, ltb, not, leb, is_some, Option, Some, None, refl, ap, sym, ◌∙◌, arith}
 use Rattle.std.proofs.Math.ListN.{drop_of_length-le}
 use Rattle.std.proofs.lemmas.Bool.Decides.{nat_tests}
-use Rattle.bus_names.specs.Types.{Shape}
 use Rattle.bus_value.specs.declared.basic_value.BasicValue.TheVariants.{Byte}
-use Rattle.bus_value.specs.Values.{Val, vals, array, basic, struct}
+use Rattle.bus_value.specs.Values.{Val, basic}
 use Rattle.bus_message.specs.Checks.{field_at}
-use Rattle.bus_message.specs.Fields.{listed, fields_in, number, held, found, is_typed, is_bad}
-
-pub listed_vals : (vs : List Val) → listed (vals vs) ≡ vs
-listed_vals [] = refl
-listed_vals (v ∷ vs) = ap (λ (us : List Val). v ∷ us) (listed_vals vs)
-
-one_item : (vs : List Val) (v : Val) → 1 ≤ length vs → length vs < 2 → v ≡ get_or vs 0 v → vs ≡ v ∷ []
-one_item [] v some few is = absurd (omega arith)
-one_item (u ∷ []) v some few is = ap (λ (w : Val). w ∷ []) (sym is)
-one_item (u ∷ w ∷ vs) v some few is = absurd (omega arith)
-
--- the fields of an array
-pub array_fields : (vs fields : List Val) (v : Val) (t : Shape) → 1 ≤ length vs → length vs < 2 → v ≡ get_or vs 0 v → v ≡ array t (vals fields) → fields ≡ fields_in vs
-array_fields vs fields v t some few one is = rw (one_item vs v some few one, is) (sym (listed_vals fields))
-
-pub no_second : (parts : List Val) → false ≡ ltb 1 (length parts) → length parts ≤ 1
-no_second parts e = grind (arith, nat_tests)
-
--- a struct with one part at most
-pub short_struct : (v : Val) (parts : List Val) → v ≡ struct (vals parts) → length parts ≤ 1 → v ≡ held v
-short_struct v [] is few = is ∙ ap held (sym is)
-short_struct v (a ∷ []) is few = is ∙ ap held (sym is)
-short_struct v (a ∷ b ∷ parts) is few = absurd (omega arith)
+use Rattle.bus_value.specs.Fields.{number, held}
+use Rattle.bus_message.specs.Fields.{found, is_typed, is_bad}
 
 -- the field at a place is not the one that is looked for
 pub found_later : (n i : ℕ) (fs : List Val) (f : Val) → i < length fs → f ≡ get_or fs i f → (number f ≡ n → ⊥) → found n (drop i fs) ≡ found n (drop (i + 1) fs)

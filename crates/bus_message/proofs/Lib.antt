@@ -9,6 +9,6 @@ pub mod NameTexts
 pub mod Readings
 pub mod Zeros
 pub mod FirstNumbers
-pub mod Each
+pub mod KeptLaws
 pub mod Begins
 pub mod Histories

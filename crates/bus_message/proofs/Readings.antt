@@ -27,7 +27,8 @@ use Rattle.bus_message.specs.Faults.{for_cause, Gives}
 use Rattle.bus_message.specs.Headers.{fields_end, body_start}
 use Rattle.bus_message.specs.Reading.{fields_read, body_read}
 use Rattle.bus_message.specs.Names.{Names}
-use Rattle.bus_message.specs.Fields.{list_type, listed, fields_in, found, signature, text_at, types_at, name_at}
+use Rattle.bus_value.specs.Fields.{list_type, listed, fields_in}
+use Rattle.bus_message.specs.Fields.{found, signature, text_at, types_at, name_at}
 
 -- a name that was read from the text of a field
 pub name_read : (fault : List ℕ → Option ℕ) (v : Option Val) (text : List ℕ) (answer : Result (List ℕ) NameFault) (name : Result (Option (List ℕ)) NoMemory)
@@ -46,65 +47,13 @@ name_read fault v text (Err e) (Ok (Some n)) is gives names = absurd (let k : �
 pub no_name : (fault : List ℕ → Option ℕ) (v : Option Val) → text_at v ≡ None → name_at fault v ≡ None
 no_name fault v is = rw is refl
 
--- the signatures a(yv) and of nothing
-pub list_signature : signature_of (97 ∷ 40 ∷ 121 ∷ 118 ∷ 41 ∷ []) ≡ Ok (list_type ∷ [])
-list_signature =
-    signature_read (list_type ∷ []) (record { nested = record { in_arrays = omega arith; in_structs = omega arith }; short = omega arith })
-
+-- the signature of nothing
 pub no_signature : signature_of [] ≡ Ok []
 no_signature = signature_read [] (record { nested = record { in_arrays = omega arith; in_structs = omega arith }; short = omega arith })
 
 pub is_ok : {A E : Type 0} (r : Result A E) (a : A) → r ≡ Ok a → IsOk r
 is_ok (Ok x) a e = refl
 is_ok (Err x) a e = absurd (let k : ⊥ = cc in k)
-
-basic_first : (b : Basic) → first_element 12 (boundary (types.basic b)) ≡ 16
-basic_first kinds.Byte = refl
-basic_first kinds.Bool = refl
-basic_first kinds.I16 = refl
-basic_first kinds.U16 = refl
-basic_first kinds.I32 = refl
-basic_first kinds.U32 = refl
-basic_first kinds.I64 = refl
-basic_first kinds.U64 = refl
-basic_first kinds.Double = refl
-basic_first kinds.Str = refl
-basic_first kinds.Path = refl
-basic_first kinds.Sig = refl
-basic_first kinds.Handle = refl
-
-first_is : (t : Shape) → first_element 12 (boundary t) ≡ 16
-first_is (types.basic b) = basic_first b
-first_is types.variant = refl
-first_is (types.array t) = refl
-first_is (types.dict b t) = refl
-first_is (types.struct t ts) = refl
-
-vals_listed : (us : Vals) → vals (listed us) ≡ us
-vals_listed values.none = refl
-vals_listed (values.more v us) = ap (λ (ws : Vals). values.more v ws) (vals_listed us)
-
--- the fields of what was read can be written again
-pub fields_fit : (o : Order) (vs : List Val) → AllFit o 12 (vals vs) → AllFit o 16 (vals (fields_in vs))
-fields_fit o [] h = tt
-fields_fit o (array t us ∷ []) h =
-    subst (λ (n : ℕ). AllFit o n (vals (listed us))) (first_is t) (subst (λ (ws : Vals). AllFit o (first_element 12 (boundary t)) ws) (sym (vals_listed us)) h.0.1)
-fields_fit o (basic a ∷ []) h = tt
-fields_fit o (struct us ∷ []) h = tt
-fields_fit o (dict b t es ∷ []) h = tt
-fields_fit o (variant v ∷ []) h = tt
-fields_fit o (v ∷ w ∷ vs) h = tt
-
--- the fields, as they were read
-pub fields_given : (h : Header) (bytes : List ℕ) (ts us : List Shape) (end : ℕ) (r : Result (List Val) Refusal)
-    → Gives r (for_cause BadField (read_all h.order 12 ts (take (end - 12) (drop 12 bytes)))) → ts ≡ us → signature_of (97 ∷ 40 ∷ 121 ∷ 118 ∷ 41 ∷ []) ≡ Ok us
-    → end ≡ fields_end h → Gives r (fields_read h bytes)
-unfolding fields_read
-fields_given h bytes ts us end r gives same is place =
-    let us_is : us ≡ list_type ∷ [] = let e : Ok us ≡ Ok (list_type ∷ []) = sym is ∙ list_signature in cc in
-    let count : end - 12 ≡ 4 + h.fields = omega (arith, place) in
-    subst (λ (n : ℕ). Gives r (for_cause BadField (read_all h.order 12 (list_type ∷ []) (take n (drop 12 bytes))))) count
-    (subst (λ (xs : List Shape). Gives r (for_cause BadField (read_all h.order 12 xs (take (end - 12) (drop 12 bytes))))) (same ∙ us_is) gives)
 
 -- a body without signature, as it was read
 pub body_given : (h : Header) (fs : List Val) (bytes : List ℕ) (ts us : List Shape) (start : ℕ) (r : Result (List Val) Refusal)

@@ -10,7 +10,8 @@ use Rattle.bus_value.specs.Spelling.{spelling}
 use Rattle.bus_value.specs.Grammar.{Spells}
 use Rattle.bus_value.proofs.Rules.{computed}
 use Rattle.bus_value.proofs.Typing.{IsLegal, HasType, AllHave}
-use Rattle.bus_message.specs.Fields.{list_type, number, held, found, types_at, signature}
+use Rattle.bus_value.specs.Fields.{list_type, number, held}
+use Rattle.bus_message.specs.Fields.{found, types_at, signature}
 use Rattle.bus_message.specs.Spelling.{list_of}
 
 some_types : (us ts : List Shape) → Some us ≡ Some ts → IsWithin us → IsWithin ts

@@ -24,7 +24,8 @@ use Rattle.bus_message.specs.declared.header.Header.{Header}
 use Rattle.bus_message.specs.declared.message.Message.{Message}
 use Rattle.bus_message.specs.Faults.{and_then, for_cause}
 use Rattle.bus_message.specs.Headers.{order_letter, order_of, fields_end, body_start, size, most, stated, header_by, header_of}
-use Rattle.bus_message.specs.Fields.{field_type, list_type, listed, elements, fields_in, bad_field, has_required, handles, signature}
+use Rattle.bus_value.specs.Fields.{field_type, list_type, listed, elements, fields_in}
+use Rattle.bus_message.specs.Fields.{bad_field, has_required, handles, signature}
 use Rattle.bus_message.specs.Checks.{Tells}
 use Rattle.bus_message.specs.Reading.{fields_read, gap, padding_read, headed, unless_bad, fields_kept, body_read, message_of}
 use Rattle.bus_message.specs.Spelling.{opening, list_of}

@@ -20,7 +20,8 @@ use Rattle.bus_message.specs.declared.header.Header.{Header}
 use Rattle.bus_message.specs.declared.message.Message.{Message}
 use Rattle.bus_message.specs.Faults.{and_then, for_cause}
 use Rattle.bus_message.specs.Headers.{order_letter, order_of, fields_end, body_start, size, most, stated, accepted, header_by, header_of}
-use Rattle.bus_message.specs.Fields.{list_type, listed, fields_in, has_required, handles, signature}
+use Rattle.bus_value.specs.Fields.{list_type, listed, fields_in}
+use Rattle.bus_message.specs.Fields.{has_required, handles, signature}
 use Rattle.bus_message.specs.Checks.{Tells}
 use Rattle.bus_message.specs.Reading.{fields_read, gap, padding_read, headed, fields_kept, body_read, with_fields, message_of}
 use Rattle.bus_message.specs.Spelling.{opening, list_of, behind_list, assembled}

@@ -1,59 +1,15 @@
 -- The fields of a message: the D-Bus Specification, "Header Fields".
 use Rattle.std.specs.Prelude.{ℕ, ◌+◌, ◌==◌, ◌&&◌, ◌||◌, not, nat_le, List, [], ◌∷◌, ◌++◌, length, Bool, true, false, Option, Some, None, is_some, if◌then◌else◌}
 use Rattle.std.specs.Option.{option_and_then, option_map_or}
-use Rattle.bus_names.specs.declared.basic.Basic.TheVariants as kinds
 use Rattle.bus_names.specs.Types.{Shape}
-use Rattle.bus_names.specs.Types as types
 use Rattle.bus_names.specs.Reading.{interface_fault, member_fault, bus_name_fault}
 use Rattle.bus_value.specs.declared.basic_value.BasicValue.{BasicValue}
-use Rattle.bus_value.specs.declared.basic_value.BasicValue.TheVariants.{Byte, U32, Str, Path, Sig}
+use Rattle.bus_value.specs.declared.basic_value.BasicValue.TheVariants.{U32, Str, Path, Sig}
 use Rattle.bus_value.specs.declared.order.Order.{Order}
-use Rattle.bus_value.specs.Values.{Val, Vals, basic, array, struct, variant, none, more}
+use Rattle.bus_value.specs.Fields.{number, held}
+use Rattle.bus_value.specs.Values.{Val, basic}
 use Rattle.bus_value.specs.Spelling.{pad_size, spelling}
 use Rattle.bus_message.specs.declared.message.Message.{Message}
-
--- a field is a struct of a byte and a variant, and the fields are an array of these
-abbrev pub field_type : Shape
-field_type = types.struct (types.basic kinds.Byte) (types.more types.variant types.none)
-
-abbrev pub list_type : Shape
-list_type = types.array field_type
-
--- the values of an array as a list
-abbrev pub listed : Vals → List Val
-listed none = []
-listed (more v vs) = v ∷ listed vs
-
--- the elements of the array that was read
-abbrev pub elements : Val → List Val
-elements (array t vs) = listed vs
-elements v = []
-
-abbrev pub fields_in : List Val → List Val
-fields_in (v ∷ []) = elements v
-fields_in vs = []
-
--- a field's number
-abbrev pub byte_in : BasicValue → ℕ
-byte_in (Byte n) = n
-byte_in a = 0
-
-abbrev pub byte_of : Val → ℕ
-byte_of (basic a) = byte_in a
-byte_of v = 0
-
-abbrev pub number : Val → ℕ
-number (struct (more v vs)) = byte_of v
-number v = 0
-
--- a field's value
-abbrev pub inside : Val → Val
-inside (variant v) = v
-inside v = v
-
-abbrev pub held : Val → Val
-held (struct (more v (more w vs))) = inside w
-held v = v
 
 -- the value of the first field with a number
 abbrev pub found : ℕ → List Val → Option Val

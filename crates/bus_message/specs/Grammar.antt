@@ -4,7 +4,8 @@ use Rattle.bus_value.specs.Values.{Val}
 use Rattle.bus_value.specs.Grammar.{Spells}
 use Rattle.bus_message.specs.declared.message.Message.{Message}
 use Rattle.bus_message.specs.Checks.{Tells}
-use Rattle.bus_message.specs.Fields.{list_type, bad_field, has_required, handles, signature}
+use Rattle.bus_value.specs.Fields.{list_type}
+use Rattle.bus_message.specs.Fields.{bad_field, has_required, handles, signature}
 use Rattle.bus_message.specs.Headers.{most}
 use Rattle.bus_message.specs.Spelling.{list_of, behind_list, assembled}
 

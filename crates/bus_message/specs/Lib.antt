@@ -3,6 +3,7 @@ pub mod Headers
 pub mod Fields
 pub mod Names
 pub mod Reading
+pub mod Kept
 pub mod Parts
 pub mod Checks
 pub mod Cutting

@@ -10,7 +10,8 @@ use Rattle.bus_message.specs.declared.header.Header.{Header}
 use Rattle.bus_message.specs.declared.message.Message.{Message}
 use Rattle.bus_message.specs.Faults.{is_at, and_then, for_cause}
 use Rattle.bus_message.specs.Headers.{fields_end, body_start}
-use Rattle.bus_message.specs.Fields.{list_type, fields_in, found, path_at, name_at, u32_at, bad_field, has_required, handles, signature}
+use Rattle.bus_value.specs.Fields.{list_type, fields_in}
+use Rattle.bus_message.specs.Fields.{found, path_at, name_at, u32_at, bad_field, has_required, handles, signature}
 
 -- the fields, whose length stands at offset 12
 unfoldable pub fields_read : Header → List ℕ → Result (List Val) Fault

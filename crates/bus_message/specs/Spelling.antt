@@ -10,7 +10,7 @@ use Rattle.bus_value.specs.Numbers.{number_bytes}
 use Rattle.bus_message.specs.declared.message.Message.{Message}
 use Rattle.bus_message.specs.Headers.{order_letter}
 use Rattle.bus_message.specs.Checks.{behind_padding}
-use Rattle.bus_message.specs.Fields.{field_type}
+use Rattle.bus_value.specs.Fields.{field_type}
 
 -- the first twelve bytes
 abbrev pub opening : Message → ℕ → List ℕ

@@ -1,29 +1,24 @@
 // Whether the fields of a message are as they are to be.
 
-ghost use Rattle.std.specs.Prelude.{◌≡◌, ◌≤◌, ◌<◌, ◌+◌, ◌^◌, length, take, IfOk, []};
-ghost use Rattle.bus_value.specs.Limits.{AllFit};
-ghost use Rattle.bus_value.specs.Spelling.{spellings};
-ghost use Rattle.bus_value.specs.Values.{vals};
+ghost use Rattle.std.specs.Prelude.{◌≡◌, ◌<◌, length, take, []};
 ghost use Rattle.bus_message.specs.Faults.{Gives};
-ghost use Rattle.bus_message.specs.Fields.{found, is_typed, is_bad, has_required, bad_field};
-ghost use Rattle.bus_message.specs.Checks.{behind_padding, field_at, Tells};
-ghost use Rattle.bus_message.specs.Reading.{unless_bad, fields_kept};
+ghost use Rattle.bus_message.specs.Fields.{found, is_typed, is_bad, has_required};
+ghost use Rattle.bus_message.specs.Checks.{field_at, Tells};
+ghost use Rattle.bus_message.specs.Kept.{first_bad, known_hold, shown};
+ghost use Rattle.bus_message.specs.Reading.{unless_bad};
 
 use crate::fault::{Cause, Refusal, refuse};
-use crate::fields::{found, number, types, u32_at};
-use crate::header::SIZE;
+use crate::fields::{is_there, types, u32_at};
 use crate::message::Message;
-use bus_value::{Order, Value, pad_size};
-use login_base::NoMemory;
-use std::alloc::Global;
+use bus_value::Field;
 
 /// The highest number of a field that is known.
-const MOST_KNOWN: u8 = 9;
+pub(crate) const MOST_KNOWN: u8 = 9;
 
 /// Whether the first field with a known number holds what it is to hold; the message is what the fields tell.
-fn reads(message: &Message, fields: &[Value], wanted: u8) -> bool
-    requires { Tells message.now fields.now }
-    ensures { result ≡ is_typed wanted (found wanted fields.now) }
+fn reads(message: &Message, fields: &[Field], wanted: u8) -> bool
+    requires { Tells message.now (shown fields.now) }
+    ensures { result ≡ is_typed wanted (found wanted (shown fields.now)) }
 {
     match wanted {
         1 => message.path.is_some(),
@@ -39,45 +34,31 @@ fn reads(message: &Message, fields: &[Value], wanted: u8) -> bool
     }
 }
 
-/// The offset of the field behind these, behind its padding. It is measured by writing them.
-fn field_offset(alloc: Global, order: Order, fields: &[Value]) -> Result<usize, NoMemory>
-    requires { AllFit order 16 (vals fields.now) }
-    ensures { IfOk result (λ offset. offset ≡ behind_padding (16 + length (spellings order 16 (vals fields.now)))) }
-{
-    let mut out = Vec::new(alloc);
-    for field in fields {
-        field.push(alloc, &mut out, SIZE, order)?;
-    }
-    let end = SIZE + out.len();
-    Ok(end + pad_size(0, end, 8))
-}
-
-/// Whether the field at a place has the number 0; or is known, and stands among those before it or holds another value.
-fn is_bad(message: &Message, fields: &[Value], index: usize) -> bool
-    requires tells { Tells message.now fields.now }
+/// Whether the field at a place, whose number is known or 0, has the number 0, stands among those before it or holds
+/// another value.
+fn is_bad(message: &Message, fields: &[Field], index: usize) -> bool
+    requires tells { Tells message.now (shown fields.now) }
     requires within { index < length fields.now }
-    ensures { result ≡ is_bad (take index fields.now) (field_at fields.now index) }
+    ensures { result ≡ is_bad (take index (shown fields.now)) (field_at (shown fields.now) index) }
 {
-    let known = number(&fields[index]);
+    let known = fields[index].number;
     if known > MOST_KNOWN {
         return false;
     }
-    if found(&fields[..index], known).is_some() {
+    if is_there(&fields[..index], known) {
         return true;
     }
     !reads(message, fields, known)
 }
 
 /// Whether each known field stands there once and holds what it is to hold.
-fn check_each(alloc: Global, message: &Message, fields: &[Value]) -> Result<(), Refusal>
-    requires tells { Tells message.now fields.now }
-    requires fits { AllFit message.now.order 16 (vals fields.now) }
-    ensures { Gives result (unless_bad (bad_field message.now.order [] 16 fields.now)) }
+fn check_each(message: &Message, fields: &[Field]) -> Result<(), Refusal>
+    requires { Tells message.now (shown fields.now) }
+    ensures { Gives result (unless_bad (first_bad [] fields.now)) }
 {
     for index in 0..fields.len() {
         if is_bad(message, fields, index) {
-            let offset = field_offset(alloc, message.order, &fields[..index])?;
-            return refuse(Cause::BadField, offset);
+            return refuse(Cause::BadField, fields[index].offset);
         }
     }
     Ok(())
@@ -98,16 +79,11 @@ fn has_required(message: &Message) -> bool
 }
 
 /// Whether the fields are as they are to be, of which the message tells.
-pub(crate) fn check_fields(
-    alloc: Global,
-    message: &Message,
-    fields: &[Value],
-) -> Result<(), Refusal>
-    requires tells { Tells message.now fields.now }
-    requires fits { AllFit message.now.order 16 (vals fields.now) }
-    ensures { Gives result (fields_kept message.now fields.now) }
+pub(crate) fn check_fields(message: &Message, fields: &[Field]) -> Result<(), Refusal>
+    requires { Tells message.now (shown fields.now) }
+    ensures { Gives result (known_hold message.now fields.now) }
 {
-    check_each(alloc, message, fields)?;
+    check_each(message, fields)?;
     if !has_required(message) {
         return refuse(Cause::MissingField, 0);
     }

@@ -41,12 +41,16 @@ pub struct Cut {
     pub malformed: Option<Malformed>,
 }
 
-/// Takes the first bytes away. It takes no memory, and no time where there are none.
-fn drop_front(bytes: &mut Vec<u8>, count: usize)
+/// Takes the first bytes away. It takes no memory, and no time for each byte where these are all, or none.
+fn drop_front(alloc: Global, bytes: &mut Vec<u8>, count: usize)
     requires { count ≤ length bytes.old.items }
     ensures { bytes.new.items ≡ drop count bytes.old.items }
 {
     if count == 0 {
+        return;
+    }
+    if count == bytes.len() {
+        *bytes = Vec::new(alloc);
         return;
     }
     bytes.rotate_left(count);
@@ -56,6 +60,7 @@ fn drop_front(bytes: &mut Vec<u8>, count: usize)
 
 /// Keeps what is left behind so many bytes, which end at a place in the stream.
 fn keep(
+    alloc: Global,
     buffer: &mut Vec<u8>,
     malformed: &mut Option<Malformed>,
     place: u64,
@@ -68,9 +73,9 @@ fn keep(
     ensures malformed { (at : ℕ) → place ≡ told at → malformed.new ≡ (ended at (drop taken buffer.old.items) fault).malformed }
 {
     match fault {
-        None => drop_front(buffer, taken),
+        None => drop_front(alloc, buffer, taken),
         Some(fault) => {
-            buffer.clear();
+            *buffer = Vec::new(alloc);
             *malformed = Some(Malformed {
                 offset: place.saturating_add(fault.offset as u64),
                 cause: fault.cause,
@@ -81,6 +86,7 @@ fn keep(
 
 /// Keeps what is left behind the messages, and tells them.
 fn settle(
+    alloc: Global,
     place: &mut u64,
     buffer: &mut Vec<u8>,
     malformed: &mut Option<Malformed>,
@@ -99,7 +105,7 @@ fn settle(
         fault,
     } = pieces;
     *place = place.saturating_add(taken as u64);
-    keep(buffer, malformed, *place, taken, fault);
+    keep(alloc, buffer, malformed, *place, taken, fault);
     Cut {
         messages,
         malformed: *malformed,
@@ -148,6 +154,7 @@ impl Cutter {
         self.buffer.extend_from_slice(piece)?;
         match cut_messages(alloc, self.buffer.as_slice()) {
             Ok(pieces) => Ok(settle(
+                alloc,
                 &mut self.place,
                 &mut self.buffer,
                 &mut self.malformed,

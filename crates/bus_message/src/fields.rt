@@ -1,99 +1,46 @@
 // The fields of a message.
 
-ghost use Rattle.std.specs.Prelude.{◌≡◌, ◌<◌, ◌^◌, None, Some, IfOk, MatchOption};
+ghost use Rattle.std.specs.Prelude.{◌≡◌, ◌<◌, ◌^◌, None, Some, is_some, IfOk, MatchOption};
 ghost use Rattle.bus_names.specs.Reading.{interface_fault, member_fault, bus_name_fault};
-ghost use Rattle.bus_message.specs.Fields.{fields_in, byte_of, number, inside, held, found, plain, path_at, text_at, u32_at, types_at, name_at, signature, handles};
+ghost use Rattle.bus_message.specs.Fields.{found, plain, path_at, text_at, u32_at, types_at, name_at, signature, handles};
+ghost use Rattle.bus_message.specs.Kept.{shown};
 ghost use Rattle.bus_message.specs.Names.{Names};
 
 use bus_names::{BusName, Interface, Member, NameFault, ObjectPath, Signature};
-use bus_value::{BasicValue, Value, ValueKind};
+use bus_value::{BasicValue, Field};
 use login_base::NoMemory;
 use std::alloc::Global;
 
-/// The fields in the array that was read.
-pub(crate) fn fields_in(values: &[Value]) -> &[Value]
-    ensures { result.now ≡ fields_in values.now }
-{
-    match values {
-        [list] => match list.kind() {
-            ValueKind::Array(_, fields) => fields,
-            _ => &values[..0],
-        },
-        _ => &values[..0],
-    }
-}
-
-/// The byte that a value is.
-fn byte_of(value: &Value) -> u8
-    ensures { result ≡ byte_of value.now }
-{
-    match value.kind() {
-        ValueKind::Basic(BasicValue::Byte(byte)) => *byte,
-        _ => 0,
-    }
-}
-
-/// A field's number.
-pub(crate) fn number(field: &Value) -> u8
-    ensures { result ≡ number field.now }
-{
-    match field.kind() {
-        ValueKind::Struct(parts) => match parts.first() {
-            Some(first) => byte_of(first),
-            None => 0,
-        },
-        _ => 0,
-    }
-}
-
-/// The value in a variant.
-fn inside(value: &Value) -> &Value
-    ensures { result.now ≡ inside value.now }
-{
-    match value.kind() {
-        ValueKind::Variant(inner) => inner,
-        _ => value,
-    }
-}
-
-/// A field's value.
-fn held(field: &Value) -> &Value
-    ensures { result.now ≡ held field.now }
-{
-    match field.kind() {
-        ValueKind::Struct(parts) => match parts.get(1) {
-            Some(second) => inside(second),
-            None => field,
-        },
-        _ => field,
-    }
-}
-
-/// The value of the first field with this number.
-pub(crate) fn found(fields: &[Value], wanted: u8) -> Option<&Value>
-    ensures { MatchOption result (found wanted fields.now ≡ None) (λ value. found wanted fields.now ≡ Some value.now) }
+/// Whether a field has this number.
+pub(crate) fn is_there(fields: &[Field], wanted: u8) -> bool
+    ensures { result ≡ is_some (found wanted (shown fields.now)) }
 {
     for field in fields {
-        if number(field) == wanted {
-            return Some(held(field));
+        if field.number == wanted {
+            return true;
+        }
+    }
+    false
+}
+
+/// The value of the first field with this number, where it is of a basic type.
+fn plain(fields: &[Field], wanted: u8) -> Option<&BasicValue>
+    ensures { MatchOption result (plain (found wanted (shown fields.now)) ≡ None) (λ value. plain (found wanted (shown fields.now)) ≡ Some value.now) }
+{
+    for field in fields {
+        if field.number == wanted {
+            return match &field.value {
+                Some(value) => Some(value),
+                None => None,
+            };
         }
     }
     None
 }
 
-/// The basic value of the first field with this number.
-fn plain(fields: &[Value], wanted: u8) -> Option<&BasicValue>
-    ensures { MatchOption result (plain (found wanted fields.now) ≡ None) (λ value. plain (found wanted fields.now) ≡ Some value.now) }
-{
-    match found(fields, wanted)?.kind() {
-        ValueKind::Basic(value) => Some(value),
-        _ => None,
-    }
-}
-
 /// The object path that a field holds.
-pub(crate) fn path(fields: &[Value], wanted: u8) -> Result<Option<ObjectPath>, NoMemory>
-    ensures { IfOk result (λ path. path ≡ path_at (found wanted fields.now)) }
+pub(crate) fn path(fields: &[Field], wanted: u8) -> Result<Option<ObjectPath>, NoMemory>
+    ensures { IfOk result (λ path. path ≡ path_at (found wanted (shown fields.now))) }
 {
     match plain(fields, wanted) {
         Some(BasicValue::Path(path)) => Ok(Some(path.copied()?)),
@@ -102,8 +49,8 @@ pub(crate) fn path(fields: &[Value], wanted: u8) -> Result<Option<ObjectPath>, N
 }
 
 /// The number that a field holds.
-pub(crate) fn u32_at(fields: &[Value], wanted: u8) -> Option<u32>
-    ensures { result ≡ u32_at (found wanted fields.now) }
+pub(crate) fn u32_at(fields: &[Field], wanted: u8) -> Option<u32>
+    ensures { result ≡ u32_at (found wanted (shown fields.now)) }
 {
     match plain(fields, wanted) {
         Some(BasicValue::U32(number)) => Some(*number),
@@ -112,8 +59,8 @@ pub(crate) fn u32_at(fields: &[Value], wanted: u8) -> Option<u32>
 }
 
 /// The signature that a field holds.
-pub(crate) fn types(fields: &[Value], wanted: u8) -> Option<&Signature>
-    ensures { MatchOption result (types_at (found wanted fields.now) ≡ None) (λ types. types_at (found wanted fields.now) ≡ Some types.now) }
+pub(crate) fn types(fields: &[Field], wanted: u8) -> Option<&Signature>
+    ensures { MatchOption result (types_at (found wanted (shown fields.now)) ≡ None) (λ types. types_at (found wanted (shown fields.now)) ≡ Some types.now) }
 {
     match plain(fields, wanted) {
         Some(BasicValue::Sig(types)) => Some(types),
@@ -122,8 +69,8 @@ pub(crate) fn types(fields: &[Value], wanted: u8) -> Option<&Signature>
 }
 
 /// The text that a field holds.
-fn text(fields: &[Value], wanted: u8) -> Option<&[u8]>
-    ensures { MatchOption result (text_at (found wanted fields.now) ≡ None) (λ text. text_at (found wanted fields.now) ≡ Some text.now) }
+fn text(fields: &[Field], wanted: u8) -> Option<&[u8]>
+    ensures { MatchOption result (text_at (found wanted (shown fields.now)) ≡ None) (λ text. text_at (found wanted (shown fields.now)) ≡ Some text.now) }
 {
     match plain(fields, wanted) {
         Some(BasicValue::Str(text)) => Some(text.as_slice()),
@@ -145,10 +92,10 @@ fn named<T: Drop>(answer: Result<T, NameFault>) -> Result<Option<T>, NoMemory>
 /// The name of an interface or of an error that a field holds.
 pub(crate) fn interface(
     alloc: Global,
-    fields: &[Value],
+    fields: &[Field],
     wanted: u8,
 ) -> Result<Option<Interface>, NoMemory>
-    ensures { IfOk result (λ name. name ≡ name_at interface_fault (found wanted fields.now)) }
+    ensures { IfOk result (λ name. name ≡ name_at interface_fault (found wanted (shown fields.now))) }
 {
     match text(fields, wanted) {
         Some(text) => named(Interface::read(alloc, text)),
@@ -159,10 +106,10 @@ pub(crate) fn interface(
 /// The name of a member that a field holds.
 pub(crate) fn member(
     alloc: Global,
-    fields: &[Value],
+    fields: &[Field],
     wanted: u8,
 ) -> Result<Option<Member>, NoMemory>
-    ensures { IfOk result (λ name. name ≡ name_at member_fault (found wanted fields.now)) }
+    ensures { IfOk result (λ name. name ≡ name_at member_fault (found wanted (shown fields.now))) }
 {
     match text(fields, wanted) {
         Some(text) => named(Member::read(alloc, text)),
@@ -173,10 +120,10 @@ pub(crate) fn member(
 /// The name of a connection that a field holds.
 pub(crate) fn bus_name(
     alloc: Global,
-    fields: &[Value],
+    fields: &[Field],
     wanted: u8,
 ) -> Result<Option<BusName>, NoMemory>
-    ensures { IfOk result (λ name. name ≡ name_at bus_name_fault (found wanted fields.now)) }
+    ensures { IfOk result (λ name. name ≡ name_at bus_name_fault (found wanted (shown fields.now))) }
 {
     match text(fields, wanted) {
         Some(text) => named(BusName::read(alloc, text)),

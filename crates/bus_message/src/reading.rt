@@ -2,66 +2,51 @@
 
 ghost use Rattle.std.specs.Prelude.{◌≡◌, ◌<◌, ◌+◌, ◌^◌, length, IfOk};
 ghost use Rattle.bus_value.specs.Faults.{zeros};
-ghost use Rattle.bus_value.specs.Limits.{AllFit};
 ghost use Rattle.bus_value.specs.Reading.{read_all};
-ghost use Rattle.bus_value.specs.Values.{vals};
 ghost use Rattle.bus_message.specs.Faults.{Gives, for_cause};
-ghost use Rattle.bus_message.specs.Fields.{fields_in};
 ghost use Rattle.bus_message.specs.Headers.{HasRoom, size};
+ghost use Rattle.bus_message.specs.Kept.{fields_known, known_message, shown, with_known};
 ghost use Rattle.bus_message.specs.Parts.{target_in, parties_in};
-ghost use Rattle.bus_message.specs.Reading.{fields_read, padding_read, headed, body_read, with_fields, message_of};
+ghost use Rattle.bus_message.specs.Reading.{padding_read, headed, body_read, message_of};
 
-use crate::checks::check_fields;
+use crate::checks::{MOST_KNOWN, check_fields};
 use crate::fault::{Cause, Refusal, refuse, refused};
-use crate::fields::{bus_name, fields_in, interface, member, path, types, u32_at};
-use crate::header::{Header, SIZE};
+use crate::fields::{bus_name, interface, member, path, types, u32_at};
+use crate::header::Header;
 use crate::message::Message;
 use bus_names::{BusName, Interface, Member, ObjectPath, Signature};
-use bus_value::{Order, Value, Values, read_values, signature_of};
+use bus_value::{Field, Order, Values, read_fields, read_values, signature_of};
 use login_base::{Items, NoMemory};
 use std::alloc::Global;
 
-/// The values of these types that the bytes spell, whose fault is of this cause.
+/// The values of these types that the bytes of a body spell.
 fn read(
     alloc: Global,
     order: Order,
     start: usize,
     types: &Signature,
     bytes: &[u8],
-    cause: Cause,
 ) -> Result<Values, Refusal>
-    ensures value { Gives result (for_cause cause (read_all order start types.now bytes.now)) }
-    ensures fits { IfOk result (λ values. AllFit order start (vals values)) }
+    ensures { Gives result (for_cause Cause.BadBody (read_all order start types.now bytes.now)) }
 {
     match read_values(alloc, order, start, types, bytes) {
         Ok(values) => Ok(values),
-        Err(fault) => Err(refused(cause, fault)),
+        Err(fault) => Err(refused(Cause::BadBody, fault)),
     }
 }
 
-/// The fields, as the one array that their bytes spell.
-#[tactic(auto, unfolding(crate::specs::Reading::fields_read))]
-fn read_fields(alloc: Global, header: Header, bytes: &[u8]) -> Result<Values, Refusal>
+/// The known fields. All are checked, and the others are not kept.
+#[tactic(auto, unfolding(crate::specs::Kept::fields_known))]
+fn known_fields(alloc: Global, header: Header, bytes: &[u8]) -> Result<Items<Field>, Refusal>
     requires room { HasRoom header }
     requires whole { length bytes.now ≡ size header }
-    ensures value { Gives result (fields_read header bytes.now) }
-    ensures fits { IfOk result (λ values. AllFit header.order 12 (vals values)) }
+    ensures { Gives result (fields_known header bytes.now) }
 {
-    let types = signature_of(alloc, b"a(yv)")?;
     let list = &bytes[12..header.fields_end()];
-    read(alloc, header.order, 12, &types, list, Cause::BadField)
-}
-
-/// The same, made.
-fn list_fields(alloc: Global, header: Header, bytes: &[u8]) -> Result<Items<Value>, Refusal>
-    requires room { HasRoom header }
-    requires whole { length bytes.now ≡ size header }
-    ensures value { Gives result (fields_read header bytes.now) }
-    ensures fits { IfOk result (λ values. AllFit header.order 12 (vals values)) }
-{
-    let read = read_fields(alloc, header, bytes)?;
-    let list = read.into_list(alloc)?;
-    Ok(list)
+    match read_fields(alloc, header.order, 12, MOST_KNOWN, list) {
+        Ok(fields) => Ok(fields),
+        Err(fault) => Err(refused(Cause::BadField, fault)),
+    }
 }
 
 /// Whether this padding is zero, which stands from `at` on.
@@ -97,8 +82,8 @@ struct Target {
 }
 
 /// What the fields say of the target.
-fn read_target(alloc: Global, fields: &[Value]) -> Result<Target, NoMemory>
-    ensures { IfOk result (λ target. target ≡ target_in fields.now) }
+fn read_target(alloc: Global, fields: &[Field]) -> Result<Target, NoMemory>
+    ensures { IfOk result (λ target. target ≡ target_in (shown fields.now)) }
 {
     Ok(Target {
         path: path(fields, 1)?,
@@ -115,8 +100,8 @@ struct Parties {
 }
 
 /// What the fields say of both sides.
-fn read_parties(alloc: Global, fields: &[Value]) -> Result<Parties, NoMemory>
-    ensures { IfOk result (λ parties. parties ≡ parties_in fields.now) }
+fn read_parties(alloc: Global, fields: &[Field]) -> Result<Parties, NoMemory>
+    ensures { IfOk result (λ parties. parties ≡ parties_in (shown fields.now)) }
 {
     Ok(Parties {
         destination: bus_name(alloc, fields, 6)?,
@@ -125,8 +110,8 @@ fn read_parties(alloc: Global, fields: &[Value]) -> Result<Parties, NoMemory>
 }
 
 /// What header and fields tell, with no body.
-fn headed(alloc: Global, header: Header, fields: &[Value]) -> Result<Message, NoMemory>
-    ensures { IfOk result (λ message. message ≡ headed header fields.now) }
+fn headed(alloc: Global, header: Header, fields: &[Field]) -> Result<Message, NoMemory>
+    ensures { IfOk result (λ message. message ≡ headed header (shown fields.now)) }
 {
     let Target {
         path,
@@ -158,20 +143,20 @@ fn headed(alloc: Global, header: Header, fields: &[Value]) -> Result<Message, No
 fn read_body(
     alloc: Global,
     header: Header,
-    fields: &[Value],
+    fields: &[Field],
     bytes: &[u8],
 ) -> Result<Values, Refusal>
     requires room { HasRoom header }
     requires whole { length bytes.now ≡ size header }
-    ensures { Gives result (body_read header fields.now bytes.now) }
+    ensures { Gives result (body_read header (shown fields.now) bytes.now) }
 {
     let start = header.body_start();
     let body = &bytes[start..];
     match types(fields, 8) {
-        Some(types) => read(alloc, header.order, start, types, body, Cause::BadBody),
+        Some(types) => read(alloc, header.order, start, types, body),
         None => {
             let none = signature_of(alloc, b"")?;
-            read(alloc, header.order, start, &none, body, Cause::BadBody)
+            read(alloc, header.order, start, &none, body)
         }
     }
 }
@@ -180,28 +165,36 @@ fn read_body(
 fn with_fields(
     alloc: Global,
     header: Header,
-    fields: &[Value],
+    fields: &[Field],
     bytes: &[u8],
 ) -> Result<Message, Refusal>
     requires room { HasRoom header }
     requires whole { length bytes.now ≡ size header }
-    requires fits { AllFit header.order 16 (vals fields.now) }
-    ensures { Gives result (with_fields header bytes.now fields.now) }
+    ensures { Gives result (with_known header bytes.now fields.now) }
 {
     let message = headed(alloc, header, fields)?;
-    check_fields(alloc, &message, fields)?;
+    check_fields(&message, fields)?;
     let body = read_body(alloc, header, fields, bytes)?;
     Ok(Message { body, ..message })
 }
 
+/// The message, by its known fields.
+#[tactic(auto, unfolding(crate::specs::Kept::known_message))]
+fn known_message(alloc: Global, header: Header, bytes: &[u8]) -> Result<Message, Refusal>
+    requires room { HasRoom header }
+    requires whole { length bytes.now ≡ size header }
+    ensures { Gives result (known_message header bytes.now) }
+{
+    let fields = known_fields(alloc, header, bytes)?;
+    check_padding(header, bytes)?;
+    with_fields(alloc, header, fields.as_slice(), bytes)
+}
+
 /// The message that the bytes are, which have this header.
-#[tactic(auto, unfolding(crate::specs::Reading::message_of))]
 pub(crate) fn read_message(alloc: Global, header: Header, bytes: &[u8]) -> Result<Message, Refusal>
     requires room { HasRoom header }
     requires whole { length bytes.now ≡ size header }
     ensures { Gives result (message_of header bytes.now) }
 {
-    let list = list_fields(alloc, header, bytes)?;
-    check_padding(header, bytes)?;
-    with_fields(alloc, header, fields_in(list.as_slice()), bytes)
+    known_message(alloc, header, bytes)
 }

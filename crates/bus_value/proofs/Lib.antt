@@ -15,6 +15,7 @@ pub mod ValueSpelled
 pub mod NumberSound
 pub mod BasicSound
 pub mod ValueSound
+pub mod FieldParts
 pub mod BasicRules
 pub mod Rules
 pub mod RulesHold

@@ -16,7 +16,7 @@ use Rattle.bus_value.specs.Alignment.{boundary}
 use Rattle.bus_value.specs.Limits.{Fits, AllFit, EntriesFit, HasRoom}
 
 -- one more value
-spellings_push : (o : Order) (vs : List Val) (at : ℕ) (v : Val) → spellings o at (vals (vs ++ v ∷ [])) ≡ spellings o at (vals vs) ++ spelling o (at + length (spellings o at (vals vs))) v
+pub spellings_push : (o : Order) (vs : List Val) (at : ℕ) (v : Val) → spellings o at (vals (vs ++ v ∷ [])) ≡ spellings o at (vals vs) ++ spelling o (at + length (spellings o at (vals vs))) v
 spellings_push o [] at v = let same : at ≡ at + 0 = omega arith in append-nil (spelling o at v) ∙ ap (λ (n : ℕ). spelling o n v) same
 spellings_push o (u ∷ vs) at v =
     let s : List ℕ = spelling o at u in

@@ -8,6 +8,7 @@ pub mod Spelling
 pub mod Alignment
 pub mod Limits
 pub mod Faults
+pub mod Fields
 pub mod BasicReading
 pub mod Plain
 pub mod Reading

@@ -5,6 +5,7 @@
 mod basic_value;
 mod basic_write;
 mod fault;
+mod fields;
 mod law;
 mod numbers;
 mod order;
@@ -16,6 +17,7 @@ mod writing;
 
 pub use basic_value::BasicValue;
 pub use fault::ValueFault;
+pub use fields::{Field, read_fields};
 pub use law::{always_ends, has_spelling, one_reading, one_spelling, spelling_length};
 pub use numbers::{pad_size, push_padding, push_u32, read_u32};
 pub use order::Order;

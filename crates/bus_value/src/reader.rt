@@ -13,6 +13,7 @@ use std::alloc::Global;
 mod basic;
 mod checking;
 mod containers;
+mod numbered;
 
 /// A place in which values are read.
 #[derive(Clone, Copy)]

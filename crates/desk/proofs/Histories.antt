@@ -6,16 +6,9 @@ use lib.ListN.{get_elem?}
 use Rattle.desk.specs.declared.view.Numbered.{Numbered}
 use Rattle.desk.specs.History.{AreBelow, AreOf, AtMostOne, entries, entry_of, numbered, of_pass, of_who, with_number}
 use Rattle.desk.proofs.Lists.{append_nil}
+pub use Rattle.desk.specs.Appended.{entries_append, of_pass_append, of_who_append}
 
 module _ {E : Type 0} where
-  pub of_pass_append : (n : ℕ) (xs ys : List (Numbered E)) → of_pass n (xs ++ ys) ≡ of_pass n xs ++ of_pass n ys
-  of_pass_append n [] ys = refl
-  of_pass_append n (x ∷ xs) ys = rw (of_pass_append n xs ys) (split (eqb x.number n))
-    where
-      split : (b : _) → cond b (x.entry ∷ (of_pass n xs ++ of_pass n ys)) (of_pass n xs ++ of_pass n ys) ≡ cond b (x.entry ∷ of_pass n xs) (of_pass n xs) ++ of_pass n ys
-      split true = refl
-      split false = refl
-
   pub of_pass_own : (n : ℕ) (es : List E) → of_pass n (numbered n es) ≡ es
   of_pass_own n [] = refl
   of_pass_own n (e ∷ es) = rw (eq-eqb n n refl) (ap (λ (l : List E). e ∷ l) (of_pass_own n es))
@@ -32,9 +25,6 @@ module _ {E : Type 0} where
   entries_own n [] = refl
   entries_own n (e ∷ es) = ap (λ (l : List E). e ∷ l) (entries_own n es)
 
-  pub entries_append : (xs ys : List (Numbered E)) → entries (xs ++ ys) ≡ entries xs ++ entries ys
-  entries_append xs ys = map-append entry_of xs ys
-
   pub drop_entries : (xs : List (Numbered E)) (es : List E) → drop (length xs) (entries xs ++ es) ≡ es
   drop_entries [] es = refl
   drop_entries (x ∷ xs) es = drop_entries xs es
@@ -50,14 +40,6 @@ module _ {E : Type 0} where
   entries_grown n xs es = entries_append xs (numbered n es) ∙ ap (λ (l : List E). entries xs ++ l) (entries_own n es)
 
 module _ {E : Type 0} (who_of : E → ℕ) where
-  pub of_who_append : (c : ℕ) (xs ys : List E) → of_who who_of c (xs ++ ys) ≡ of_who who_of c xs ++ of_who who_of c ys
-  of_who_append c [] ys = refl
-  of_who_append c (x ∷ xs) ys = rw (of_who_append c xs ys) (split (eqb (who_of x) c))
-    where
-      split : (b : _) → cond b (x ∷ (of_who who_of c xs ++ of_who who_of c ys)) (of_who who_of c xs ++ of_who who_of c ys) ≡ cond b (x ∷ of_who who_of c xs) (of_who who_of c xs) ++ of_who who_of c ys
-      split true = refl
-      split false = refl
-
   pub of_who_own : (c : ℕ) (es : List E) → AtMostOne who_of c es → of_who who_of c es ≡ es
   of_who_own c [] h = refl
   of_who_own c (e ∷ es) h = rw (eq-eqb (who_of e) c h.0) (ap (λ (l : List E). e ∷ l) (ap (of_who who_of c) h.1 ∙ sym h.1))
@@ -72,10 +54,10 @@ module _ {E : Type 0} (who_of : E → ℕ) where
 
   -- what a connection has grows by its own entries
   pub of_who_grown : (c : ℕ) (xs es : List E) → AtMostOne who_of c es → of_who who_of c (xs ++ es) ≡ of_who who_of c xs ++ es
-  of_who_grown c xs es one = of_who_append c xs es ∙ ap (λ (l : List E). of_who who_of c xs ++ l) (of_who_own c es one)
+  of_who_grown c xs es one = of_who_append who_of c xs es ∙ ap (λ (l : List E). of_who who_of c xs ++ l) (of_who_own c es one)
 
   pub of_who_same : (c d : ℕ) (xs es : List E) → c ≢ d → AtMostOne who_of c es → of_who who_of d (xs ++ es) ≡ of_who who_of d xs
-  of_who_same c d xs es ne one = of_who_append d xs es ∙ (ap (λ (l : List E). of_who who_of d xs ++ l) (of_who_other c d es ne one) ∙ append_nil (of_who who_of d xs))
+  of_who_same c d xs es ne one = of_who_append who_of d xs es ∙ (ap (λ (l : List E). of_who who_of d xs ++ l) (of_who_other c d es ne one) ∙ append_nil (of_who who_of d xs))
 
   pub are_of_grown : (c : ℕ) (xs es : List E) → AreOf who_of c xs → AtMostOne who_of c es → AreOf who_of c (xs ++ es)
   are_of_grown c [] [] h one = tt

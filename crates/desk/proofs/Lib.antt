@@ -1,4 +1,5 @@
 pub mod Closing
+pub mod CountingUp
 pub mod Histories
 pub mod Joining
 pub mod Lists

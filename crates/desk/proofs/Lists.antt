@@ -33,6 +33,10 @@ module _ {A : Type 0} where
   append_nil [] = refl
   append_nil (x ∷ xs) = ap (λ (l : List _). x ∷ l) (append_nil xs)
 
+  pub none_left : (xs : List A) → length xs ≡ 0 → xs ≡ []
+  none_left [] e = refl
+  none_left (x ∷ xs) e = absurd (omega (arith, e))
+
   pub longer_starts : (all more seen : List A) → StartsWith all seen → StartsWith (all ++ more) seen
   longer_starts all more seen s = (s.0 ++ more, ap (λ (l : List A). l ++ more) s.1 ∙ append_assoc seen s.0 more)
 

@@ -1,9 +1,19 @@
 -- The entries of a pass's number and those of its connection stand in the same places.
-use Rattle.std.proofs.Common.{◌≡◌, ℕ, ◌≤◌, Bool, true, false, cond, List, [], ◌∷◌, ◌++◌, length, refl, ap, sym, ◌∙◌, arith, length-append, subst, eqb, true≢false}
+use Rattle.std.proofs.Common.{◌≡◌, ◌≢◌, ℕ, zero, suc, ◌≤◌, Bool, true, false, cond, List, [], ◌∷◌, ◌++◌, length, refl, ap, sym, ◌∙◌, arith, length-append, subst, eqb, eq-eqb, ne_eqb, append_assoc, true≢false}
+use mathlib.Core.Logic.{dite}
+use mathlib.Core.Option.{some, some-ne-none, some-injective}
+use native.Mathlib.Decide.{ℕ_discrete}
+use lib.ListN.{get_elem?}
 use Rattle.desk.specs.declared.view.Numbered.{Numbered}
 use Rattle.desk.specs.History.{entries, of_pass, of_who}
-use Rattle.desk.specs.SameEntries.{SameEntries}
+use Rattle.desk.specs.SameEntries.{EachCarries, SameEntries}
 use Rattle.desk.proofs.Histories.{entries_append, of_pass_append, of_who_append}
+
+-- a list is parted at a place
+parted : {A : Type 0} (xs : List A) (k : ℕ) (a : A) → get_elem? xs k ≡ some a → (front : List A) × (rest : List A) × (xs ≡ front ++ a ∷ rest)
+parted [] k a e = absurd (some-ne-none a (sym e))
+parted (x ∷ xs) zero a e = ([], xs, ap (λ (y : _). y ∷ xs) (some-injective x a e))
+parted (x ∷ xs) (suc k) a e = let r = parted xs k a e in (x ∷ r.0, r.1, ap (λ (l : List _). x ∷ l) r.2)
 
 module _ {E : Type 0} (who_of : E → ℕ) where
   -- each entry passes the test of the connection
@@ -62,3 +72,23 @@ module _ {E : Type 0} (who_of : E → ℕ) where
       let sum = ap length (sym who ∙ e ∙ pass) in
       alike n c front (each_left c (of_pass n front) (of_pass n rest) each)
       (omega (arith, sum, k, length-append (of_who who_of c (entries front)) (of_who who_of c (entries rest)), length-append (of_pass n front) (of_pass n rest)))
+
+  one_of : (c : ℕ) (e : E) → who_of e ≡ c → length (of_who who_of c (e ∷ [])) ≡ 1
+  one_of c e is = rw (eq-eqb (who_of e) c is) refl
+
+  none_of : (n : ℕ) (x : Numbered E) → x.number ≢ n → length (of_pass n (x ∷ [])) ≡ 0
+  none_of n x ne = rw (ne_eqb x.number n ne) refl
+
+  pub each_carries : EachCarries who_of
+  each_carries n c xs e k x at who =
+      let r = parted xs k x at in
+      let front : List (Numbered E) = r.0 in
+      let rest : List (Numbered E) = r.1 in
+      let whole : xs ≡ (front ++ x ∷ []) ++ rest = r.2 ∙ sym (append_assoc front (x ∷ []) rest) in
+      let before = same_entries n c front (x ∷ rest) (subst (λ (l : List (Numbered E)). of_who who_of c (entries l) ≡ of_pass n l) r.2 e) in
+      let after = same_entries n c (front ++ x ∷ []) rest (subst (λ (l : List (Numbered E)). of_who who_of c (entries l) ≡ of_pass n l) whole e) in
+      let grown : of_who who_of c (entries (front ++ x ∷ [])) ≡ of_who who_of c (entries front) ++ of_who who_of c (x.entry ∷ []) = ap (of_who who_of c) (entries_append front (x ∷ [])) ∙ of_who_append who_of c (entries front) (x.entry ∷ []) in
+      let sum = ap length (sym grown ∙ after ∙ of_pass_append n front (x ∷ [])) in
+      let one = one_of c x.entry who in
+      let same = ap length before in
+      dite (ℕ_discrete x.number n) (λ is. is) (λ ne. let none = none_of n x ne in absurd (omega (arith, sum, one, same, none, length-append (of_who who_of c (entries front)) (of_who who_of c (x.entry ∷ [])), length-append (of_pass n front) (of_pass n (x ∷ [])))))

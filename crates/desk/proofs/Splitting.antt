@@ -12,8 +12,9 @@ use Rattle.desk.specs.declared.view.Stage.{Stage}
 use Rattle.desk.specs.declared.view.Stage.TheVariants.{Spent, Idle, Waiting, Holding}
 use Rattle.desk.specs.declared.view.View.{View}
 use Rattle.desk.specs.History.{entries, of_pass, of_who}
+use Rattle.desk.specs.Passes.{OneSettled}
 use Rattle.desk.specs.Rule.{FirstView, InStage, JoinedPass, Knows, LiveView, Members, Placement, TurnRule, home, out}
-use Rattle.desk.specs.Views.{Settled, after_split, live, live_seats, split_view}
+use Rattle.desk.specs.Views.{Settled, after_split, first_view, live, live_seats, split_view}
 use Rattle.desk.proofs.Histories.{of_pass_append, of_pass_none, of_who_none}
 use Rattle.desk.proofs.Lists.{at_end, front_nil}
 use Rattle.desk.proofs.Members.{covered_stays}
@@ -189,6 +190,14 @@ module _ {T S E : Type 0} (setup : T → S) (journal : T → List E) (who_of : E
       (subst (λ (g : ℕ). g ≤ cond (eqb c 0) v.given c) h.given_is (given_up c v.given fresh))
       (given_has c v.given fresh)
 
+module _ {S E : Type 0} where
+  pub first_settled : (s : S) (views : List (View S E)) → views ≡ first_view s ∷ [] → OneSettled 0 views
+  first_settled s views is = subst (OneSettled 0) (sym is) record {
+    one = refl;
+    settled = record { idle = refl; nothing_inherited = refl; mine_is = refl; numbers = λ e k x at. absurd (some-ne-none x (sym at)); joined_seen = λ e k x at. absurd (some-ne-none x (sym at)) };
+    who_is = refl;
+  }
+
 module _ {S E : Type 0} (who : ℕ) (v : View S E) (settled : Settled v) where
   pub left_settled : Settled (after_split who v)
   left_settled = record {
@@ -196,6 +205,7 @@ module _ {S E : Type 0} (who : ℕ) (v : View S E) (settled : Settled v) where
     nothing_inherited = settled.nothing_inherited;
     mine_is = settled.mine_is;
     numbers = λ e k x at. let below = settled.numbers e k x at in omega arith;
+    joined_seen = settled.joined_seen;
   }
 
   pub right_settled : v.number ≡ 0 → Settled (split_view who v)
@@ -204,4 +214,5 @@ module _ {S E : Type 0} (who : ℕ) (v : View S E) (settled : Settled v) where
     nothing_inherited = refl;
     mine_is = of_pass_none (v.made + 1) v.seen (settled.numbers first);
     numbers = λ e. absurd (omega arith);
+    joined_seen = λ e. absurd (omega arith);
   }

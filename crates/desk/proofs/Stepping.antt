@@ -10,11 +10,12 @@ use lib.ListN.{get_elem?}
 use lib.Seq.{set-get_or}
 use Rattle.atomic_table.specs.Table.{State, step, Act, keeps, takes, gives, stepped, opening, put_back, rest, carried_after, Valid, Allows}
 use Rattle.atomic_table.proofs.Lists.{at_longer, at_last, set_again, set_here, set_else, one_turn}
+use Rattle.desk.specs.declared.view.Joined.{Joined}
 use Rattle.desk.specs.declared.view.Numbered.{Numbered}
 use Rattle.desk.specs.declared.view.Stage.{Stage}
 use Rattle.desk.specs.declared.view.Stage.TheVariants.{Spent, Idle, Waiting, Holding}
 use Rattle.desk.specs.declared.view.View.{View}
-use Rattle.desk.specs.History.{AreBelow, AtMostOne, entries, numbered, of_pass, of_who}
+use Rattle.desk.specs.History.{AreBelow, AtMostOne, HasJoined, entries, numbered, of_pass, of_who}
 use Rattle.desk.specs.Rule.{Covered, FirstView, InStage, Knows, LiveView, Members, Placement, Queued, TurnRule, home, out}
 use Rattle.desk.specs.Steps.{Served, SeatState, caught_up, drew, gained, looked, published}
 use Rattle.desk.specs.Views.{at_stage, first_view, live, ticketed, tickets, with_own, with_seen}
@@ -241,6 +242,12 @@ module _ {T S E : Type 0} (setup : T → S) (journal : T → List E) (who_of : E
       let f = r.members.first v (ap (get_elem? s.views) (sym first ∙ is) ∙ at) in
       subst (λ (z : ℕ × List (Numbered E)). AreBelow z.0 z.1) (λ i. (f.made_is i, sym whole i)) r.members.numbers_given
 
+  -- and what each pass made that was joined into it
+  pub joined_known : (s : State (Option T) (View S E)) (r : Rule s) (id : ℕ) (v : View S E) (seen : List (Numbered E)) → get_elem? s.views id ≡ some v → v.number ≡ id → seen ≡ r.history → v.number ≡ 0 → HasJoined v.joined seen
+  joined_known s r id v seen at is whole first k x e =
+      let f = r.members.first v (ap (get_elem? s.views) (sym first ∙ is) ∙ at) in
+      ap (of_pass x.number) whole ∙ (r.members.each_joined k x (subst (λ (z : List (Joined E)). get_elem? z k ≡ some x) f.joined_is e)).mine_is
+
   pub publishes : (slots id : ℕ) (me : SeatState T S E) (t : ℕ) (x : T) (own : List E) → me.0.stage ≡ Holding t → me.1 ≡ (0, Some x) ∷ [] → ((k : S) → me.0.setup ≡ Some k → setup x ≡ k) → journal x ≡ entries me.0.seen ++ own → AtMostOne who_of me.0.who own
       → Allows Rule slots id me 1 (λ n. (n + 1) % 2 ^ 64) (published journal (step slots 1 1 0 none) me)
   publishes slots id me t x own is carried kept grown one s r _ at _ =
@@ -299,6 +306,7 @@ module _ {T S E : Type 0} (setup : T → S) (journal : T → List E) (who_of : E
           gives_back = ap rest carried;
           mine_is = subst (λ (n : ℕ). of_pass n w.seen ≡ w.mine) (sym l.number_is) (sym (ap (of_pass id) new_is) ∙ mine_new);
           numbers = numbers_known (stepped s 1 ((get_or s.words 1 0 + 1) % 2 ^ 64) id me.1 w gives) rule id w w.seen (set_here s.views id w (at_below s.views id me.0 at)) l.number_is (sym new_is);
+          joined_seen = joined_known (stepped s 1 ((get_or s.words 1 0 + 1) % 2 ^ 64) id me.1 w gives) rule id w w.seen (set_here s.views id w (at_below s.views id me.0 at)) l.number_is (sym new_is);
         },
       )
 
@@ -381,6 +389,7 @@ module _ {T S E : Type 0} (setup : T → S) (journal : T → List E) (who_of : E
             inherited_is = (l.inherited_is.0, sym whole ∙ l.inherited_is.1);
             mine_is = subst (λ (n : ℕ). of_pass n w.seen ≡ w.mine) (sym l.number_is) (sym (ap (of_pass id) whole) ∙ l.mine_is);
             numbers = numbers_known s r id me.0 w.seen at l.number_is (sym whole);
+            joined_seen = joined_known s r id me.0 w.seen at l.number_is (sym whole);
           },
           refl,
         ),

@@ -1,18 +1,21 @@
 -- What a turn makes of what was seen, and what a join's look does.
-use Rattle.std.proofs.Common.{◌≡◌, ℕ, ◌<◌, ◌+◌, ◌%◌, ◌^◌, List, [], ◌∷◌, ◌++◌, length, drop, sym, ap, ◌∙◌, subst, append_assoc}
+use Rattle.std.proofs.Common.{◌≡◌, ℕ, ◌<◌, ◌+◌, ◌%◌, ◌^◌, List, [], ◌∷◌, ◌++◌, length, drop, refl, sym, ap, ◌∙◌, subst, append_assoc, arith, length-append}
 use Rattle.std.specs.Prelude.{Option, Some, None}
 use mathlib.Core.Option.{none}
+use lib.ListN.{get_elem?}
+use Rattle.atomic_table.proofs.Lists.{at_last}
 use Rattle.atomic_table.specs.Table.{step, rest, Allows}
+use Rattle.desk.specs.declared.view.Joined.{Joined}
 use Rattle.desk.specs.declared.view.Numbered.{Numbered}
 use Rattle.desk.specs.declared.view.Stage.TheVariants.{Idle, Waiting, Holding}
 use Rattle.desk.specs.declared.view.View.{View}
-use Rattle.desk.specs.History.{Appends, AtMostOne, StartsWith, entries, numbered, of_who}
+use Rattle.desk.specs.History.{Appends, AtMostOne, StartsWith, entries, numbered, of_pass, of_who}
 use Rattle.desk.specs.Passes.{JoinsPass, TakesTurn, Waited}
 use Rattle.desk.specs.Rule.{StandsFor, TurnRule}
 use Rattle.desk.specs.Steps.{HoldsTurn, SeatState, Served, caught_up, gained, published}
-use Rattle.desk.specs.Views.{Settled, after_join, at_stage, with_own, with_seen}
-use Rattle.desk.proofs.Histories.{drop_entries, entries_grown, of_who_grown}
-use Rattle.desk.proofs.Lists.{append_nil}
+use Rattle.desk.specs.Views.{Settled, after_join, joined_of, at_stage, with_own, with_seen}
+use Rattle.desk.proofs.Histories.{drop_entries, entries_grown, of_pass_append, of_pass_grown, of_who_grown}
+use Rattle.desk.proofs.Lists.{append_nil, none_left}
 use Rattle.desk.proofs.Stepping.{first_value, publishes, setup_at}
 
 module _ {T S E : Type 0} (who_of : E → ℕ) (setup : T → S) (journal : T → List E) where
@@ -54,8 +57,8 @@ module _ {T S E : Type 0} (who_of : E → ℕ) (setup : T → S) (journal : T �
       (subst (λ (z : ℕ). AtMostOne who_of z grown.0) (sym (ap (λ (v : View S E). v.who) r.same ∙ who_is)) grown.2)
 
   pub turned : (does : S → List E → List E → Type 0) (m m2 m3 : SeatState T S E) (x y : T) (who : ℕ) → Ready m m2 x y → m.0.who ≡ who → (grown : Appends who_of who (journal x) (journal y)) → published journal (step 0 0 0 0 none) m2 0 m3
-      → does (setup x) (journal x) (journal y) → TakesTurn who_of does m.0 m3.0
-  turned does m m2 m3 x y who r who_is grown told did =
+      → setup y ≡ setup x → does (setup x) (journal x) (journal y) → TakesTurn who_of setup journal does m.0 m3.0
+  turned does m m2 m3 x y who r who_is grown told kept did =
       let v : View S E = m.0 in
       let own : List E = grown.0 in
       let one : AtMostOne who_of v.who own = subst (λ (z : ℕ). AtMostOne who_of z own) (sym who_is) grown.2 in
@@ -70,6 +73,7 @@ module _ {T S E : Type 0} (who_of : E → ℕ) (setup : T → S) (journal : T �
         key_is = r.key_is;
         now = now ∙ ap (λ (ls : List (Numbered E)). with_own own (with_seen ls (at_stage Idle v))) (sym (append_nil v.seen));
         at_most_one = one;
+        others = refl;
         mine_is = (told y r.carried).mine_is;
         who_mine = λ p. let q : 0 < v.who = subst (λ (n : ℕ). 0 < n) (ap (λ (u : View S E). u.who) now) p in
             ap (λ (u : View S E). of_who who_of u.who (entries m3.0.seen)) now
@@ -79,6 +83,8 @@ module _ {T S E : Type 0} (who_of : E → ℕ) (setup : T → S) (journal : T �
         acted = subst (λ (k : S). does k (entries (v.seen ++ [])) (entries m3.0.seen)) r.stands.0
             (subst (λ (z : List E × List E). does (setup x) z.0 z.1)
             (λ i. ((r.stands.1 ∙ ap entries (sym (append_nil v.seen))) i, after_is i)) did);
+        value = y;
+        stands = (kept ∙ r.stands.0, after_is);
       }
 
   pub settles : (m m2 m3 : SeatState T S E) (x y : T) → Ready m m2 x y → m.0.inherited ≡ [] → published journal (step 0 0 0 0 none) m2 0 m3 → Settled m3.0 × (m3.1 ≡ [])
@@ -88,6 +94,7 @@ module _ {T S E : Type 0} (who_of : E → ℕ) (setup : T → S) (journal : T �
       nothing_inherited = ap (λ (v : View S E). v.inherited) p.now ∙ (ap (λ (v : View S E). v.inherited) r.same ∙ inherited);
       mine_is = p.mine_is;
       numbers = p.numbers;
+      joined_seen = p.joined_seen;
     },
     p.gives_back,
   )
@@ -111,28 +118,45 @@ module _ {T S E : Type 0} (who_of : E → ℕ) (setup : T → S) (journal : T �
     now = s.now ∙ ap (λ (u : View S E). with_seen (u.seen ++ s.more) (at_stage (Holding t) u)) waits;
   }
 
-module _ {S E : Type 0} (who_of : E → ℕ) where
-  pub turned_after : (does : S → List E → List E → Type 0) (v u w : View S E) → Waited v u → TakesTurn who_of does u w → TakesTurn who_of does v w
-  turned_after does v u w s d =
-      let more : List (Numbered E) = s.more in
-      let so : u.seen ++ d.more ≡ v.seen ++ (more ++ d.more) = ap (λ (u : View S E). u.seen ++ d.more) s.now ∙ append_assoc v.seen more d.more in
+-- nothing of a pass's number is new but what it did itself
+others_else : {S E : Type 0} (v w : View S E) (more : List (Numbered E)) (own : List E) → of_pass v.number v.seen ≡ v.mine → w ≡ with_own own (with_seen (v.seen ++ more) (at_stage Idle v)) → of_pass w.number w.seen ≡ w.mine → of_pass v.number more ≡ []
+others_else {S} {E} v w more own was now is =
+    let n : ℕ = v.number in
+    let grown : of_pass n ((v.seen ++ more) ++ numbered n own) ≡ v.mine ++ own = subst (λ (z : View S E). of_pass z.number z.seen ≡ z.mine) now is in
+    let parts : (of_pass n v.seen ++ of_pass n more) ++ own ≡ v.mine ++ own = ap (λ (l : List E). l ++ own) (sym (of_pass_append n v.seen more)) ∙ (sym (of_pass_grown n (v.seen ++ more) own) ∙ grown) in
+    let a = ap length parts in
+    let b = length-append (of_pass n v.seen ++ of_pass n more) own in
+    let c = length-append (of_pass n v.seen) (of_pass n more) in
+    let d = length-append v.mine own in
+    let e = ap length was in
+    none_left (of_pass n more) (omega (arith, a, b, c, d, e))
+
+module _ {T S E : Type 0} (who_of : E → ℕ) (setup : T → S) (journal : T → List E) where
+  pub turned_after : (does : S → List E → List E → Type 0) (v u w : View S E) → Settled v → Waited v u → TakesTurn who_of setup journal does u w → TakesTurn who_of setup journal does v w
+  turned_after does v u w was s d =
+      let more : List (Numbered E) = s.more ++ d.more in
+      let so : u.seen ++ d.more ≡ v.seen ++ more = ap (λ (u : View S E). u.seen ++ d.more) s.now ∙ append_assoc v.seen s.more d.more in
+      let now : w ≡ with_own d.own (with_seen (v.seen ++ more) (at_stage Idle v)) = d.now ∙ (λ i. with_own d.own (with_seen (so i) (at_stage Idle (s.now i)))) in
       record {
-        more = more ++ d.more;
+        more = more;
         own = d.own;
         key = d.key;
         key_is = sym (ap (λ (u : View S E). u.setup) s.now) ∙ d.key_is;
-        now = d.now ∙ (λ i. with_own d.own (with_seen (so i) (at_stage Idle (s.now i))));
+        now = now;
         at_most_one = subst (λ (n : ℕ). AtMostOne who_of n d.own) (ap (λ (u : View S E). u.who) s.now) d.at_most_one;
+        others = others_else v w more d.own was.mine_is now d.mine_is;
         mine_is = d.mine_is;
         who_mine = d.who_mine;
         acted = subst (λ (ls : List (Numbered E)). does d.key (entries ls) (entries w.seen)) so d.acted;
+        value = d.value;
+        stands = d.stands;
       }
 
-  pub turned_here : (does : ℕ → S → List E → List E → Type 0) (n m : ℕ) (v v' w w' : View S E) → n ≡ m → v ≡ v' → w ≡ w' → TakesTurn who_of (does n) v w → TakesTurn who_of (does m) v' w'
-  turned_here does n m v v' w w' a b c t = subst (λ (z : ℕ × View S E × View S E). TakesTurn who_of (does z.0) z.1 z.2) (λ i. (a i, b i, c i)) t
+  pub turned_here : (does : ℕ → S → List E → List E → Type 0) (n m : ℕ) (v v' w w' : View S E) → n ≡ m → v ≡ v' → w ≡ w' → TakesTurn who_of setup journal (does n) v w → TakesTurn who_of setup journal (does m) v' w'
+  turned_here does n m v v' w w' a b c t = subst (λ (z : ℕ × View S E × View S E). TakesTurn who_of setup journal (does z.0) z.1 z.2) (λ i. (a i, b i, c i)) t
 
-pub joins_pass : {T S E : Type 0} (m m1 m2 : SeatState T S E) (v w : View S E) → m1 ≡ (after_join v w, m.1) → m.1 ≡ [] → v.stage ≡ Idle → caught_up (step 0 0 0 0 none) m1 0 m2 → JoinsPass v w m2.0 × Settled m2.0 × (m2.1 ≡ [])
-joins_pass {T} {S} {E} m m1 m2 v w joined none_held idle k =
+pub joins_pass : {T S E : Type 0} (m m1 m2 : SeatState T S E) (v w : View S E) → m1 ≡ (after_join v w, m.1) → m.1 ≡ [] → v.stage ≡ Idle → v.number ≡ 0 → caught_up (step 0 0 0 0 none) m1 0 m2 → JoinsPass v w m2.0 × Settled m2.0 × (m2.1 ≡ [])
+joins_pass {T} {S} {E} m m1 m2 v w joined none_held idle first k =
     let learns = k.0 in
     let was : m1.0 ≡ after_join v w = ap (λ (z : SeatState T S E). z.0) joined in
     let u : View S E = m2.0 in (
@@ -141,12 +165,15 @@ joins_pass {T} {S} {E} m m1 m2 v w joined none_held idle k =
         seen_is = subst (λ (z : View S E). StartsWith u.seen z.seen) was learns.seen_is;
         other_is = subst (λ (z : View S E). StartsWith u.seen z.inherited) was learns.inherited_is;
         mine_is = learns.mine_is;
+        other_mine = learns.joined_seen (ap (λ (z : View S E). z.number) learns.now ∙ (ap (λ (z : View S E). z.number) was ∙ first)) (length v.joined) (joined_of w)
+            (ap (λ (l : List (Joined E)). get_elem? l (length v.joined)) (ap (λ (z : View S E). z.joined) learns.now ∙ ap (λ (z : View S E). z.joined) was) ∙ at_last v.joined (joined_of w) (length v.joined) refl);
       },
       record {
         idle = ap (λ (z : View S E). z.stage) learns.now ∙ (ap (λ (z : View S E). z.stage) was ∙ idle);
         nothing_inherited = ap (λ (z : View S E). z.inherited) learns.now;
         mine_is = learns.mine_is;
         numbers = learns.numbers;
+        joined_seen = learns.joined_seen;
       },
       k.1 ∙ (ap (λ (z : SeatState T S E). z.1) joined ∙ none_held),
     )

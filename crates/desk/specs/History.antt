@@ -2,6 +2,7 @@
 use Rattle.std.specs.Prelude.{◌≡◌, ℕ, ◌<◌, ◌==◌, cond, List, [], ◌∷◌, ◌++◌, map}
 use mathlib.Core.Option.{some}
 use lib.ListN.{get_elem?}
+use Rattle.desk.specs.declared.view.Joined.{Joined}
 use Rattle.desk.specs.declared.view.Numbered.{Numbered}
 
 -- a list begins with this front
@@ -32,6 +33,10 @@ module _ {E : Type 0} where
   abbrev pub AreBelow : ℕ → List (Numbered E) → Type 0
   AreBelow n xs = (k : ℕ) (x : Numbered E) → get_elem? xs k ≡ some x → x.number < n
 
+  -- what each joined pass made stands in this history under its number
+  abbrev pub HasJoined : List (Joined E) → List (Numbered E) → Type 0
+  HasJoined joined xs = (k : ℕ) (j : Joined E) → get_elem? joined k ≡ some j → of_pass j.number xs ≡ j.mine
+
   module _ (who_of : E → ℕ) where
     -- the entries of one connection, in order
     abbrev pub of_who : ℕ → List E → List E
@@ -42,6 +47,10 @@ module _ {E : Type 0} where
     abbrev pub AreOf : ℕ → List E → Type 0
     AreOf who [] = Unit {0}
     AreOf who (e ∷ es) = (who_of e ≡ who) × AreOf who es
+
+    -- the entries with this number are these, and are of this connection
+    abbrev pub HasMade : List (Numbered E) → ℕ → ℕ → List E → Type 0
+    HasMade xs n who mine = (of_pass n xs ≡ mine) × AreOf who mine
 
     -- at most one entry, of this connection
     abbrev pub AtMostOne : ℕ → List E → Type 0

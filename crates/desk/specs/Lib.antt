@@ -1,3 +1,4 @@
+pub mod Appended
 pub mod Counting
 pub mod History
 pub mod Passes

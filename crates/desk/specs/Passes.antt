@@ -8,7 +8,8 @@ use Rattle.desk.specs.declared.view.Joined.{Joined}
 use Rattle.desk.specs.declared.view.Numbered.{Numbered}
 use Rattle.desk.specs.declared.view.Stage.TheVariants.{Idle, Holding}
 use Rattle.desk.specs.declared.view.View.{View}
-use Rattle.desk.specs.History.{AreOf, AtMostOne, StartsWith, entries, of_pass, of_who}
+use Rattle.desk.specs.History.{AtMostOne, HasMade, StartsWith, entries, of_pass, of_who}
+use Rattle.desk.specs.Rule.{StandsFor}
 use Rattle.desk.specs.Views.{Settled, after_join, at_stage, spent_view, with_own, with_seen}
 
 -- a seat at this table that holds no slot, between its turns
@@ -52,8 +53,10 @@ module _ {S E : Type 0} where
     pub seen_is : StartsWith u.seen v.seen
     pub other_is : StartsWith u.seen w.seen
     pub mine_is : of_pass u.number u.seen ≡ u.mine
+    -- what the other made is what the first has seen under its number
+    pub other_mine : of_pass w.number u.seen ≡ w.mine
 
-  module _ (who_of : E → ℕ) where
+  module _ {T : Type 0} (who_of : E → ℕ) (setup : T → S) (journal : T → List E) where
     -- a turn: what was seen grows by what others did, and then by the pass's own entry, if there is one
     pub record TakesTurn (does : S → List E → List E → Type 0) (v w : View S E) : Type 0 where
       pub more : List (Numbered E)
@@ -62,22 +65,38 @@ module _ {S E : Type 0} where
       pub key_is : v.setup ≡ Some key
       pub now : w ≡ with_own own (with_seen (v.seen ++ more) (at_stage Idle v))
       pub at_most_one : AtMostOne who_of v.who own
+      -- what the others did carries other numbers
+      pub others : of_pass v.number more ≡ []
       pub mine_is : of_pass w.number w.seen ≡ w.mine
       pub who_mine : 0 < w.who → of_who who_of w.who (entries w.seen) ≡ w.mine
       -- the journals are those of the value, before and after the act
       pub acted : does key (entries (v.seen ++ more)) (entries w.seen)
+      -- what is seen now is the journal of the value at this turn
+      pub value : T
+      pub stands : StandsFor setup journal value key w.seen
 
+  -- each pass that was joined is so
+  abbrev pub EachJoined : View S E → (Joined E → Type 0) → Type 0
+  EachJoined v P = (k : ℕ) (x : Joined E) → get_elem? v.joined k ≡ some x → P x
+
+  -- no two passes that were joined have one number
+  abbrev pub AreDistinct : View S E → Type 0
+  AreDistinct v = (k l : ℕ) (x y : Joined E) → get_elem? v.joined k ≡ some x → get_elem? v.joined l ≡ some y → x.number ≡ y.number → k ≡ l
+
+  -- each entry has the number of the first pass, or of one that was joined
+  abbrev pub HasNoOther : View S E → Type 0
+  HasNoOther v = (k : ℕ) (l : Numbered E) → get_elem? v.seen k ≡ some l → (l.number ≡ 0) ⊎ ((i : ℕ) × (x : Joined E) × (get_elem? v.joined i ≡ some x) × (l.number ≡ x.number))
+
+  module _ (who_of : E → ℕ) where
     -- what holds at the close of the first pass, and of the value's setup and journal
     pub record Closes (v : View S E) (setup : S) (journal : List E) : Type 0 where
       pub setup_is : v.setup ≡ Some setup
       pub journal_is : journal ≡ entries v.seen
       -- the first pass made what it has, and so did each that was joined
-      pub own : (of_pass 0 v.seen ≡ v.mine) × AreOf who_of v.who v.mine
-      pub each : (k : ℕ) (x : Joined E) → get_elem? v.joined k ≡ some x → (of_pass x.number v.seen ≡ x.mine) × AreOf who_of x.who x.mine
+      pub own : HasMade who_of v.seen 0 v.who v.mine
+      pub each : EachJoined v (λ x. HasMade who_of v.seen x.number x.who x.mine)
       -- the entries of a connection are those of its pass
-      pub each_who : (k : ℕ) (x : Joined E) → get_elem? v.joined k ≡ some x → 0 < x.who → of_who who_of x.who journal ≡ x.mine
-      -- no two passes have one number, and the first has number 0
-      pub not_first : (k : ℕ) (x : Joined E) → get_elem? v.joined k ≡ some x → 0 < x.number
-      pub distinct : (k l : ℕ) (x y : Joined E) → get_elem? v.joined k ≡ some x → get_elem? v.joined l ≡ some y → x.number ≡ y.number → k ≡ l
-      -- no other pass made an entry
-      pub no_other : (k : ℕ) (l : Numbered E) → get_elem? v.seen k ≡ some l → (l.number ≡ 0) ⊎ ((i : ℕ) × (x : Joined E) × (get_elem? v.joined i ≡ some x) × (l.number ≡ x.number))
+      pub each_who : EachJoined v (λ x. 0 < x.who → of_who who_of x.who journal ≡ x.mine)
+      pub not_first : EachJoined v (λ x. 0 < x.number)
+      pub distinct : AreDistinct v
+      pub no_other : HasNoOther v

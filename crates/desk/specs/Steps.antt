@@ -4,7 +4,7 @@ use Rattle.atomic_table.specs.Table.{Me, Step}
 use Rattle.desk.specs.declared.view.Numbered.{Numbered}
 use Rattle.desk.specs.declared.view.Stage.TheVariants.{Idle, Waiting, Holding}
 use Rattle.desk.specs.declared.view.View.{View}
-use Rattle.desk.specs.History.{AreBelow, StartsWith, of_pass, of_who}
+use Rattle.desk.specs.History.{AreBelow, HasJoined, StartsWith, of_pass, of_who}
 use Rattle.desk.specs.Rule.{StandsFor}
 use Rattle.desk.specs.Views.{at_stage, with_own, with_seen}
 
@@ -53,6 +53,7 @@ pub record Published {T S E : Type 0} (journal : T → List E) (x : T) (m m' : S
   pub gives_back : m'.1 ≡ []
   pub mine_is : of_pass m'.0.number m'.0.seen ≡ m'.0.mine
   pub numbers : m'.0.number ≡ 0 → AreBelow (m'.0.made + 1) m'.0.seen
+  pub joined_seen : m'.0.number ≡ 0 → HasJoined m'.0.joined m'.0.seen
 
 abbrev pub published : {T S E : Type 0} → (T → List E) → Step (Option T) → SeatState T S E → ℕ → SeatState T S E → Type 0
 published {T} journal st m r m' = (x : T) → m.1 ≡ (0, Some x) ∷ [] → Published journal x m m'
@@ -64,6 +65,7 @@ pub record CatchesUp {S E : Type 0} (v w : View S E) : Type 0 where
   pub inherited_is : StartsWith w.seen v.inherited
   pub mine_is : of_pass w.number w.seen ≡ w.mine
   pub numbers : w.number ≡ 0 → AreBelow (w.made + 1) w.seen
+  pub joined_seen : w.number ≡ 0 → HasJoined w.joined w.seen
 
 abbrev pub caught_up : {T S E : Type 0} → Step (Option T) → SeatState T S E → ℕ → SeatState T S E → Type 0
 caught_up st m r m' = CatchesUp m.0 m'.0 × (m'.1 ≡ m.1)

@@ -5,7 +5,7 @@ use Rattle.desk.specs.declared.view.Numbered.{Numbered}
 use Rattle.desk.specs.declared.view.Stage.{Stage}
 use Rattle.desk.specs.declared.view.Stage.TheVariants.{Spent, Idle, Waiting, Holding}
 use Rattle.desk.specs.declared.view.View.{View}
-use Rattle.desk.specs.History.{AreBelow, numbered, of_pass}
+use Rattle.desk.specs.History.{AreBelow, HasJoined, numbered, of_pass}
 
 -- 1 where the seat has a ticket
 abbrev pub ticketed : Stage → ℕ
@@ -73,3 +73,5 @@ module _ {S E : Type 0} where
     pub mine_is : of_pass v.number v.seen ≡ v.mine
     -- the first pass has seen no number that it did not give
     pub numbers : v.number ≡ 0 → AreBelow (v.made + 1) v.seen
+    -- and what those made that were joined into it
+    pub joined_seen : v.number ≡ 0 → HasJoined v.joined v.seen

@@ -1,6 +1,7 @@
 // The smallest use of a desk: a value that counts, and two threads that count.
 
-ghost use Rattle.std.specs.Prelude.{◌≡◌, [], IfOk};
+ghost use Rattle.std.specs.Prelude.{◌≡◌, ◌*◌, ◌≤◌, [], length, IfOk};
+ghost use Rattle.desk.specs.Counting.{CountsTo, CountedBy, counter_of};
 
 use crate::act::Act;
 use crate::desk::Desk;
@@ -8,8 +9,11 @@ use crate::kept::Kept;
 use crate::pass::Pass;
 use login_base::{ConnId, NoMemory};
 use std::alloc::Global;
+use std::marker::Model;
+use std::snapshot::Snapshot;
 use std::sync::Wait;
-use std::thread::{Threads, join};
+use std::thread;
+use std::thread::{Promise, PromisedHandle, Scope, Threads};
 
 /// One count, and who made it.
 #[derive(Drop)]
@@ -21,33 +25,53 @@ pub struct Count {
 /// The counts that were made, and how many there may be.
 #[derive(Drop)]
 pub struct Counts {
-    pub most: usize,
-    pub counts: Vec<Count>,
+    most: usize,
+    counts: Vec<Count>,
+}
+
+impl Model for Counts {
+    ghost use Rattle.std.specs.Prelude.{◌≤◌, vec_len, vec_capacity};
+    ghost use Rattle.desk.specs.Counting.{CountsState};
+
+    ghost Value = { CountsState };
+
+    ghost view = { λ c. record { most = c.most; counts = c.counts.items } };
+
+    ghost invariant = { λ c. (vec_len c.counts ≤ c.most) × (c.most ≤ vec_capacity c.counts) };
 }
 
 impl Counts {
     /// No counts, and room for as many as there may be.
     pub fn new(alloc: Global, most: usize) -> Result<Counts, NoMemory>
         ensures most { IfOk result (λ c. c.most ≡ most) }
-        ensures none { IfOk result (λ c. c.counts.items ≡ []) }
+        ensures none { IfOk result (λ c. c.counts ≡ []) }
     {
         Ok(Counts {
             most,
             counts: Vec::with_capacity(alloc, most)?,
         })
     }
+
+    /// The counts in order.
+    pub fn as_slice(&self) -> &[Count]
+        ensures { result.now ≡ self.now.counts }
+    {
+        self.counts.as_slice()
+    }
 }
 
 impl Kept for Counts {
+    ghost use Rattle.desk.specs.Counting.{counter_of};
+
     type Setup = usize;
 
     type Entry = Count;
 
-    ghost who = { λ e. e.who.0 };
+    ghost who = { counter_of };
 
     ghost setup = { λ c. c.most };
 
-    ghost journal = { λ c. c.counts.items };
+    ghost journal = { λ c. c.counts };
 }
 
 /// Makes one count, and answers whether there was room for it.
@@ -61,7 +85,7 @@ impl Act<Counts> for CountUp {
 
     type Answer = bool;
 
-    ghost does = { λ before who most old new after answer. CountsUp who before.number old new answer };
+    ghost does = { λ before who most old new after answer. CountsUp most who before.number old new answer };
 
     ghost may = { λ act mine. Unit {0} };
 
@@ -69,7 +93,7 @@ impl Act<Counts> for CountUp {
 
     fn act(&mut self, value: &mut Counts, who: ConnId) -> bool {
         let number = self.number;
-        let fits = value.counts.len() < value.most && value.counts.len() < value.counts.capacity();
+        let fits = value.counts.len() < value.most;
         if fits {
             value.counts.push_reserved(Count { who, number });
         }
@@ -77,7 +101,7 @@ impl Act<Counts> for CountUp {
     }
 }
 
-/// Counts from 0 up to below `most`.
+/// Counts from 0 up to below `most`, and stops where there is no room.
 pub fn count_to<R: Wait>(
     rt: &R,
     desk: &Desk<Counts>,
@@ -85,33 +109,112 @@ pub fn count_to<R: Wait>(
     most: u32,
 ) -> Pass<usize, Count>
     requires { pass.desk ≡ desk.now }
-    ensures { result.desk ≡ desk.now }
+    ensures desk { result.desk ≡ desk.now }
+    ensures made { CountsTo most pass.view result.view }
 {
     for number in 0..most {
-        desk.act(rt, &mut pass, &mut CountUp { number });
+        if !desk.act(rt, &mut pass, &mut CountUp { number }) {
+            return pass;
+        }
     }
     pass
 }
 
+/// What the handle of a thread that counts keeps.
+#[derive(Drop)]
+struct CountNote {
+    pass: Snapshot<Pass<usize, Count>>,
+    most: u32,
+}
+
+impl Promise<Pass<usize, Count>> for CountNote {
+    ghost use Rattle.std.specs.Prelude.{◌≡◌};
+    ghost use Rattle.desk.specs.Counting.{CountsTo};
+
+    ghost kept_by = { λ note pass. (pass.desk ≡ note.pass.value.desk) × CountsTo note.most note.pass.value.view pass.view };
+}
+
+// Starts a thread that counts.
+fn start_count<'s, 'a: 's, E, R: Wait + Sync>(
+    rt: &'a R,
+    scope: &Scope<'s, E>,
+    desk: &'a Desk<Counts>,
+    pass: Pass<usize, Count>,
+    most: u32,
+) -> Result<PromisedHandle<Pass<usize, Count>, CountNote>, NoMemory>
+    requires { pass.desk ≡ desk.now }
+    ensures pass { IfOk result (λ h. h.promise.pass.value ≡ pass) }
+    ensures most { IfOk result (λ h. h.promise.most ≡ most) }
+{
+    let note = CountNote {
+        pass: Snapshot::of(&pass),
+        most,
+    };
+    match scope.spawn_with(note, move || count_to(rt, desk, pass, most)) {
+        Ok(handle) => Ok(handle),
+        Err(_) => Err(NoMemory),
+    }
+}
+
+// Counts in two threads, and waits for both.
+fn count_in<'s, 'a: 's, E, R: Wait + Threads + Sync>(
+    rt: &'a R,
+    scope: &Scope<'s, E>,
+    desk: &'a Desk<Counts>,
+    one: Pass<usize, Count>,
+    two: Pass<usize, Count>,
+    most: u32,
+) -> Result<(Pass<usize, Count>, Pass<usize, Count>), NoMemory>
+    requires { (one.desk ≡ desk.now) × (two.desk ≡ desk.now) }
+    ensures desk { IfOk result (λ r. (r.0.desk ≡ desk.now) × (r.1.desk ≡ desk.now)) }
+    ensures one { IfOk result (λ r. CountsTo most one.view r.0.view) }
+    ensures two { IfOk result (λ r. CountsTo most two.view r.1.view) }
+{
+    let one = start_count(rt, scope, desk, one, most)?;
+    let two = start_count(rt, scope, desk, two, most)?;
+    Ok((one.join(rt), two.join(rt)))
+}
+
+// Counts in two threads of a scope.
+fn count_both<R: Wait + Threads + Sync>(
+    rt: &R,
+    desk: &Desk<Counts>,
+    one: Pass<usize, Count>,
+    two: Pass<usize, Count>,
+    most: u32,
+) -> Result<(Pass<usize, Count>, Pass<usize, Count>), NoMemory>
+    requires { (one.desk ≡ desk.now) × (two.desk ≡ desk.now) }
+    ensures desk { IfOk result (λ r. (r.0.desk ≡ desk.now) × (r.1.desk ≡ desk.now)) }
+    ensures one { IfOk result (λ r. CountsTo most one.view r.0.view) }
+    ensures two { IfOk result (λ r. CountsTo most two.view r.1.view) }
+{
+    thread::scope(
+        thread::scope_env(),
+        rt,
+        |scope| -> Result<(Pass<usize, Count>, Pass<usize, Count>), NoMemory>
+            requires { (one.desk ≡ desk.now) × (two.desk ≡ desk.now) }
+            ensures { IfOk result (λ r. (r.0.desk ≡ one.desk) × (r.1.desk ≡ two.desk) × CountsTo most one.view r.0.view × CountsTo most two.view r.1.view) }
+        { count_in(rt, scope, desk, one, two, most) },
+    )
+}
+
 /// Two threads count up to below `most`, for connections 1 and 2, each by a pass of its own. There
-/// is room for so many counts in all.
+/// is room for so many counts in all. Where a thread cannot be made, it is as if memory were wanting.
 pub fn count_apart<R: Wait + Threads + Sync>(
     rt: &R,
     alloc: Global,
     room: usize,
     most: u32,
 ) -> Result<Counts, NoMemory>
-    ensures { IfOk result (λ c. c.most ≡ room) }
+    ensures most { IfOk result (λ c. c.most ≡ room) }
+    ensures one { IfOk result (CountedBy 1 most) }
+    ensures two { IfOk result (CountedBy 2 most) }
+    ensures all { IfOk result (λ c. 2 * most ≤ room → length c.counts ≡ 2 * most) }
 {
     let (desk, mut first) = Desk::open(alloc, Counts::new(alloc, room)?)?;
     let one = desk.split(&mut first, ConnId(1));
     let two = desk.split(&mut first, ConnId(2));
-    let shared = &desk;
-    let (one, two) = join(
-        rt,
-        move || count_to(rt, shared, one, most),
-        move || count_to(rt, shared, two, most),
-    );
+    let (one, two) = count_both(rt, &desk, one, two, most)?;
     desk.join(&mut first, one);
     desk.join(&mut first, two);
     Ok(desk.close(first))

@@ -1,8 +1,8 @@
 // The desk.
 
-ghost use Rattle.std.specs.Prelude.{◌≡◌, ◌<◌, [], IfOk};
-ghost use Rattle.desk.specs.History.{StartsWith, entries, of_pass};
-ghost use Rattle.desk.specs.Passes.{IsFirst, IsNew, IsSettled, JoinsPass, TakesTurn, Waited, Closes};
+ghost use Rattle.std.specs.Prelude.{◌≡◌, ◌<◌, [], IfOk, Some};
+ghost use Rattle.desk.specs.History.{HasMade, StartsWith, entries, of_pass, of_who};
+ghost use Rattle.desk.specs.Passes.{AreDistinct, Closes, EachJoined, HasNoOther, IsFirst, IsNew, IsSettled, JoinsPass, TakesTurn, Waited};
 ghost use Rattle.desk.specs.Steps.{HoldsTurn};
 ghost use Rattle.desk.specs.Views.{first_view, after_split, split_view};
 
@@ -97,7 +97,7 @@ impl<V: Kept> Desk<V> {
     }
 
     /// Joins a pass that was split from the first into it. The first has then seen all that both had
-    /// seen, and what was published by now.
+    /// seen.
     pub fn join(&self, into: &mut Pass<V::Setup, V::Entry>, from: Pass<V::Setup, V::Entry>)
         requires desk { (into.old.desk ≡ self.now) × (from.desk ≡ self.now) }
         requires first { IsFirst into.old.view }
@@ -126,7 +126,14 @@ impl<V: Kept> Desk<V> {
         requires desk { pass.desk ≡ self }
         requires first { IsFirst pass.view }
         requires out { pass.view.out ≡ 0 }
-        ensures { Closes V.who pass.view (V.setup result) (V.journal result) }
+        ensures setup { pass.view.setup ≡ Some (V.setup result) }
+        ensures journal { V.journal result ≡ entries pass.view.seen }
+        ensures own { HasMade V.who pass.view.seen 0 pass.view.who pass.view.mine }
+        ensures joined { EachJoined pass.view (λ x. HasMade V.who pass.view.seen x.number x.who x.mine) }
+        ensures joined_who { EachJoined pass.view (λ x. 0 < x.who → of_who V.who x.who (V.journal result) ≡ x.mine) }
+        ensures not_first { EachJoined pass.view (λ x. 0 < x.number) }
+        ensures distinct { AreDistinct pass.view }
+        ensures no_other { HasNoOther pass.view }
     {
         let Pass { who: _, badge } = pass;
         self.shut(badge.into_seat())
@@ -157,7 +164,7 @@ impl<V: Kept> Desk<V> {
         requires may { 0 < pass.old.view.who → A.may act.old pass.old.view.mine }
         requires after { StartsWith (entries pass.old.view.seen) (A.after act.old) }
         ensures desk { pass.new.desk ≡ pass.old.desk }
-        ensures turn { TakesTurn V.who (λ setup before after. A.does act.old pass.old.view.who setup before after act.new result) pass.old.view pass.new.view }
+        ensures turn { TakesTurn V.who V.setup V.journal (λ setup before after. A.does act.old pass.old.view.who setup before after act.new result) pass.old.view pass.new.view }
     {
         let mut seat = mem::replace(&mut pass.badge, Badge::blank()).into_seat();
         self.wait(rt, &mut seat);
@@ -193,7 +200,7 @@ impl<V: Kept> Desk<V> {
         requires may { 0 < who.0 → A.may act.old seat.old.me.0.mine }
         requires after { StartsWith (entries seat.old.me.0.seen) (A.after act.old) }
         ensures seat { IsSettled self.now seat.new }
-        ensures turn { TakesTurn V.who (λ setup before after. A.does act.old who.0 setup before after act.new result) seat.old.me.0 seat.new.me.0 }
+        ensures turn { TakesTurn V.who V.setup V.journal (λ setup before after. A.does act.old who.0 setup before after act.new result) seat.old.me.0 seat.new.me.0 }
     {
         let table = &self.table.shared;
         let Some(mut value) = table.exchange(seat, 0, None) else {

@@ -1,11 +1,13 @@
 // What holds of every history, as a function that does nothing and ensures it.
 
-ghost use Rattle.desk.specs.SameEntries.{SameEntries};
+ghost use Rattle.desk.specs.SameEntries.{EachCarries, SameEntries};
 
 use crate::kept::Kept;
 
 /// Where the entries that carry a pass's number are those of its connection, as at each of its turns
-/// and at the close, they are so in each front of the history.
+/// and at the close for a connection above 0, they are so in each front of the history, and each
+/// entry of the connection carries the number.
 pub fn same_entries<V: Kept>()
-    ensures { SameEntries V.who }
+    ensures fronts { SameEntries V.who }
+    ensures each { EachCarries V.who }
 {}

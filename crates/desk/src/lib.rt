@@ -22,7 +22,6 @@ pub use desk::Desk;
 pub use kept::Kept;
 pub use law::same_entries;
 pub use pass::Pass;
-pub use rule::Turns;
 pub use view::{Joined, Numbered, Stage, View};
 
 #[cfg(test)]

@@ -12,10 +12,9 @@ fn each_call_once(rt: HostRuntime) -> Result<(), NoMemory> {
     assert!(rt; desk.act(&rt, &mut second, &mut CountUp { number: 8 }));
     assert!(rt; !desk.act(&rt, &mut second, &mut CountUp { number: 9 }));
     desk.join(&mut first, second);
-    let Counts { most, counts } = desk.close(first);
-    assert_eq!(rt; most, 2);
-    assert_eq!(rt; counts.len(), 2);
-    for (count, want) in counts.iter().zip([(0, 7), (4, 8)]) {
+    let closed = desk.close(first);
+    assert_eq!(rt; closed.as_slice().len(), 2);
+    for (count, want) in closed.as_slice().iter().zip([(0, 7), (4, 8)]) {
         assert!(rt; (count.who.0, count.number) == want);
     }
     Ok(())
@@ -24,10 +23,11 @@ fn each_call_once(rt: HostRuntime) -> Result<(), NoMemory> {
 #[test]
 fn two_threads_count(rt: HostRuntime) -> Result<(), NoMemory> {
     let alloc = rt.alloc();
-    let Counts { most: _, counts } = count_apart(&rt, alloc, 200, 100)?;
-    assert_eq!(rt; counts.len(), 200);
+    let closed = count_apart(&rt, alloc, 200, 100)?;
+    assert_eq!(rt; closed.as_slice().len(), 200);
     let mut next = [0, 0];
-    for count in &counts {
+    for count in closed.as_slice() {
+        assert!(rt; count.who.0 == 1 || count.who.0 == 2);
         let at = if count.who.0 == 1 { 0 } else { 1 };
         assert_eq!(rt; count.number, next[at]);
         next[at] = count.number.saturating_add(1);

@@ -1,8 +1,9 @@
 use Rattle.bus_names.specs.Reading.{bus_name_fault}
 use Rattle.bus_message.specs.Fields.{found}
+use Rattle.bus_message.specs.Kept.{shown}
 use Rattle.bus_message.proofs.Readings.{name_read}
 use Rattle.bus_message.proofs.fields.bus_name.Goals as goal
 
 pub returns-in-Some : goal.returns-in-Some
 returns-in-Some c =
-    name_read bus_name_fault (found c.args.wanted c.args.fields.now) c.in-Some.text.now c.read.result c.named.result c.in-Some.ensures c.read.ensures.value c.named.ensures
+    name_read bus_name_fault (found c.args.wanted (shown c.args.fields.now)) c.in-Some.text.now c.read.result c.named.result c.in-Some.ensures c.read.ensures.value c.named.ensures

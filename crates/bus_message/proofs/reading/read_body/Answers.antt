@@ -1,4 +1,5 @@
 use Rattle.std.proofs.Common.{refl}
+use Rattle.bus_message.specs.Kept.{shown}
 use Rattle.bus_message.proofs.Readings.{no_signature, is_ok, body_given}
 use Rattle.bus_message.proofs.reading.read_body.Goals as goal
 
@@ -7,4 +8,4 @@ signature_of-requires c = is_ok _ _ no_signature
 
 pub returns-in_ok-none-in-None : goal.returns-in_ok-none-in-None
 returns-in_ok-none-in-None c =
-    body_given c.args.header c.args.fields.now c.args.bytes.now _ c.in_ok-none-in-None.none c.body_start-start.result c.read-in-None.result c.read-in-None.ensures.value refl c.in_ok-none-in-None.ensures c.body_start-start.ensures c.in-None.ensures
+    body_given c.args.header (shown c.args.fields.now) c.args.bytes.now _ c.in_ok-none-in-None.none c.body_start-start.result c.read-in-None.result c.read-in-None.ensures refl c.in_ok-none-in-None.ensures c.body_start-start.ensures c.in-None.ensures

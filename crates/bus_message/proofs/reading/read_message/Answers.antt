@@ -1,6 +1,7 @@
-use Rattle.bus_message.proofs.Readings.{fields_fit}
+use Rattle.std.proofs.Common.{subst}
+use Rattle.bus_message.specs.Faults.{Gives}
+use Rattle.bus_message.proofs.KeptLaws.{message_known}
 use Rattle.bus_message.proofs.reading.read_message.Goals as goal
 
-pub with_fields-requires-clause-fits : goal.with_fields-requires-clause-fits
-with_fields-requires-clause-fits c =
-    rw (c.fields_in.ensures, c.as_slice.ensures) (fields_fit c.args.header.order c.in_ok-list.list c.in_ok-list.ensures.fits)
+pub returns : goal.returns
+returns c = subst (λ r. Gives c.known_message.result r) (message_known c.args.header c.args.bytes.now) c.known_message.ensures

@@ -18,7 +18,7 @@ returns-clause-turn g c =
     let out = c.in-Some.ensures in
     let back = c.exchange-2.ensures in
     let r = ready g.V.Kept.who g.V.Kept.setup g.V.Kept.journal c.args.seat.now.me c.exchange.new.seat.me c.exchange-2.new.seat.me _ c.in-Some.value c.act-answer.new.value c.requires.turn out.2 refl out.3 back.3 in
-    turned _ _ _ _ _ _ c.fetch_add.new.seat.me c.in-Some.value c.act-answer.new.value c.args.who.0 r c.requires.who c.act-answer.ensures.appends c.fetch_add.ensures.2 c.act-answer.ensures.does
+    turned _ _ _ _ _ _ c.fetch_add.new.seat.me c.in-Some.value c.act-answer.new.value c.args.who.0 r c.requires.who c.act-answer.ensures.appends c.fetch_add.ensures.2 c.act-answer.ensures.setup c.act-answer.ensures.does
 
 pub returns-clause-seat : goal.returns-clause-seat
 returns-clause-seat g c =

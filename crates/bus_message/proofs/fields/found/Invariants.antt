@@ -1,6 +1,0 @@
-use Rattle.std.proofs.Common.{◌≡◌, drop}
-use Rattle.bus_message.specs.Fields.{found}
-use Rattle.bus_message.proofs.fields.found.Given as goal
-
-abbrev pub invariant-loop-field : goal.invariant-loop-field
-invariant-loop-field l = found l.wanted l.fields ≡ found l.wanted (drop l.field-index l.fields)
