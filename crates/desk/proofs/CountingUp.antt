@@ -1,5 +1,5 @@
 -- What passes that count leave.
-use Rattle.std.proofs.Common.{◌≡◌, ◌≢◌, ◌⊎◌, eq-eqb, ne_eqb, ℕ, zero, suc, ◌+◌, ◌*◌, ◌<◌, ◌≤◌, true, false, List, [], ◌∷◌, ◌++◌, length, drop, refl, sym, ap, ◌∙◌, subst, inl, inr, ⊎_elim, arith, length-append, append_assoc}
+use Rattle.std.proofs.Common.{◌≡◌, ◌⊎◌, eq-eqb, ne_eqb, ℕ, zero, suc, ◌+◌, ◌*◌, ◌<◌, ◌≤◌, true, false, List, [], ◌∷◌, ◌++◌, length, drop, refl, sym, ap, ◌∙◌, subst, inl, inr, ⊎_elim, arith, length-append, append_assoc}
 use Rattle.std.specs.Prelude.{Bool, Some}
 use Rattle.std.proofs.lemmas.Bool.{cases_lt}
 use mathlib.Core.Option.{some, some-ne-none, some-injective}
@@ -10,7 +10,7 @@ use Rattle.desk.specs.declared.view.Joined.{Joined}
 use Rattle.desk.specs.declared.view.Numbered.{Numbered}
 use Rattle.desk.specs.declared.view.Stage.TheVariants.{Idle}
 use Rattle.desk.specs.declared.view.View.{View}
-use Rattle.desk.specs.History.{StartsWith, entries, numbered, of_pass, of_who}
+use Rattle.desk.specs.History.{StartsWith, entries, of_pass, of_who}
 use Rattle.desk.specs.Passes.{Closes, JoinsPass, TakesTurn}
 use Rattle.desk.specs.Views.{after_split, at_stage, first_view, split_view, with_own, with_seen}
 use Rattle.desk.proofs.Histories.{drop_entries, entries_append, entries_grown}

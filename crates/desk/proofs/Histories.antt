@@ -1,10 +1,9 @@
 -- The entries of a number and those of a connection, as a history grows.
-use Rattle.std.proofs.Common.{◌≡◌, ◌≢◌, eqb, cond, true, false, ℕ, zero, suc, ◌<◌, ◌≤◌, List, [], ◌∷◌, ◌++◌, length, drop, refl, sym, ap, ◌∙◌, subst, arith, eq-eqb, ne_eqb}
+use Rattle.std.proofs.Common.{◌≡◌, ◌≢◌, ℕ, zero, suc, ◌<◌, ◌≤◌, List, [], ◌∷◌, ◌++◌, length, drop, refl, sym, ap, ◌∙◌, subst, arith, eq-eqb, ne_eqb}
 use mathlib.Core.Option.{some, some-ne-none, some-injective}
-use mathlib.Core.List.{map-append}
 use lib.ListN.{get_elem?}
 use Rattle.desk.specs.declared.view.Numbered.{Numbered}
-use Rattle.desk.specs.History.{AreBelow, AreOf, AtMostOne, entries, entry_of, numbered, of_pass, of_who, with_number}
+use Rattle.desk.specs.History.{AreBelow, AreOf, AtMostOne, entries, numbered, of_pass, of_who, with_number}
 use Rattle.desk.proofs.Lists.{append_nil}
 pub use Rattle.desk.specs.Appended.{entries_append, of_pass_append, of_who_append}
 

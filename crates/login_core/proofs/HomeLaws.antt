@@ -50,18 +50,23 @@ seats-stand f t s k own = at-home f t k Seats s (seat-home k own)
 
 -- tables whose own keys stand, with rows that stand for all others
 pub all-stand : (f : Tables) (t : Trail) → Stands is_user_key f.users t → Stands is_session_key f.sessions t → Stands is_seat_key f.seats t
-    → ((k : Key) → value f.takes k ≡ value t k) → ((k : Key) → value f.others k ≡ value t k) → (k : Key) → value (table f (home k)) k ≡ value t k
-all-stand f t users sessions seats takes others (key.User u) = users (key.User u) refl
-all-stand f t users sessions seats takes others (key.Linger u) = users (key.Linger u) refl
-all-stand f t users sessions seats takes others (key.Sess s) = sessions (key.Sess s) refl
-all-stand f t users sessions seats takes others (key.Idle s) = sessions (key.Idle s) refl
-all-stand f t users sessions seats takes others (key.Locked s) = sessions (key.Locked s) refl
-all-stand f t users sessions seats takes others (key.Sig s) = sessions (key.Sig s) refl
-all-stand f t users sessions seats takes others (key.Seat name) = seats (key.Seat name) refl
-all-stand f t users sessions seats takes others (key.Act name) = seats (key.Act name) refl
-all-stand f t users sessions seats takes others key.Vt = seats key.Vt refl
-all-stand f t users sessions seats takes others (key.Getty v) = seats (key.Getty v) refl
-all-stand f t users sessions seats takes others key.Pending = seats key.Pending refl
-all-stand f t users sessions seats takes others (key.Taken s d) = takes (key.Taken s d)
-all-stand f t users sessions seats takes others (key.Awaited s d) = takes (key.Awaited s d)
-all-stand f t users sessions seats takes others k = others k
+    → ((k : Key) → value f.takes k ≡ value t k) → ((k : Key) → value f.connections k ≡ value t k) → ((k : Key) → value f.controls k ≡ value t k) → ((k : Key) → value f.owners k ≡ value t k)
+    → ((k : Key) → value f.lives k ≡ value t k) → ((k : Key) → value f.others k ≡ value t k) → (k : Key) → value (table f (home k)) k ≡ value t k
+all-stand f t users sessions seats takes conns controls owners lives others (key.User u) = users (key.User u) refl
+all-stand f t users sessions seats takes conns controls owners lives others (key.Linger u) = users (key.Linger u) refl
+all-stand f t users sessions seats takes conns controls owners lives others (key.Sess s) = sessions (key.Sess s) refl
+all-stand f t users sessions seats takes conns controls owners lives others (key.Idle s) = sessions (key.Idle s) refl
+all-stand f t users sessions seats takes conns controls owners lives others (key.Locked s) = sessions (key.Locked s) refl
+all-stand f t users sessions seats takes conns controls owners lives others (key.Sig s) = sessions (key.Sig s) refl
+all-stand f t users sessions seats takes conns controls owners lives others (key.Seat name) = seats (key.Seat name) refl
+all-stand f t users sessions seats takes conns controls owners lives others (key.Act name) = seats (key.Act name) refl
+all-stand f t users sessions seats takes conns controls owners lives others key.Vt = seats key.Vt refl
+all-stand f t users sessions seats takes conns controls owners lives others (key.Getty v) = seats (key.Getty v) refl
+all-stand f t users sessions seats takes conns controls owners lives others key.Pending = seats key.Pending refl
+all-stand f t users sessions seats takes conns controls owners lives others (key.Taken s d) = takes (key.Taken s d)
+all-stand f t users sessions seats takes conns controls owners lives others (key.Awaited s d) = takes (key.Awaited s d)
+all-stand f t users sessions seats takes conns controls owners lives others (key.Conn c) = conns (key.Conn c)
+all-stand f t users sessions seats takes conns controls owners lives others (key.Ctl s) = controls (key.Ctl s)
+all-stand f t users sessions seats takes conns controls owners lives others (key.Owner h) = owners (key.Owner h)
+all-stand f t users sessions seats takes conns controls owners lives others (key.Live h) = lives (key.Live h)
+all-stand f t users sessions seats takes conns controls owners lives others k = others k

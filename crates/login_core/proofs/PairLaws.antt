@@ -119,11 +119,13 @@ joined-ascending : (s : SessId) (ds : List DevNo) (more : List Pair) → Ascendi
     → Ascending is_pair_below (joined s ds more)
 unfolding joined
 joined-ascending s [] more a b f = b
-joined-ascending s (d ∷ ds) more a b f =
-    ((λ p i. elim (joined-gives s p ds more i) [
-      | inl g ↦ below-device s p.0 d p.1 (sym g.0) (a.0 p.1 g.1)
-      | inr j ↦ below-session s p.0 d p.1 (f p j)
-    ]), joined-ascending s ds more a.1 b f)
+joined-ascending s (d ∷ ds) more a b f = (
+  (λ p i. elim (joined-gives s p ds more i) [
+    | inl g ↦ below-device s p.0 d p.1 (sym g.0) (a.0 p.1 g.1)
+    | inr j ↦ below-session s p.0 d p.1 (f p j)
+  ]),
+  joined-ascending s ds more a.1 b f,
+)
 
 pairs : Trail → List SessId → List Pair
 pairs t [] = []

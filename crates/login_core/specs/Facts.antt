@@ -7,7 +7,7 @@ use Rattle.login_model.specs.declared.fact.Fact.{Fact}
 use Rattle.login_model.specs.Trail.{Trail, value}
 use Rattle.login_model.specs.Fresh.{fresh_session, fresh_handle, is_open_fact, is_owned_fact}
 use Rattle.login_core.specs.declared.board.home.Home.{Home}
-use Rattle.login_core.specs.declared.board.home.Home.TheVariants.{Users, Sessions, Seats, Takes, Others}
+use Rattle.login_core.specs.declared.board.home.Home.TheVariants.{Users, Sessions, Seats, Takes, Connections, Controls, Owners, Lives, Others}
 use Rattle.login_core.specs.declared.room.counts.Counts.{Counts}
 use Rattle.login_core.specs.Counts.{AreCounted}
 use Rattle.login_core.specs.Home.{home}
@@ -19,6 +19,10 @@ pub record Tables : Type 0 where
   pub sessions : Trail
   pub seats : Trail
   pub takes : Trail
+  pub connections : Trail
+  pub controls : Trail
+  pub owners : Trail
+  pub lives : Trail
   pub others : Trail
   pub counts : Counts
   pub session : ℕ
@@ -31,6 +35,10 @@ table f Users = f.users
 table f Sessions = f.sessions
 table f Seats = f.seats
 table f Takes = f.takes
+table f Connections = f.connections
+table f Controls = f.controls
+table f Owners = f.owners
+table f Lives = f.lives
 table f Others = f.others
 
 -- each fact is the one that the marks leave, in the table where it has its home; the counts are those of what is

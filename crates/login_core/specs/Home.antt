@@ -2,7 +2,7 @@
 use Rattle.login_model.specs.declared.fact.Key.{Key}
 use Rattle.login_model.specs.declared.fact.Key.TheVariants as key
 use Rattle.login_core.specs.declared.board.home.Home.{Home}
-use Rattle.login_core.specs.declared.board.home.Home.TheVariants.{Users, Sessions, Seats, Takes, Others}
+use Rattle.login_core.specs.declared.board.home.Home.TheVariants.{Users, Sessions, Seats, Takes, Connections, Controls, Owners, Lives, Others}
 
 -- by what the key is about
 abbrev pub home : Key → Home
@@ -19,4 +19,8 @@ home (key.Getty v) = Seats
 home key.Pending = Seats
 home (key.Taken s d) = Takes
 home (key.Awaited s d) = Takes
+home (key.Conn c) = Connections
+home (key.Ctl s) = Controls
+home (key.Owner h) = Owners
+home (key.Live h) = Lives
 home _ = Others

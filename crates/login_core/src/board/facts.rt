@@ -26,13 +26,18 @@ use std::marker::Model;
 use users_linger::UsersLinger;
 
 /// The facts, how many there are of what needs room, and the numbers of the next session and the next handle.
-/// They stand for the marks whose settings were put in.
+/// They stand for the marks whose settings were put in. Facts whose names keep growing have rows of their own,
+/// so that a new one comes last and moves none.
 #[derive(Drop)]
 pub struct Facts {
     users: UsersLinger,
     sessions: Sessions,
     seats: SeatsVts,
     takes: Rows,
+    connections: Rows,
+    controls: Rows,
+    owners: Rows,
+    lives: Rows,
     others: Rows,
     counts: Counts,
     session: u32,
@@ -51,6 +56,10 @@ impl Model for Facts {
       sessions = f.sessions.trail;
       seats = f.seats.trail;
       takes = f.takes.trail;
+      connections = f.connections.trail;
+      controls = f.controls.trail;
+      owners = f.owners.trail;
+      lives = f.lives.trail;
       others = f.others.trail;
       counts = f.counts;
       session = f.session;
@@ -58,7 +67,7 @@ impl Model for Facts {
       spare = f.spare;
     } };
 
-    ghost invariant = { λ f. (f.spare ≤ f.users.spare) × (f.spare ≤ f.sessions.spare) × (f.spare ≤ f.seats.spare) × (f.spare ≤ f.takes.spare) × (f.spare ≤ f.others.spare) };
+    ghost invariant = { λ f. (f.spare ≤ f.users.spare) × (f.spare ≤ f.sessions.spare) × (f.spare ≤ f.seats.spare) × (f.spare ≤ f.takes.spare) × (f.spare ≤ f.connections.spare) × (f.spare ≤ f.controls.spare) × (f.spare ≤ f.owners.spare) × (f.spare ≤ f.lives.spare) × (f.spare ≤ f.others.spare) };
 }
 
 /// How many sessions a setting opens.
@@ -160,6 +169,10 @@ impl Facts {
             sessions: Sessions::new(alloc),
             seats: SeatsVts::new(alloc),
             takes: Rows::new(alloc),
+            connections: Rows::new(alloc),
+            controls: Rows::new(alloc),
+            owners: Rows::new(alloc),
+            lives: Rows::new(alloc),
             others: Rows::new(alloc),
             counts: Counts::NONE,
             session: 1,
@@ -181,6 +194,10 @@ impl Facts {
         self.sessions.room(more)?;
         self.seats.room(more)?;
         self.takes.reserve(more)?;
+        self.connections.reserve(more)?;
+        self.controls.reserve(more)?;
+        self.owners.reserve(more)?;
+        self.lives.reserve(more)?;
         self.others.reserve(more)?;
         self.spare = more;
         Ok(())
@@ -195,6 +212,10 @@ impl Facts {
             Home::Sessions => self.sessions.rows(),
             Home::Seats => self.seats.rows(),
             Home::Takes => &self.takes,
+            Home::Connections => &self.connections,
+            Home::Controls => &self.controls,
+            Home::Owners => &self.owners,
+            Home::Lives => &self.lives,
             Home::Others => &self.others,
         }
     }
@@ -223,6 +244,10 @@ impl Facts {
             Home::Sessions => self.sessions.set(key, fact),
             Home::Seats => self.seats.set(key, fact),
             Home::Takes => self.takes.set(key, fact),
+            Home::Connections => self.connections.set(key, fact),
+            Home::Controls => self.controls.set(key, fact),
+            Home::Owners => self.owners.set(key, fact),
+            Home::Lives => self.lives.set(key, fact),
             Home::Others => self.others.set(key, fact),
         }
     }
@@ -287,7 +312,7 @@ impl Facts {
     pub fn next_conn(&self, above: Option<ConnId>) -> Option<ConnId>
         ensures { (t : Trail) → StandFor self.now t → IsNext conn_lt (is_connected t) above result }
     {
-        self.others.next(above)
+        self.connections.next(above)
     }
 
     /// The least device above that one that a session has taken.

@@ -16,6 +16,14 @@ pub enum Home {
     Seats,
     /// The devices that sessions have taken, and the pauses that are awaited.
     Takes,
+    /// Whose each connection is.
+    Connections,
+    /// Which connection controls each session.
+    Controls,
+    /// Whose each handle is.
+    Owners,
+    /// Which handles give access to their devices.
+    Lives,
     /// All other facts.
     Others,
 }
@@ -30,6 +38,10 @@ impl Home {
             Key::Sess(_) | Key::Idle(_) | Key::Locked(_) | Key::Sig(_) => Home::Sessions,
             Key::Seat(_) | Key::Act(_) | Key::Vt | Key::Getty(_) | Key::Pending => Home::Seats,
             Key::Taken(_, _) | Key::Awaited(_, _) => Home::Takes,
+            Key::Conn(_) => Home::Connections,
+            Key::Ctl(_) => Home::Controls,
+            Key::Owner(_) => Home::Owners,
+            Key::Live(_) => Home::Lives,
             _ => Home::Others,
         }
     }
