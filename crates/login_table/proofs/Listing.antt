@@ -1,5 +1,5 @@
 -- Going over the names of a kind in order.
-use Rattle.std.proofs.Common.{◌≡◌, ℕ, ◌+◌, ◌<◌, ◌≤◌, ◌^◌, Bool, true, false, cond, nat_le, Option, Some, None, List, [], ◌∷◌, ◌++◌, length, filter, find, refl, ap, sym, ◌∙◌, append_assoc, append-nil, arith, add-one}
+use Rattle.std.proofs.Common.{◌≡◌, ℕ, ◌+◌, ◌<◌, ◌≤◌, Bool, true, false, cond, nat_le, Option, Some, None, List, [], ◌∷◌, ◌++◌, length, filter, find, refl, ap, sym, ◌∙◌, append_assoc, append-nil, arith, add-one}
 use Rattle.std.proofs.lemmas.Bool.Decides.{nat_tests}
 use Rattle.login_base.specs.declared.ids.SessId.{SessId}
 use Rattle.login_model.specs.declared.fact.Key.{Key}
@@ -116,30 +116,6 @@ all-length k t =
     let c = names-length k.lt k.name_in t in
     omega arith
 
--- one more is counted
-pub count-fits : {A : Type 0} (k : Kind A) (t : Trail) (i : ℕ) (above : Option A) (a : A) → length (all k t) ≡ i + length (left k t above) → Next k t above (Some a) → length t < 2 ^ 32 → i + 1 < 2 ^ 64
-count-fits k t i above a e h b = let n = left-count k t above a h in let m = all-length k t in omega arith
-
--- how many there are that meet a test
-pub met-start : {A : Type 0} (k : Kind A) (t : Trail) (p : A → Bool) → length (filter p (all k t)) ≡ 0 + length (filter p (left k t None))
-met-start {A} k t p = let e = ap (λ (xs : List A). length (filter p xs)) (left-start k t) in omega arith
-
-met-step : {A : Type 0} (b : Bool) (x : A) (xs : List A) → length (cond b (x ∷ xs) xs) ≡ cond b 1 0 + length xs
-met-step true x xs = omega arith
-met-step false x xs = omega arith
-
-pub met-next : {A : Type 0} (k : Kind A) (t : Trail) (p : A → Bool) (n i j : ℕ) (above : Option A) (a : A) → n ≡ i + length (filter p (left k t above)) → Next k t above (Some a) → j ≡ i + cond (p a) 1 0
-    → n ≡ j + length (filter p (left k t (Some a)))
-met-next {A} k t p n i j above a e h f =
-    let w = ap (λ (xs : List A). length (filter p xs)) (left-next k t above a h) ∙ met-step (p a) a (filter p (left k t (Some a))) in
-    omega arith
-
-pub met-none : {A : Type 0} (k : Kind A) (t : Trail) (p : A → Bool) (n i : ℕ) (above : Option A) → n ≡ i + length (filter p (left k t above)) → Next k t above None → i ≡ n
-met-none {A} k t p n i above e h = let z : length (filter p (left k t above)) ≡ 0 = ap (λ (xs : List A). length (filter p xs)) (left-none k t above h) in omega arith
-
-pub met-length : {A : Type 0} (k : Kind A) (t : Trail) (p : A → Bool) → length (filter p (all k t)) ≤ length t + 1
-met-length k t p = let a = filter-length p (all k t) in let b = all-length k t in omega arith
-
 -- the first that meets a test
 pub find-start : {A : Type 0} (k : Kind A) (t : Trail) (p : A → Bool) → find p (left k t None) ≡ find p (all k t)
 find-start k t p = ap (find p) (left-start k t)
@@ -163,12 +139,3 @@ session_kind = kind session_lt session_order session_in Sess is_session_fact Non
 pub sessions-all : (t : Trail) → sessions t ≡ all session_kind t
 unfolding sessions
 sessions-all t = refl
-
--- one more session is counted
-pub session-fits : (t : Trail) (p : SessId → Bool) (i j : ℕ) (above : Option SessId) (s : SessId) → length (filter p (sessions t)) ≡ i + length (filter p (left session_kind t above)) → Next session_kind t above (Some s)
-    → j ≡ i + cond (p s) 1 0 → length t < 2 ^ 32 → j < 2 ^ 64
-session-fits t p i j above s e h f b =
-    let n = met-next session_kind t p (length (filter p (sessions t))) i j above s e h f in
-    let m = ap (λ (xs : List SessId). length (filter p xs)) (sessions-all t) in
-    let w = met-length session_kind t p in
-    omega arith

@@ -10,7 +10,7 @@ mod search;
 mod table;
 
 pub use active::{OnTerminal, active_on, current_vt, is_active, seat_of_session, session_on};
-pub use listed::{Listed, are_at_least, count, count_sessions, list};
+pub use listed::{Listed, are_at_least, list};
 pub use name::{Name, Order, is_above, is_lower};
 pub use rows::{Row, Rows};
 pub use search::{IsOpen, OfUser, Test, find_session};

@@ -1,12 +1,11 @@
 // Going over the names of a kind in order.
 
-ghost use Rattle.std.specs.Prelude.{◌≡◌, ◌<◌, ◌≤◌, ◌^◌, if◌then◌else◌, nat_le, length, filter, IfOk};
+ghost use Rattle.std.specs.Prelude.{◌≡◌, nat_le, length, IfOk};
 ghost use Rattle.login_model.specs.Names.{IsNext, session_lt, user_lt, conn_lt, seat_lt, lock_lt};
-ghost use Rattle.login_model.specs.Where.{is_session, is_user, is_connected, is_seat, is_lock, sessions};
+ghost use Rattle.login_model.specs.Where.{is_session, is_user, is_connected, is_seat, is_lock};
 ghost use Rattle.login_table.specs.Listed.{is_there, listed};
 
 use crate::name::Name;
-use crate::search::Test;
 use login_base::{ConnId, Items, LockNo, NoMemory, SeatName, SessId, Uid};
 use login_model::Look;
 use std::alloc::Global;
@@ -58,21 +57,6 @@ impl Listed for LockNo {
     }
 }
 
-/// How many of a kind there are.
-pub fn count<N: Listed, F: Look>(facts: &F) -> u64
-    requires { length (F.trail facts.now) < 2 ^ 32 }
-    ensures value { result ≡ length (listed N.lt N.name_in N.key_of N.is_fact N.first (F.trail facts.now)) }
-    ensures bound { result ≤ 2 ^ 32 }
-{
-    let mut count = 0;
-    let mut above: Option<N> = None;
-    while let Some(name) = N::next(facts, above) {
-        count += 1;
-        above = Some(name);
-    }
-    count
-}
-
 /// Whether there are at least so many of a kind.
 pub fn are_at_least<N: Listed, F: Look>(facts: &F, least: u32) -> bool
     ensures { result ≡ nat_le least (length (listed N.lt N.name_in N.key_of N.is_fact N.first (F.trail facts.now))) }
@@ -98,26 +82,4 @@ pub fn list<N: Listed + Drop, F: Look>(alloc: Global, facts: &F) -> Result<Items
         above = Some(name);
     }
     Ok(names)
-}
-
-/// One where it is so, else none.
-fn one_if(is_so: bool) -> u64
-    ensures { result ≡ (if is_so then 1 else 0) }
-{
-    if is_so { 1 } else { 0 }
-}
-
-/// How many sessions that are not gone meet a test.
-pub fn count_sessions<F: Look, T: Test<SessId>>(facts: &F, test: &T) -> u64
-    requires { length (F.trail facts.now) < 2 ^ 32 }
-    ensures value { result ≡ length (filter (T.meets test.now (F.trail facts.now)) (sessions (F.trail facts.now))) }
-    ensures bound { result ≤ 2 ^ 32 }
-{
-    let mut count = 0;
-    let mut above = None;
-    while let Some(session) = facts.next_session(above) {
-        count += one_if(test.is_met(facts, session));
-        above = Some(session);
-    }
-    count
 }
