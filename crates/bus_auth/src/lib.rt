@@ -14,6 +14,3 @@ pub use auth::Auth;
 pub use law::{ended_for_good, in_any_pieces, least_length, lines_of_text};
 pub use step::{AuthState, AuthStep};
 pub use table::Ending;
-
-#[cfg(test)]
-mod tests;

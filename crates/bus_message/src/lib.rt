@@ -21,6 +21,3 @@ pub use law::{
     one_message, prefix_free,
 };
 pub use message::Message;
-
-#[cfg(test)]
-mod tests;

@@ -18,6 +18,3 @@ pub use name::{BusName, Interface, Member, ObjectPath};
 pub use signature::Signature;
 pub use types::{Kind, Type};
 pub use unescape::{escape_label, unescape_label};
-
-#[cfg(test)]
-mod tests;

@@ -25,6 +25,3 @@ pub use reading::read_values;
 pub use value::{Value, ValueKind};
 pub use values::{Values, signature_of};
 pub use writing::write_values;
-
-#[cfg(test)]
-mod tests;

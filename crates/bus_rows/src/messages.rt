@@ -7,8 +7,8 @@ mod clients;
 mod faults;
 mod limits;
 
-use super::*;
 use accepted::{BY_HAND, GLIB, JEEPNEY};
+use bus_message::{Cause, Cut, Cutter, Malformed, Message, encode};
 use bus_names::{BusName, Interface, Member, ObjectPath};
 use bus_value::{Order, Values};
 use clients::{SENT, Sent};
@@ -412,7 +412,7 @@ fn answer(alloc: Global, kind: u8, error: Option<Interface>, sender: Option<BusN
 }
 
 #[test]
-#[tactic(auto, unfolding(crate::specs::Fields::has_required, crate::specs::Spelling::fields_of, crate::specs::Spelling::message_bytes))]
+#[tactic(auto, unfolding(bus_message::specs::Fields::has_required, bus_message::specs::Spelling::fields_of, bus_message::specs::Spelling::message_bytes))]
 fn a_return_is_written(rt: HostRuntime) -> Result<(), NoMemory> {
     let alloc = rt.alloc();
     let message = answer(alloc, 2, None, None);

@@ -12,10 +12,12 @@ mod containers;
 mod fault_places;
 mod faults;
 
-use super::*;
 use accepted::Spelled;
 use basic::{NUMBERS, STRUCTS, TEXTS};
 use bus_names::{Basic, NameFault, ObjectPath, Signature, Type};
+use bus_value::{
+    BasicValue, Order, Value, ValueFault, ValueKind, Values, read_values, write_values,
+};
 use containers::CONTAINERS;
 use faults::Fault;
 use login_base::{Items, NoMemory, Word};

@@ -1,7 +1,7 @@
 // Bytes of values in each place, at the limits too, as jeepney 0.8.0 wrote them. Those in little order from the offset 0 on
 // are also as dbus-next 0.2.3 wrote them, but for the index of a file descriptor, which is 0 in jeepney's.
 
-use crate::Order::{self, Big, Little};
+use bus_value::Order::{self, Big, Little};
 
 /// A signature, an order, an offset, and bytes from there on.
 pub(super) type Spelled = (&'static [u8], Order, usize, &'static [u8]);

@@ -1,7 +1,7 @@
 // Lengths, in both orders of bytes: made by hand from the rules of reading.
 
 use super::Both;
-use crate::ValueFault::BadLength;
+use bus_value::ValueFault::BadLength;
 
 /// The same, where the length of a text, of an array or of a signature passes it.
 pub(super) const PASSING_LENGTH: [Both; 21] = [

@@ -1,6 +1,6 @@
 // Bytes that spell no values, and their faults.
 
-use crate::{Order, ValueFault};
+use bus_value::{Order, ValueFault};
 
 /// A signature, and bytes that spell no values of it from an offset on, with their fault: made by hand
 /// from the rules of reading.

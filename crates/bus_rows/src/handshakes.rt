@@ -2,7 +2,7 @@
 
 mod cases;
 
-use super::*;
+use bus_auth::{Auth, AuthState, AuthStep, Ending};
 use cases::{CLIENTS, Case, End, LIMITS, ROWS};
 use login_base::{NoMemory, Uid, Word};
 use std::alloc::Global;

@@ -8,7 +8,7 @@ mod short;
 mod texts;
 
 use super::is_told;
-use crate::{Order, ValueFault};
+use bus_value::{Order, ValueFault};
 use std::alloc::Global;
 
 /// A signature, an offset, bytes from there on that spell no values of it, in little and in big order, and their fault.

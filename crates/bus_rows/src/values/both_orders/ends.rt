@@ -1,7 +1,7 @@
 // Values that pass the end of an array, in both orders of bytes: made by hand from the rules of reading.
 
 use super::Both;
-use crate::ValueFault::BadLength;
+use bus_value::ValueFault::BadLength;
 
 /// Values whose bytes pass the end of the array around them.
 pub(super) const PASSING_A: [Both; 42] = [

@@ -1,6 +1,6 @@
 // Bytes of containers, as jeepney wrote them.
 
-use crate::Order;
+use bus_value::Order;
 
 /// Signatures with bytes of containers, as jeepney wrote them.
 pub(super) const CONTAINERS: [(&[u8], Order, usize, &[u8]); 28] = [

@@ -1,7 +1,7 @@
 // More messages that are malformed: names, nesting and values at their limits, put together by hand.
 
 use super::faults::Row;
-use crate::Cause;
+use bus_message::Cause;
 
 /// What the fields and the body show.
 pub const LIMITS: &[Row] = &[

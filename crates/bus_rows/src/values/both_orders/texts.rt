@@ -1,7 +1,7 @@
 // Booleans, texts and variants that are none, in both orders of bytes: made by hand from the rules of reading.
 
 use super::Both;
-use crate::ValueFault::{BadBool, BadText, BadVariant};
+use bus_value::ValueFault::{BadBool, BadText, BadVariant};
 
 /// Booleans of 2.
 pub(super) const BOOLEANS: [Both; 3] = [

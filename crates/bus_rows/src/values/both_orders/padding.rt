@@ -1,7 +1,7 @@
 // Padding that is not zero, in both orders of bytes: made by hand from the rules of reading.
 
 use super::Both;
-use crate::ValueFault::Padding;
+use bus_value::ValueFault::Padding;
 
 /// The last byte of the padding in front of each type that has some, in each place.
 pub(super) const PADDING_A: [Both; 34] = [

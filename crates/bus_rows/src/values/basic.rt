@@ -1,7 +1,7 @@
 // Bytes of values of basic types and of structs, as jeepney wrote them.
 
-use crate::Order;
 use bus_names::Basic;
+use bus_value::Order;
 
 pub(super) const NUMBERS: [(Basic, i64, Order, usize, &[u8]); 42] = [
     (Basic::Byte, 7, Order::Little, 0, &[0x07]),

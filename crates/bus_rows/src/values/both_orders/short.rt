@@ -1,7 +1,7 @@
 // Values whose bytes are not all there, in both orders of bytes: made by hand from the rules of reading.
 
 use super::Both;
-use crate::ValueFault::Short;
+use bus_value::ValueFault::Short;
 
 /// Values whose bytes end, each alone, behind an offset, in a struct and in a variant.
 pub(super) const SHORT_A: [Both; 34] = [

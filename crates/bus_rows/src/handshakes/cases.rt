@@ -1,6 +1,6 @@
 // What clients send, and what they get, after the table of the handshake.
 
-use crate::Ending;
+use bus_auth::Ending;
 
 /// Where a handshake is in the end.
 #[derive(Clone, Copy, Debug, PartialEq, Eq)]

@@ -1,6 +1,6 @@
 // Messages that are malformed, put together by hand, with the place and the cause.
 
-use crate::Cause;
+use bus_message::Cause;
 
 /// A malformed message, and what is wrong with it.
 pub struct Row {

@@ -2,8 +2,8 @@
 // key or a value of a dict entry, and in a variant. Made by hand from the rules of reading.
 
 use super::faults::Fault;
-use crate::Order::{Big, Little};
-use crate::ValueFault::{BadBool, BadLength, BadText, BadVariant, Padding, Short};
+use bus_value::Order::{Big, Little};
+use bus_value::ValueFault::{BadBool, BadLength, BadText, BadVariant, Padding, Short};
 
 /// Values whose bytes end, of each type and in each container but arrays.
 pub(super) const SHORT: [Fault; 39] = [
