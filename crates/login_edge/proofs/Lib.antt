@@ -1,0 +1,4 @@
+pub mod Cuts
+pub mod Dues
+pub mod SlotLaws
+pub mod Moments

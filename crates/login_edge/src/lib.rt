@@ -1,13 +1,48 @@
-//! The outside of the program: sources and sinks of bytes, which count their faults, and those in memory.
+//! The outside of the program: sources, sinks, links, listeners, clocks and spawners, which count their faults, gates, and those in memory.
 #![tactic(auto)]
 
+mod bell;
+mod clock;
+mod gate;
+mod held_source;
+mod hold_gate;
+mod link;
+mod listener;
+mod mem_clock;
+mod mem_link;
+mod mem_listener;
+mod mem_spawner;
 mod memory;
+mod saying;
+mod script;
+mod spawner;
+mod talk;
 mod writing;
 
 ghost use Rattle.std.specs.Prelude.{◌<◌, ℕ, List, length, Option};
 ghost use Rattle.login_edge.specs.Edge.{ReadGives, ReadCause, ReadFalls, WriteGives, WriteCause};
 
+#[cfg(test)]
+mod tests;
+#[cfg(test)]
+mod thread_tests;
+
+pub use bell::Bell;
+pub use clock::{Clock, Reading};
+pub use gate::{Gate, Leave, OpenGate};
+pub use held_source::{HeldSource, Hold};
+pub use hold_gate::HoldGate;
+pub use link::{Heard, Link};
+pub use listener::{Accepted, Listener, Opened};
+pub use mem_clock::MemClock;
+pub use mem_link::MemLink;
+pub use mem_listener::{Arrival, MemListener};
+pub use mem_spawner::MemSpawner;
 pub use memory::{MemSink, MemSource};
+pub use saying::say_all;
+pub use script::Turn;
+pub use spawner::{Job, Spawner, Started};
+pub use talk::Mark;
 pub use writing::{WriteEnd, write_all};
 
 /// What a read answers.

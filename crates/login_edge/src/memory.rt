@@ -10,7 +10,7 @@ use std::alloc::Global;
 use std::marker::Model;
 
 /// Whether the number is in the list.
-fn is_listed(numbers: &Items<u64>, number: u64) -> bool
+pub(crate) fn is_listed(numbers: &Items<u64>, number: u64) -> bool
     ensures { IsTrue result ↔ Contains numbers.now number }
 {
     numbers.as_slice().contains(&number)
@@ -64,7 +64,7 @@ impl MemSource {
 
     /// The bytes that were not read yet.
     pub fn rest(&self) -> &[u8]
-        ensures { result.now ≡ self.now.rest }
+        ensures rest { result.now ≡ self.now.rest }
     {
         &self.bytes.as_slice()[self.at..]
     }
@@ -157,7 +157,7 @@ impl MemSink {
 
     /// The bytes that were taken, in order.
     pub fn held(&self) -> &[u8]
-        ensures { result.now ≡ self.now.held }
+        ensures held { result.now ≡ self.now.held }
     {
         self.held.as_slice()
     }

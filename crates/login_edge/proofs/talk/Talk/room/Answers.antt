@@ -1,0 +1,13 @@
+use Rattle.std.proofs.Common.{rules, ◌≡◌, ◌∙◌, arith, length}
+use Rattle.std.specs.Vec.{vec_len}
+use Rattle.login_edge.proofs.Cuts.{sized}
+use Rattle.login_edge.proofs.talk.Talk.room.Goals as goal
+
+pub returns : goal.returns
+returns c =
+    let i = c.self.invariant in
+    let vm : vec_len c.self.inside.marks ≡ length c.self.inside.marks.items = search rules in
+    let vh : vec_len c.self.inside.hears ≡ length c.self.inside.hears.items = search rules in
+    let vs : vec_len c.self.inside.says ≡ length c.self.inside.says.items = search rules in
+    let z = sized c.self.inside.marks.items c.self.inside.hears.items c.self.inside.says.items c.self.inside.bytes c.self.inside.pieces c.args.self.now c.self.view_is (i.0 ∙ vh) (i.1 ∙ vs) in
+    omega (arith, z.size, z.bytes, c.len.ensures, c.len-2.ensures, i.2, vh, vs)
