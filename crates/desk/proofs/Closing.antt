@@ -14,7 +14,7 @@ use Rattle.desk.specs.declared.view.View.{View}
 use Rattle.desk.specs.History.{entries, of_pass, of_who}
 use Rattle.desk.specs.Passes.{Closes}
 use Rattle.desk.specs.Rule.{FirstView, InStage, JoinedPass, LiveView, Placement, StandsFor, TurnRule, home, out}
-use Rattle.desk.specs.Views.{live}
+use Rattle.desk.specs.Views.{live_count}
 use Rattle.desk.proofs.Lists.{at_some, same_at, starts_nil}
 use Rattle.desk.proofs.Stepping.{value_or}
 use Rattle.desk.proofs.Views.{live_cases, live_two}
@@ -31,8 +31,8 @@ module _ {T S E : Type 0} (setup : T → S) (journal : T → List E) (who_of : E
     h = r.members.first v (ap (get_elem? s.views) (sym here) ∙ at)
 
     -- no other seat live_seats
-    alone : (j : ℕ) (u : View S E) → get_elem? s.views j ≡ some u → live u.stage ≡ 1 → j ≡ id
-    alone j u e one = dite (ℕ_discrete j id) (λ is. is) (λ ne. let two = live_two s.views id j v u (λ k. ne (sym k)) at e (ap live idle) one in let o = h.out_is in absurd (omega arith))
+    alone : (j : ℕ) (u : View S E) → get_elem? s.views j ≡ some u → live_count u.stage ≡ 1 → j ≡ id
+    alone j u e one = dite (ℕ_discrete j id) (λ is. is) (λ ne. let two = live_two s.views id j v u (λ k. ne (sym k)) at e (ap live_count idle) one in let o = h.out_is in absurd (omega arith))
 
     whole : v.seen ≡ r.history
     whole = let c = r.covered in let same : c.1 ≡ v = same_at s.views id c.1 v (ap (get_elem? s.views) (sym (alone c.0 c.1 c.2 c.3)) ∙ c.2) at in
@@ -41,7 +41,7 @@ module _ {T S E : Type 0} (setup : T → S) (journal : T → List E) (who_of : E
 
     value_home : Placement setup journal key r.history r.serving s.homes s.views → (x : T) × (s.homes ≡ some (Some x) ∷ []) × StandsFor setup journal x key r.history
     value_home (home x e st) = (x, e, st)
-    value_home (out j u e a st) = let is = alone j u a (ap live st) in
+    value_home (out j u e a st) = let is = alone j u a (ap live_count st) in
         let f : Idle ≡ Holding r.serving = sym idle ∙ (ap (λ (y : View S E). y.stage) (same_at s.views id v u at (ap (get_elem? s.views) (sym is) ∙ a)) ∙ st) in absurd (cc)
 
     left : (k : ℕ) (y : Joined E) → get_elem? v.joined k ≡ some y → JoinedPass who_of r.history r.given r.owner s.views y
@@ -57,13 +57,13 @@ module _ {T S E : Type 0} (setup : T → S) (journal : T → List E) (who_of : E
       not_first = λ k y e. let f = left k y e in
           dite (ℕ_discrete y.number 0)
           (λ is. let same : v ≡ f.view = same_at s.views id v f.view at (ap (get_elem? s.views) (here ∙ sym is) ∙ f.there) in
-          let z : live v.stage ≡ live f.view.stage = ap (λ (u : View S E). live u.stage) same in let one : live v.stage ≡ 1 = ap live idle in let none = f.spent_is in absurd (omega arith))
+          let z : live_count v.stage ≡ live_count f.view.stage = ap (λ (u : View S E). live_count u.stage) same in let one : live_count v.stage ≡ 1 = ap live_count idle in let none = f.spent_is in absurd (omega arith))
           (λ ne. omega arith);
       distinct = λ i j y z e f. r.members.distinct i j y z (subst (λ (w : List (Joined E)). get_elem? w i ≡ some y) h.joined_is e) (subst (λ (w : List (Joined E)). get_elem? w j ≡ some z) h.joined_is f);
       no_other = λ k y e. let inside = r.members.numbers_given k y (subst (λ (z : List (Numbered E)). get_elem? z k ≡ some y) whole e) in let u = at_some s.views y.number inside in
           ⊎_elim
-          (λ (z : live u.0.stage ≡ 0). let f = r.members.all_joined y.number u.0 u.1 z in inr (f.0, f.1, subst (λ (w : List (Joined E)). get_elem? w f.0 ≡ some f.1) (sym h.joined_is) f.2, sym f.3))
-          (λ (z : live u.0.stage ≡ 1). inl (alone y.number u.0 u.1 z ∙ here))
+          (λ (z : live_count u.0.stage ≡ 0). let f = r.members.all_joined y.number u.0 u.1 z in inr (f.0, f.1, subst (λ (w : List (Joined E)). get_elem? w f.0 ≡ some f.1) (sym h.joined_is) f.2, sym f.3))
+          (λ (z : live_count u.0.stage ≡ 1). inl (alone y.number u.0 u.1 z ∙ here))
           (live_cases u.0.stage);
     }
 

@@ -42,7 +42,7 @@ own_is who number w u more own new now is =
     sym (drop_entries seen own) ∙ (ap (drop (length seen)) (sym grown ∙ is) ∙ drop_entries seen new)
 
 abbrev pub Turned : ℕ → View ℕ Count → View ℕ Count → Bool → Type 0
-Turned number w u answer = TakesTurn {T = CountsState} counter_of (λ c. c.most) (λ c. c.counts) (λ most old new. CountsUp most w.who number old new answer) w u
+Turned number w u answer = TakesTurn counter_of (λ most old new. CountsUp most w.who number old new answer) w u
 
 pub one_more : (number : ℕ) (v w u : View ℕ Count) → CountsSoFar number v w → Turned number w u true → CountsSoFar (number + 1) v u
 one_more number v w u h t =

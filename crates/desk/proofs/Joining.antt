@@ -12,7 +12,7 @@ use Rattle.desk.specs.declared.view.Stage.TheVariants.{Idle, Holding}
 use Rattle.desk.specs.declared.view.View.{View}
 use Rattle.desk.specs.History.{of_pass}
 use Rattle.desk.specs.Rule.{Covered, FirstView, InStage, JoinedPass, Knows, LiveView, Members, TurnRule}
-use Rattle.desk.specs.Views.{after_join, joined_of, live, live_seats, spent_view, ticketed}
+use Rattle.desk.specs.Views.{after_join, joined_of, live_count, live_seats, spent_view, ticket_count}
 use Rattle.desk.proofs.Lists.{at_below, at_end, same_at, starts_nil}
 use Rattle.desk.proofs.Stepping.{still}
 use Rattle.desk.proofs.Views.{live_set, live_two, not_live, seats, tickets_set}
@@ -39,11 +39,11 @@ module _ {T S E : Type 0} (setup : T → S) (journal : T → List E) (who_of : E
     spent_at : get_elem? vs2 other ≡ some spent_view
     spent_at = set_here vs1 other spent_view (at_below vs1 other w at1)
 
-    live1 : live v.stage ≡ 1
-    live1 = ap live idle
+    live1 : live_count v.stage ≡ 1
+    live1 = ap live_count idle
 
-    live2 : live w.stage ≡ 1
-    live2 = ap live idle'
+    live2 : live_count w.stage ≡ 1
+    live2 = ap live_count idle'
 
     long : length vs2 ≡ length s.views
     long = length-set vs1 other spent_view ∙ length-set s.views id a
@@ -55,7 +55,7 @@ module _ {T S E : Type 0} (setup : T → S) (journal : T → List E) (who_of : E
     fewer = let p = live_set s.views id v a at in let q = live_set vs1 other w spent_view at1 in let z = live2 in omega arith
 
     -- an old seat that was spent_view is neither of the two
-    there_still : (n : ℕ) (u : View S E) → get_elem? s.views n ≡ some u → live u.stage ≡ 0 → get_elem? vs2 n ≡ some u
+    there_still : (n : ℕ) (u : View S E) → get_elem? s.views n ≡ some u → live_count u.stage ≡ 0 → get_elem? vs2 n ≡ some u
     there_still n u e z = set_else vs1 other n spent_view (not_live s.views other n w u at' e live2 z) ∙ (set_else s.views id n a (not_live s.views id n v u at e live1 z) ∙ e)
 
     joined_old : (x : Joined E) → JoinedPass who_of r.history r.given r.owner s.views x → JoinedPass who_of r.history r.given r.owner vs2 x
@@ -97,7 +97,7 @@ module _ {T S E : Type 0} (setup : T → S) (journal : T → List E) (who_of : E
       all_joined = λ j u e z. ⊎_elim
           (λ (t : (j ≡ other) × (spent_view ≡ u)). (length r.joined, joined_of w, last_at, l'.number_is ∙ sym t.0))
           (λ (t : (j ≢ other) × (get_elem? vs1 j ≡ some u)). ⊎_elim
-          (λ (k : (j ≡ id) × (a ≡ u)). let same : live v.stage ≡ live u.stage = ap (λ (y : View S E). live y.stage) k.1 in let one = live1 in absurd (omega arith))
+          (λ (k : (j ≡ id) × (a ≡ u)). let same : live_count v.stage ≡ live_count u.stage = ap (λ (y : View S E). live_count y.stage) k.1 in let one = live1 in absurd (omega arith))
           (λ (k : (j ≢ id) × (get_elem? s.views j ≡ some u)). let f = r.members.all_joined j u k.1 z in (f.0, f.1, at_longer r.joined (joined_of w ∷ []) f.0 f.1 f.2, f.3))
           (at_set s.views id j a u t.1))
           (at_set vs1 other j spent_view u e);
@@ -145,7 +145,7 @@ module _ {T S E : Type 0} (setup : T → S) (journal : T → List E) (who_of : E
         (λ off. (c.0, c.1, set_else vs1 other c.0 spent_view far ∙ (set_else s.views id c.0 a off ∙ c.2), c.3, c.4)))
 
     join_rule : TurnRule setup journal who_of key record { words = s.words; homes = s.homes; views = vs2 }
-    join_rule = let p = tickets_set s.views id v a at in let q = tickets_set vs1 other w spent_view at1 in let z : ticketed w.stage ≡ 0 = ap ticketed idle' in let was = r.counted in record {
+    join_rule = let p = tickets_set s.views id v a at in let q = tickets_set vs1 other w spent_view at1 in let z : ticket_count w.stage ≡ 0 = ap ticket_count idle' in let was = r.counted in record {
       history = r.history;
       queue = r.queue;
       serving = r.serving;

@@ -10,13 +10,13 @@ use Rattle.desk.specs.declared.view.Numbered.{Numbered}
 use Rattle.desk.specs.declared.view.View.{View}
 use Rattle.desk.specs.History.{AtMostOne, entries, numbered, of_pass, of_who}
 use Rattle.desk.specs.Rule.{Covered, FirstView, JoinedPass, Members}
-use Rattle.desk.specs.Views.{live, live_seats}
+use Rattle.desk.specs.Views.{live_count, live_seats}
 use Rattle.desk.proofs.Histories.{each_own, entries_grown, of_pass_grown, of_pass_same, of_who_grown, of_who_same}
 use Rattle.desk.proofs.Lists.{at_below, each_longer, same_at}
 use Rattle.desk.proofs.Views.{live_set, not_live}
 
 module _ {S E : Type 0} (who_of : E → ℕ) where
-  pub joined_stays : (history : List (Numbered E)) (given : ℕ) (owner : ℕ → ℕ) (vs vs' : List (View S E)) (x : Joined E) → ((v : View S E) → get_elem? vs x.number ≡ some v → live v.stage ≡ 0 → get_elem? vs' x.number ≡ some v)
+  pub joined_stays : (history : List (Numbered E)) (given : ℕ) (owner : ℕ → ℕ) (vs vs' : List (View S E)) (x : Joined E) → ((v : View S E) → get_elem? vs x.number ≡ some v → live_count v.stage ≡ 0 → get_elem? vs' x.number ≡ some v)
       → JoinedPass who_of history given owner vs x → JoinedPass who_of history given owner vs' x
   joined_stays history given owner vs vs' x same l = record {
     mine_is = l.mine_is;
@@ -30,7 +30,7 @@ module _ {S E : Type 0} (who_of : E → ℕ) where
   }
 
   -- a seat moves, and stays what it was to the others
-  pub members_stay : (history : List (Numbered E)) (given : ℕ) (owner : ℕ → ℕ) (joined : List (Joined E)) (vs : List (View S E)) (id : ℕ) (v w : View S E) → get_elem? vs id ≡ some v → live v.stage ≡ 1 → live w.stage ≡ 1
+  pub members_stay : (history : List (Numbered E)) (given : ℕ) (owner : ℕ → ℕ) (joined : List (Joined E)) (vs : List (View S E)) (id : ℕ) (v w : View S E) → get_elem? vs id ≡ some v → live_count v.stage ≡ 1 → live_count w.stage ≡ 1
       → w.given ≡ v.given → w.joined ≡ v.joined → w.made ≡ v.made → w.out ≡ v.out → Members who_of history given owner joined vs → Members who_of history given owner joined (set vs id w)
   members_stay history given owner joined vs id v w at lv lw same_given same_joined same_made same_out h = record {
     first = λ u e. ⊎_elim
@@ -39,7 +39,7 @@ module _ {S E : Type 0} (who_of : E → ℕ) where
         (at_set vs id 0 w u e);
     each_joined = λ k x e. joined_stays history given owner vs (set vs id w) x (λ u a s. set_else vs id x.number w (not_live vs id x.number v u at a lv s) ∙ a) (h.each_joined k x e);
     all_joined = λ j u e s. ⊎_elim
-        (λ (t : (j ≡ id) × (w ≡ u)). let same : live w.stage ≡ live u.stage = ap (λ (y : View S E). live y.stage) t.1 in absurd (omega arith))
+        (λ (t : (j ≡ id) × (w ≡ u)). let same : live_count w.stage ≡ live_count u.stage = ap (λ (y : View S E). live_count y.stage) t.1 in absurd (omega arith))
         (λ (t : (j ≢ id) × (get_elem? vs j ≡ some u)). h.all_joined j u t.1 s)
         (at_set vs id j w u e);
     distinct = h.distinct;
@@ -79,7 +79,7 @@ module _ {E : Type 0} (who_of : E → ℕ) (history : List (Numbered E)) (given 
 
 module _ {S E : Type 0} (who_of : E → ℕ) where
   pub members_grow : (history : List (Numbered E)) (given : ℕ) (owner : ℕ → ℕ) (id c : ℕ) (own : List E) → c ≤ given → (0 < c → owner c ≡ id) → AtMostOne who_of c own
-      → (joined : List (Joined E)) (vs : List (View S E)) (v : View S E) → get_elem? vs id ≡ some v → live v.stage ≡ 1 → Members who_of history given owner joined vs → Members who_of (history ++ numbered id own) given owner joined vs
+      → (joined : List (Joined E)) (vs : List (View S E)) (v : View S E) → get_elem? vs id ≡ some v → live_count v.stage ≡ 1 → Members who_of history given owner joined vs → Members who_of (history ++ numbered id own) given owner joined vs
   members_grow history given owner id c own below owned one joined vs v at lv h = record {
     first = h.first;
     each_joined = λ k x e. grows x (h.each_joined k x e);
@@ -102,7 +102,7 @@ module _ {S E : Type 0} (who_of : E → ℕ) where
       }
 
 -- who knows the whole keeps it, or another does
-pub covered_stays : {S E : Type 0} (history : List (Numbered E)) (vs : List (View S E)) (id : ℕ) (v w : View S E) → get_elem? vs id ≡ some v → live w.stage ≡ 1 → (v.seen ≡ history → w.seen ≡ history) → (v.inherited ≡ history → (w.seen ≡ history) ⊎ (w.inherited ≡ history))
+pub covered_stays : {S E : Type 0} (history : List (Numbered E)) (vs : List (View S E)) (id : ℕ) (v w : View S E) → get_elem? vs id ≡ some v → live_count w.stage ≡ 1 → (v.seen ≡ history → w.seen ≡ history) → (v.inherited ≡ history → (w.seen ≡ history) ⊎ (w.inherited ≡ history))
     → Covered history vs → Covered history (set vs id w)
 covered_stays {S} {E} history vs id v w at lw seen inherited c = dite (ℕ_discrete c.0 id)
     (λ is. let same : c.1 ≡ v = same_at vs id c.1 v (ap (get_elem? vs) (sym is) ∙ c.2) at in

@@ -14,7 +14,7 @@ use Rattle.desk.specs.declared.view.View.{View}
 use Rattle.desk.specs.History.{entries, of_pass, of_who}
 use Rattle.desk.specs.Passes.{OneSettled}
 use Rattle.desk.specs.Rule.{FirstView, InStage, JoinedPass, Knows, LiveView, Members, Placement, TurnRule, home, out}
-use Rattle.desk.specs.Views.{Settled, after_split, first_view, live, live_seats, split_view}
+use Rattle.desk.specs.Views.{Settled, after_split, first_view, live_count, live_seats, split_view}
 use Rattle.desk.proofs.Histories.{of_pass_append, of_pass_none, of_who_none}
 use Rattle.desk.proofs.Lists.{at_end, front_nil}
 use Rattle.desk.proofs.Members.{covered_stays}
@@ -126,13 +126,13 @@ module _ {T S E : Type 0} (setup : T → S) (journal : T → List E) (who_of : E
       owned = λ p. owning_old r.owner c n x.who r.given fresh p w ∙ k.owned p;
       who_mine = k.who_mine;
       view = k.view;
-      there = at_longer (set vs id a) (b ∷ []) x.number k.view (set_else vs id x.number a (not_live vs id x.number v k.view at k.there (ap live idle) k.spent_is) ∙ k.there);
+      there = at_longer (set vs id a) (b ∷ []) x.number k.view (set_else vs id x.number a (not_live vs id x.number v k.view at k.there (ap live_count idle) k.spent_is) ∙ k.there);
       spent_is = k.spent_is;
     }
 
     first_left : FirstView given' r.joined vs' a
     first_left = let o = h.out_is in let m = h.made_is in let k = live_set vs id v a at in record {
-      is_live = ap live idle;
+      is_live = ap live_count idle;
       given_is = refl;
       joined_is = h.joined_is;
       made_is = longer ∙ ap (λ (z : ℕ). z + 1) m;
@@ -148,10 +148,10 @@ module _ {T S E : Type 0} (setup : T → S) (journal : T → List E) (who_of : E
       each_joined = λ k x e. joined_up x (r.members.each_joined k x e);
       all_joined = λ j u e z. ⊎_elim
           (λ (t : get_elem? (set vs id a) j ≡ some u). ⊎_elim
-          (λ (k : (j ≡ id) × (a ≡ u)). let same : live v.stage ≡ live u.stage = ap (λ (y : View S E). live y.stage) k.1 in let one : live v.stage ≡ 1 = ap live idle in absurd (omega arith))
+          (λ (k : (j ≡ id) × (a ≡ u)). let same : live_count v.stage ≡ live_count u.stage = ap (λ (y : View S E). live_count y.stage) k.1 in let one : live_count v.stage ≡ 1 = ap live_count idle in absurd (omega arith))
           (λ (k : (j ≢ id) × (get_elem? vs j ≡ some u)). r.members.all_joined j u k.1 z)
           (at_set vs id j a u t))
-          (λ (t : (j ≡ length (set vs id a)) × (b ≡ u)). let same : 1 ≡ live u.stage = ap (λ (y : View S E). live y.stage) t.1 in absurd (omega arith))
+          (λ (t : (j ≡ length (set vs id a)) × (b ≡ u)). let same : 1 ≡ live_count u.stage = ap (λ (y : View S E). live_count y.stage) t.1 in absurd (omega arith))
           (at_end (set vs id a) b u j e);
       distinct = r.members.distinct;
       numbers_given = λ k x e. let z = r.members.numbers_given k x e in let g = longer in omega arith;
@@ -177,7 +177,7 @@ module _ {T S E : Type 0} (setup : T → S) (journal : T → List E) (who_of : E
           (λ (t : (j ≡ length (set vs id a)) × (b ≡ d)). subst (Knows who_of key r.history given' owner' r.queue r.serving j) t.1 (live_right j (t.0 ∙ long)))
           (at_end (set vs id a) b d j e);
       members = members';
-      covered = let k = covered_stays r.history vs id v a at (ap live idle) (λ e. e) (λ e. inr e) r.covered in (k.0, k.1, at_longer (set vs id a) (b ∷ []) k.0 k.1 k.2, k.3, k.4);
+      covered = let k = covered_stays r.history vs id v a at (ap live_count idle) (λ e. e) (λ e. inr e) r.covered in (k.0, k.1, at_longer (set vs id a) (b ∷ []) k.0 k.1 k.2, k.3, k.4);
     }
 
   pub splits : (id c : ℕ) (v : View S E) → v.stage ≡ Idle → v.number ≡ 0 → v.made < 4294967295 → ((c ≡ 0) ⊎ (v.given < c)) → Splits (TurnRule setup journal who_of key) id v (after_split c v) (split_view c v)

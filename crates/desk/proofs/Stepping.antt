@@ -17,8 +17,8 @@ use Rattle.desk.specs.declared.view.Stage.TheVariants.{Spent, Idle, Waiting, Hol
 use Rattle.desk.specs.declared.view.View.{View}
 use Rattle.desk.specs.History.{AreBelow, AtMostOne, HasJoined, entries, numbered, of_pass, of_who}
 use Rattle.desk.specs.Rule.{Covered, FirstView, InStage, Knows, LiveView, Members, Placement, Queued, TurnRule, home, out}
-use Rattle.desk.specs.Steps.{Served, SeatState, caught_up, drew, gained, looked, published}
-use Rattle.desk.specs.Views.{at_stage, first_view, live, ticketed, tickets, with_own, with_seen}
+use Rattle.desk.specs.Steps.{CatchUpTells, DrawTells, LookTells, PublishTells, SeatState, Served, new_entries}
+use Rattle.desk.specs.Views.{at_stage, first_view, live_count, ticket_count, tickets, with_own, with_seen}
 use Rattle.desk.proofs.Histories.{are_of_grown, drop_entries, entries_grown, of_pass_grown, of_pass_same}
 use Rattle.desk.proofs.Lists.{append_nil, at_below, first_of, longer_starts, same_at}
 use Rattle.desk.proofs.Members.{covered_stays, members_grow, members_stay, of_who_else, of_who_mine}
@@ -65,13 +65,13 @@ module _ {T S E : Type 0} (setup : T → S) (journal : T → List E) (who_of : E
   abbrev Rule : State (Option T) (View S E) → Type 0
   Rule = TurnRule setup journal who_of key
 
-  pub draws : (slots id : ℕ) (me : SeatState T S E) → me.0.stage ≡ Idle → Allows Rule slots id me 0 (λ n. (n + 1) % 2 ^ 64) (drew (step slots 0 1 0 none) me)
+  pub draws : (slots id : ℕ) (me : SeatState T S E) → me.0.stage ≡ Idle → Allows Rule slots id me 0 (λ n. (n + 1) % 2 ^ 64) (DrawTells (step slots 0 1 0 none) me)
   draws slots id me idle s r _ at _ =
       let t : ℕ = r.serving + length r.queue in
       let w : View S E = at_stage (Waiting t) me.0 in
       let l : LiveView who_of key r.history r.given r.owner id me.0 = subst (InStage who_of key r.history r.given r.owner r.queue r.serving id me.0) idle (r.each id me.0 at) in
       let sum = tickets_set s.views id me.0 w at in
-      let none_out : ticketed me.0.stage ≡ 0 = ap ticketed idle in
+      let none_out : ticket_count me.0.stage ≡ 0 = ap ticket_count idle in
       let longer : length (r.queue ++ id ∷ []) ≡ length r.queue + 1 = length-append r.queue (id ∷ []) in
       let was = r.counted in (
         w,
@@ -94,7 +94,7 @@ module _ {T S E : Type 0} (setup : T → S) (journal : T → List E) (who_of : E
             (omega arith, subst (λ (n : ℕ). get_elem? (r.queue ++ id ∷ []) n ≡ some id) (let e : length r.queue ≡ t - r.serving = omega arith in e) (at_last r.queue id (length r.queue) refl)),
           )
               (λ j d ne e. later (d.stage) j d (r.each j d e));
-          members = members_stay who_of r.history r.given r.owner r.joined s.views id me.0 w at (ap live idle) refl refl refl refl refl r.members;
+          members = members_stay who_of r.history r.given r.owner r.joined s.views id me.0 w at (ap live_count idle) refl refl refl refl refl r.members;
           covered = covered_stays r.history s.views id me.0 w at refl (λ e. e) (λ e. inr e) r.covered;
         },
         (t, ap (λ (ws : List ℕ). get_or ws 0 0) r.words_are, refl, refl),
@@ -126,7 +126,7 @@ module _ {T S E : Type 0} (setup : T → S) (journal : T → List E) (who_of : E
         let whole : r.history ≡ me.0.seen ++ more = l.seen_is.1 in
         let w : View S E = with_seen (me.0.seen ++ more) (at_stage (Holding t) me.0) in
         let sum = tickets_set s.views id me.0 w at in
-        let one_out : ticketed me.0.stage ≡ 1 = ap ticketed is in
+        let one_out : ticket_count me.0.stage ≡ 1 = ap ticket_count is in
         let was = r.counted in (
           w,
           takes 0 (Some x),
@@ -160,7 +160,7 @@ module _ {T S E : Type 0} (setup : T → S) (journal : T → List E) (who_of : E
               sym whole,
             )
                 (λ j d _. r.each j d);
-            members = members_stay who_of r.history r.given r.owner r.joined s.views id me.0 w at (ap live is) refl refl refl refl refl r.members;
+            members = members_stay who_of r.history r.given r.owner r.joined s.views id me.0 w at (ap live_count is) refl refl refl refl refl r.members;
             covered = (id, w, set_here s.views id w (at_below s.views id me.0 at), refl, inl (sym whole));
           },
           record {
@@ -196,10 +196,10 @@ module _ {T S E : Type 0} (setup : T → S) (journal : T → List E) (who_of : E
       covered = subst (Covered r.history) (sym (set_again s.views id me.0 at)) r.covered;
     }
 
-  pub looks : (slots id : ℕ) (me : SeatState T S E) (t : ℕ) → me.0.stage ≡ Waiting t → Allows Rule slots id me 1 (λ n. n) (looked who_of setup journal (step slots 1 0 0 none) me)
+  pub looks : (slots id : ℕ) (me : SeatState T S E) (t : ℕ) → me.0.stage ≡ Waiting t → Allows Rule slots id me 1 (λ n. n) (LookTells who_of setup journal (step slots 1 0 0 none) me)
   looks slots id me t is s r _ at _ =
       let k : InStage who_of key r.history r.given r.owner r.queue r.serving id me.0 (Waiting t) = subst (InStage who_of key r.history r.given r.owner r.queue r.serving id me.0) is (r.each id me.0 at) in
-      let for_all : (m' : SeatState T S E) (n : ℕ) → ((n ≡ t % 2 ^ 64 → Served who_of setup journal t me m') × (n ≢ t % 2 ^ 64 → m' ≡ me)) → looked who_of setup journal (step slots 1 0 0 none) me n m' =
+      let for_all : (m' : SeatState T S E) (n : ℕ) → ((n ≡ t % 2 ^ 64 → Served who_of setup journal t me m') × (n ≢ t % 2 ^ 64 → m' ≡ me)) → LookTells who_of setup journal (step slots 1 0 0 none) me n m' =
       λ m' n f u e. subst (λ (z : ℕ). (n ≡ z % 2 ^ 64 → Served who_of setup journal z me m') × (n ≢ z % 2 ^ 64 → m' ≡ me)) (ap turn_of (sym is ∙ e)) f in
       dite (ℕ_discrete (get_or s.words 1 0) (t % 2 ^ 64))
       (λ e. let h = hit slots id me s r at t is k.0 k.1 (served_now slots id me s r at t k.1 (sym (same_words slots id me s r at) ∙ e)) r.place in
@@ -249,23 +249,23 @@ module _ {T S E : Type 0} (setup : T → S) (journal : T → List E) (who_of : E
       ap (of_pass x.number) whole ∙ (r.members.each_joined k x (subst (λ (z : List (Joined E)). get_elem? z k ≡ some x) f.joined_is e)).mine_is
 
   pub publishes : (slots id : ℕ) (me : SeatState T S E) (t : ℕ) (x : T) (own : List E) → me.0.stage ≡ Holding t → me.1 ≡ (0, Some x) ∷ [] → ((k : S) → me.0.setup ≡ Some k → setup x ≡ k) → journal x ≡ entries me.0.seen ++ own → AtMostOne who_of me.0.who own
-      → Allows Rule slots id me 1 (λ n. (n + 1) % 2 ^ 64) (published journal (step slots 1 1 0 none) me)
+      → Allows Rule slots id me 1 (λ n. (n + 1) % 2 ^ 64) (PublishTells journal (step slots 1 1 0 none) me)
   publishes slots id me t x own is carried kept grown one s r _ at _ =
       let k : InStage who_of key r.history r.given r.owner r.queue r.serving id me.0 (Holding t) = subst (InStage who_of key r.history r.given r.owner r.queue r.serving id me.0) is (r.each id me.0 at) in
       let l : LiveView who_of key r.history r.given r.owner id me.0 = k.0 in
       let now : t ≡ r.serving = k.2 in
       let all : me.0.seen ≡ r.history = k.3 in
-      let raw : gained (journal x) me.0 ≡ own = ap (drop (length me.0.seen)) grown ∙ drop_entries me.0.seen own in
-      let w : View S E = with_own (gained (journal x) me.0) (at_stage Idle me.0) in
+      let raw : new_entries (journal x) me.0 ≡ own = ap (drop (length me.0.seen)) grown ∙ drop_entries me.0.seen own in
+      let w : View S E = with_own (new_entries (journal x) me.0) (at_stage Idle me.0) in
       let new : List (Numbered E) = r.history ++ numbered id own in
-      let new_is : new ≡ me.0.seen ++ numbered me.0.number (gained (journal x) me.0) = λ i. sym all i ++ numbered (sym l.number_is i) (sym raw i) in
-      let mine_new : of_pass id new ≡ me.0.mine ++ gained (journal x) me.0 = of_pass_grown id r.history own ∙ (λ i. l.mine_is i ++ sym raw i) in
+      let new_is : new ≡ me.0.seen ++ numbered me.0.number (new_entries (journal x) me.0) = λ i. sym all i ++ numbered (sym l.number_is i) (sym raw i) in
+      let mine_new : of_pass id new ≡ me.0.mine ++ new_entries (journal x) me.0 = of_pass_grown id r.history own ∙ (λ i. l.mine_is i ++ sym raw i) in
       let first : get_elem? r.queue 0 ≡ some id = subst (λ (n : ℕ). get_elem? r.queue n ≡ some id) (let z : t - r.serving ≡ 0 = omega arith in z) k.1.1 in
       let front : r.queue ≡ id ∷ drop 1 r.queue = first_of r.queue id first in
       let alone = one_slot setup journal key r.history r.serving s.homes s.views r.place in
       let long : length r.queue ≡ 1 + length (drop 1 r.queue) = ap length front ∙ omega arith in
       let sum = tickets_set s.views id me.0 w at in
-      let one_out : ticketed me.0.stage ≡ 1 = ap ticketed is in
+      let one_out : ticket_count me.0.stage ≡ 1 = ap ticket_count is in
       let was = r.counted in
       let rule : Rule (stepped s 1 ((get_or s.words 1 0 + 1) % 2 ^ 64) id me.1 w gives) = record {
         history = new;
@@ -287,14 +287,14 @@ module _ {T S E : Type 0} (setup : T → S) (journal : T → List E) (who_of : E
               inherited_is = longer_starts r.history (numbered id own) me.0.inherited l.inherited_is;
               mine_is = mine_new;
               seen_mine = sym (ap (of_pass id) new_is) ∙ mine_new;
-              whose = are_of_grown who_of me.0.who me.0.mine (gained (journal x) me.0) l.whose (subst (AtMostOne who_of me.0.who) (sym raw) one);
+              whose = are_of_grown who_of me.0.who me.0.mine (new_entries (journal x) me.0) l.whose (subst (AtMostOne who_of me.0.who) (sym raw) one);
               who_below = l.who_below;
               owned = l.owned;
               who_mine = λ p. of_who_mine who_of r.history r.given r.owner id me.0.who own l.who_below l.owned one (l.who_mine p);
             }
             (λ j d ne e. later r.history r.given r.owner r.queue r.serving id me.0.who own first l.who_below l.owned one d.stage j d ne (r.each j d e));
-        members = members_stay who_of new r.given r.owner r.joined s.views id me.0 w at (ap live is) refl refl refl refl refl
-            (members_grow who_of r.history r.given r.owner id me.0.who own l.who_below l.owned one r.joined s.views me.0 at (ap live is) r.members);
+        members = members_stay who_of new r.given r.owner r.joined s.views id me.0 w at (ap live_count is) refl refl refl refl refl
+            (members_grow who_of r.history r.given r.owner id me.0.who own l.who_below l.owned one r.joined s.views me.0 at (ap live_count is) r.members);
         covered = (id, w, set_here s.views id w (at_below s.views id me.0 at), refl, inl (sym new_is));
       } in (
         w,
@@ -302,7 +302,7 @@ module _ {T S E : Type 0} (setup : T → S) (journal : T → List E) (who_of : E
         tt,
         rule,
         λ y e. record {
-          now = ap (λ (z : T). with_own (gained (journal z) me.0) (at_stage Idle me.0)) (one_value x y (sym carried ∙ e));
+          now = ap (λ (z : T). with_own (new_entries (journal z) me.0) (at_stage Idle me.0)) (one_value x y (sym carried ∙ e));
           gives_back = ap rest carried;
           mine_is = subst (λ (n : ℕ). of_pass n w.seen ≡ w.mine) (sym l.number_is) (sym (ap (of_pass id) new_is) ∙ mine_new);
           numbers = numbers_known (stepped s 1 ((get_or s.words 1 0 + 1) % 2 ^ 64) id me.1 w gives) rule id w w.seen (set_here s.views id w (at_below s.views id me.0 at)) l.number_is (sym new_is);
@@ -339,11 +339,11 @@ module _ {T S E : Type 0} (setup : T → S) (journal : T → List E) (who_of : E
           record { setup_is = ap Some same; number_is = refl; seen_is = ([], refl); inherited_is = ([], refl); mine_is = refl; seen_mine = refl; whose = tt; who_below = omega arith; owned = λ p. absurd (omega arith); who_mine = λ p. refl }
       alone (suc j) v e = absurd (some-ne-none v (sym e))
 
-      live_alone : (j : ℕ) (v : View S E) → get_elem? (first_view k ∷ []) j ≡ some v → live v.stage ≡ 0 → ⊥
-      live_alone zero v e s = let same : 1 ≡ live v.stage = ap (λ (y : View S E). live y.stage) (some-injective (first_view k) v e) in omega arith
+      live_alone : (j : ℕ) (v : View S E) → get_elem? (first_view k ∷ []) j ≡ some v → live_count v.stage ≡ 0 → ⊥
+      live_alone zero v e s = let same : 1 ≡ live_count v.stage = ap (λ (y : View S E). live_count y.stage) (some-injective (first_view k) v e) in omega arith
       live_alone (suc j) v e s = absurd (some-ne-none v (sym e))
 
-  pub catches_up : (slots id : ℕ) (me : SeatState T S E) → me.0.stage ≡ Idle → Allows Rule slots id me 1 (λ n. n) (caught_up (step slots 1 0 0 none) me)
+  pub catches_up : (slots id : ℕ) (me : SeatState T S E) → me.0.stage ≡ Idle → Allows Rule slots id me 1 (λ n. n) (CatchUpTells (step slots 1 0 0 none) me)
   catches_up slots id me idle s r _ at _ =
       let l : LiveView who_of key r.history r.given r.owner id me.0 = subst (InStage who_of key r.history r.given r.owner r.queue r.serving id me.0) idle (r.each id me.0 at) in
       let more : List (Numbered E) = l.seen_is.0 in
@@ -379,8 +379,8 @@ module _ {T S E : Type 0} (setup : T → S) (journal : T → List E) (who_of : E
                 who_mine = l.who_mine;
               })
               (λ j d _. r.each j d);
-          members = members_stay who_of r.history r.given r.owner r.joined s.views id me.0 w at (ap live idle) (ap live idle) refl refl refl refl r.members;
-          covered = (id, w, set_here s.views id w (at_below s.views id me.0 at), ap live idle, inl (sym whole));
+          members = members_stay who_of r.history r.given r.owner r.joined s.views id me.0 w at (ap live_count idle) (ap live_count idle) refl refl refl refl r.members;
+          covered = (id, w, set_here s.views id w (at_below s.views id me.0 at), ap live_count idle, inl (sym whole));
         },
         (
           record {

@@ -10,9 +10,9 @@ use Rattle.desk.specs.declared.view.Numbered.{Numbered}
 use Rattle.desk.specs.declared.view.Stage.TheVariants.{Idle, Waiting, Holding}
 use Rattle.desk.specs.declared.view.View.{View}
 use Rattle.desk.specs.History.{Appends, AtMostOne, StartsWith, entries, numbered, of_pass, of_who}
-use Rattle.desk.specs.Passes.{JoinsPass, TakesTurn, Waited}
+use Rattle.desk.specs.Passes.{EndsTurn, JoinsPass, Waited}
 use Rattle.desk.specs.Rule.{StandsFor, TurnRule}
-use Rattle.desk.specs.Steps.{HoldsTurn, SeatState, Served, caught_up, gained, published}
+use Rattle.desk.specs.Steps.{CatchUpTells, HoldsTurn, PublishTells, SeatState, Served, new_entries}
 use Rattle.desk.specs.Views.{Settled, after_join, joined_of, at_stage, with_own, with_seen}
 use Rattle.desk.proofs.Histories.{drop_entries, entries_grown, of_pass_append, of_pass_grown, of_who_grown}
 use Rattle.desk.proofs.Lists.{append_nil, none_left}
@@ -47,7 +47,7 @@ module _ {T S E : Type 0} (who_of : E → ℕ) (setup : T → S) (journal : T �
       }
 
   pub publishes_ready : (key : S) (slots id : ℕ) (m m2 : SeatState T S E) (x y : T) (who : ℕ) → Ready m m2 x y → m.0.who ≡ who → setup y ≡ setup x → Appends who_of who (journal x) (journal y)
-      → Allows (TurnRule setup journal who_of key) slots id m2 1 (λ n. (n + 1) % 2 ^ 64) (published journal (step slots 1 1 0 none) m2)
+      → Allows (TurnRule setup journal who_of key) slots id m2 1 (λ n. (n + 1) % 2 ^ 64) (PublishTells journal (step slots 1 1 0 none) m2)
   publishes_ready key slots id m m2 x y who r who_is kept grown =
       publishes setup journal who_of key slots id m2 r.ticket y grown.0
       (ap (λ (v : View S E). v.stage) r.same ∙ r.holding)
@@ -56,38 +56,39 @@ module _ {T S E : Type 0} (who_of : E → ℕ) (setup : T → S) (journal : T �
       (grown.1 ∙ (ap (λ (es : List E). es ++ grown.0) r.stands.1 ∙ ap (λ (v : View S E). entries v.seen ++ grown.0) (sym r.same)))
       (subst (λ (z : ℕ). AtMostOne who_of z grown.0) (sym (ap (λ (v : View S E). v.who) r.same ∙ who_is)) grown.2)
 
-  pub turned : (does : S → List E → List E → Type 0) (m m2 m3 : SeatState T S E) (x y : T) (who : ℕ) → Ready m m2 x y → m.0.who ≡ who → (grown : Appends who_of who (journal x) (journal y)) → published journal (step 0 0 0 0 none) m2 0 m3
-      → setup y ≡ setup x → does (setup x) (journal x) (journal y) → TakesTurn who_of setup journal does m.0 m3.0
+  pub turned : (does : S → List E → List E → Type 0) (m m2 m3 : SeatState T S E) (x y : T) (who : ℕ) → Ready m m2 x y → m.0.who ≡ who → (grown : Appends who_of who (journal x) (journal y)) → PublishTells journal (step 0 0 0 0 none) m2 0 m3
+      → setup y ≡ setup x → does (setup x) (journal x) (journal y) → EndsTurn who_of setup journal does m.0 m3.0
   turned does m m2 m3 x y who r who_is grown told kept did =
       let v : View S E = m.0 in
       let own : List E = grown.0 in
       let one : AtMostOne who_of v.who own = subst (λ (z : ℕ). AtMostOne who_of z own) (sym who_is) grown.2 in
-      let gain : gained (journal y) v ≡ own = ap (drop (length v.seen)) (grown.1 ∙ ap (λ (es : List E). es ++ own) r.stands.1) ∙ drop_entries v.seen own in
-      let now : m3.0 ≡ with_own own (at_stage Idle v) = (told y r.carried).now ∙ (ap (λ (u : View S E). with_own (gained (journal y) u) (at_stage Idle u)) r.same ∙ ap (λ (es : List E). with_own es (at_stage Idle v)) gain) in
+      let gain : new_entries (journal y) v ≡ own = ap (drop (length v.seen)) (grown.1 ∙ ap (λ (es : List E). es ++ own) r.stands.1) ∙ drop_entries v.seen own in
+      let now : m3.0 ≡ with_own own (at_stage Idle v) = (told y r.carried).now ∙ (ap (λ (u : View S E). with_own (new_entries (journal y) u) (at_stage Idle u)) r.same ∙ ap (λ (es : List E). with_own es (at_stage Idle v)) gain) in
       let seen_is : m3.0.seen ≡ v.seen ++ numbered v.number own = ap (λ (u : View S E). u.seen) now in
       let after_is : journal y ≡ entries m3.0.seen = grown.1 ∙ (ap (λ (es : List E). es ++ own) r.stands.1 ∙ (sym (entries_grown v.number v.seen own) ∙ ap entries (sym seen_is))) in
       record {
-        more = [];
-        own = own;
-        key = r.key;
-        key_is = r.key_is;
-        now = now ∙ ap (λ (ls : List (Numbered E)). with_own own (with_seen ls (at_stage Idle v))) (sym (append_nil v.seen));
-        at_most_one = one;
-        others = refl;
+        turn = record {
+          more = [];
+          own = own;
+          key = r.key;
+          key_is = r.key_is;
+          now = now ∙ ap (λ (ls : List (Numbered E)). with_own own (with_seen ls (at_stage Idle v))) (sym (append_nil v.seen));
+          at_most_one = one;
+          others = refl;
+          acted = subst (λ (k : S). does k (entries (v.seen ++ [])) (entries m3.0.seen)) r.stands.0
+              (subst (λ (z : List E × List E). does (setup x) z.0 z.1)
+              (λ i. ((r.stands.1 ∙ ap entries (sym (append_nil v.seen))) i, after_is i)) did);
+        };
         mine_is = (told y r.carried).mine_is;
         who_mine = λ p. let q : 0 < v.who = subst (λ (n : ℕ). 0 < n) (ap (λ (u : View S E). u.who) now) p in
             ap (λ (u : View S E). of_who who_of u.who (entries m3.0.seen)) now
             ∙ (ap (of_who who_of v.who) (sym after_is ∙ grown.1)
             ∙ (of_who_grown who_of v.who (journal x) own one
             ∙ (ap (λ (es : List E). es ++ own) (r.who_mine q) ∙ sym (ap (λ (u : View S E). u.mine) now))));
-        acted = subst (λ (k : S). does k (entries (v.seen ++ [])) (entries m3.0.seen)) r.stands.0
-            (subst (λ (z : List E × List E). does (setup x) z.0 z.1)
-            (λ i. ((r.stands.1 ∙ ap entries (sym (append_nil v.seen))) i, after_is i)) did);
-        value = y;
-        stands = (kept ∙ r.stands.0, after_is);
+        all = record { value = y; key = r.key; key_is = ap (λ (u : View S E). u.setup) now ∙ r.key_is; stands = (kept ∙ r.stands.0, after_is) };
       }
 
-  pub settles : (m m2 m3 : SeatState T S E) (x y : T) → Ready m m2 x y → m.0.inherited ≡ [] → published journal (step 0 0 0 0 none) m2 0 m3 → Settled m3.0 × (m3.1 ≡ [])
+  pub settles : (m m2 m3 : SeatState T S E) (x y : T) → Ready m m2 x y → m.0.inherited ≡ [] → PublishTells journal (step 0 0 0 0 none) m2 0 m3 → Settled m3.0 × (m3.1 ≡ [])
   settles m m2 m3 x y r inherited told = let p = told y r.carried in (
     record {
       idle = ap (λ (v : View S E). v.stage) p.now;
@@ -132,30 +133,32 @@ others_else {S} {E} v w more own was now is =
     none_left (of_pass n more) (omega (arith, a, b, c, d, e))
 
 module _ {T S E : Type 0} (who_of : E → ℕ) (setup : T → S) (journal : T → List E) where
-  pub turned_after : (does : S → List E → List E → Type 0) (v u w : View S E) → Settled v → Waited v u → TakesTurn who_of setup journal does u w → TakesTurn who_of setup journal does v w
-  turned_after does v u w was s d =
+  pub turned_after : (does : S → List E → List E → Type 0) (v u w : View S E) → Settled v → Waited v u → EndsTurn who_of setup journal does u w → EndsTurn who_of setup journal does v w
+  turned_after does v u w was s ended =
+      let d = ended.turn in
       let more : List (Numbered E) = s.more ++ d.more in
       let so : u.seen ++ d.more ≡ v.seen ++ more = ap (λ (u : View S E). u.seen ++ d.more) s.now ∙ append_assoc v.seen s.more d.more in
       let now : w ≡ with_own d.own (with_seen (v.seen ++ more) (at_stage Idle v)) = d.now ∙ (λ i. with_own d.own (with_seen (so i) (at_stage Idle (s.now i)))) in
       record {
-        more = more;
-        own = d.own;
-        key = d.key;
-        key_is = sym (ap (λ (u : View S E). u.setup) s.now) ∙ d.key_is;
-        now = now;
-        at_most_one = subst (λ (n : ℕ). AtMostOne who_of n d.own) (ap (λ (u : View S E). u.who) s.now) d.at_most_one;
-        others = others_else v w more d.own was.mine_is now d.mine_is;
-        mine_is = d.mine_is;
-        who_mine = d.who_mine;
-        acted = subst (λ (ls : List (Numbered E)). does d.key (entries ls) (entries w.seen)) so d.acted;
-        value = d.value;
-        stands = d.stands;
+        turn = record {
+          more = more;
+          own = d.own;
+          key = d.key;
+          key_is = sym (ap (λ (u : View S E). u.setup) s.now) ∙ d.key_is;
+          now = now;
+          at_most_one = subst (λ (n : ℕ). AtMostOne who_of n d.own) (ap (λ (u : View S E). u.who) s.now) d.at_most_one;
+          others = others_else v w more d.own was.mine_is now ended.mine_is;
+          acted = subst (λ (ls : List (Numbered E)). does d.key (entries ls) (entries w.seen)) so d.acted;
+        };
+        mine_is = ended.mine_is;
+        who_mine = ended.who_mine;
+        all = ended.all;
       }
 
-  pub turned_here : (does : ℕ → S → List E → List E → Type 0) (n m : ℕ) (v v' w w' : View S E) → n ≡ m → v ≡ v' → w ≡ w' → TakesTurn who_of setup journal (does n) v w → TakesTurn who_of setup journal (does m) v' w'
-  turned_here does n m v v' w w' a b c t = subst (λ (z : ℕ × View S E × View S E). TakesTurn who_of setup journal (does z.0) z.1 z.2) (λ i. (a i, b i, c i)) t
+  pub turned_here : (does : ℕ → S → List E → List E → Type 0) (n m : ℕ) (v v' w w' : View S E) → n ≡ m → v ≡ v' → w ≡ w' → EndsTurn who_of setup journal (does n) v w → EndsTurn who_of setup journal (does m) v' w'
+  turned_here does n m v v' w w' a b c t = subst (λ (z : ℕ × View S E × View S E). EndsTurn who_of setup journal (does z.0) z.1 z.2) (λ i. (a i, b i, c i)) t
 
-pub joins_pass : {T S E : Type 0} (m m1 m2 : SeatState T S E) (v w : View S E) → m1 ≡ (after_join v w, m.1) → m.1 ≡ [] → v.stage ≡ Idle → v.number ≡ 0 → caught_up (step 0 0 0 0 none) m1 0 m2 → JoinsPass v w m2.0 × Settled m2.0 × (m2.1 ≡ [])
+pub joins_pass : {T S E : Type 0} (m m1 m2 : SeatState T S E) (v w : View S E) → m1 ≡ (after_join v w, m.1) → m.1 ≡ [] → v.stage ≡ Idle → v.number ≡ 0 → CatchUpTells (step 0 0 0 0 none) m1 0 m2 → JoinsPass v w m2.0 × Settled m2.0 × (m2.1 ≡ [])
 joins_pass {T} {S} {E} m m1 m2 v w joined none_held idle first k =
     let learns = k.0 in
     let was : m1.0 ≡ after_join v w = ap (λ (z : SeatState T S E). z.0) joined in

@@ -1,5 +1,5 @@
 -- Entries, the numbers of the passes that made them, and what an act may append.
-use Rattle.std.specs.Prelude.{◌≡◌, ℕ, ◌<◌, ◌==◌, cond, List, [], ◌∷◌, ◌++◌, map}
+use Rattle.std.specs.Prelude.{◌≡◌, ℕ, ◌<◌, ◌==◌, if◌then◌else◌, List, [], ◌∷◌, ◌++◌, map}
 use mathlib.Core.Option.{some}
 use lib.ListN.{get_elem?}
 use Rattle.desk.specs.declared.view.Joined.{Joined}
@@ -27,7 +27,7 @@ module _ {E : Type 0} where
   -- the entries that carry this number, in order
   abbrev pub of_pass : ℕ → List (Numbered E) → List E
   of_pass n [] = []
-  of_pass n (x ∷ xs) = cond (x.number == n) (x.entry ∷ of_pass n xs) (of_pass n xs)
+  of_pass n (x ∷ xs) = if x.number == n then x.entry ∷ of_pass n xs else of_pass n xs
 
   -- each entry carries a number below this one
   abbrev pub AreBelow : ℕ → List (Numbered E) → Type 0
@@ -41,7 +41,7 @@ module _ {E : Type 0} where
     -- the entries of one connection, in order
     abbrev pub of_who : ℕ → List E → List E
     of_who c [] = []
-    of_who c (e ∷ es) = cond (who_of e == c) (e ∷ of_who c es) (of_who c es)
+    of_who c (e ∷ es) = if who_of e == c then e ∷ of_who c es else of_who c es
 
     -- each entry is of this connection
     abbrev pub AreOf : ℕ → List E → Type 0

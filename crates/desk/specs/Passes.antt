@@ -56,7 +56,7 @@ module _ {S E : Type 0} where
     -- what the other made is what the first has seen under its number
     pub other_mine : of_pass w.number u.seen ≡ w.mine
 
-  module _ {T : Type 0} (who_of : E → ℕ) (setup : T → S) (journal : T → List E) where
+  module _ (who_of : E → ℕ) where
     -- a turn: what was seen grows by what others did, and then by the pass's own entry, if there is one
     pub record TakesTurn (does : S → List E → List E → Type 0) (v w : View S E) : Type 0 where
       pub more : List (Numbered E)
@@ -67,13 +67,23 @@ module _ {S E : Type 0} where
       pub at_most_one : AtMostOne who_of v.who own
       -- what the others did carries other numbers
       pub others : of_pass v.number more ≡ []
-      pub mine_is : of_pass w.number w.seen ≡ w.mine
-      pub who_mine : 0 < w.who → of_who who_of w.who (entries w.seen) ≡ w.mine
       -- the journals are those of the value, before and after the act
       pub acted : does key (entries (v.seen ++ more)) (entries w.seen)
-      -- what is seen now is the journal of the value at this turn
-      pub value : T
-      pub stands : StandsFor setup journal value key w.seen
+
+  -- what was seen is the whole journal of a value with the pass's setup
+  pub record HasSeenAll {T : Type 0} (setup : T → S) (journal : T → List E) (w : View S E) : Type 0 where
+    pub value : T
+    pub key : S
+    pub key_is : w.setup ≡ Some key
+    pub stands : StandsFor setup journal value key w.seen
+
+  module _ {T : Type 0} (who_of : E → ℕ) (setup : T → S) (journal : T → List E) where
+    -- a turn, and what holds as it ends
+    pub record EndsTurn (does : S → List E → List E → Type 0) (v w : View S E) : Type 0 where
+      pub turn : TakesTurn who_of does v w
+      pub mine_is : of_pass w.number w.seen ≡ w.mine
+      pub who_mine : 0 < w.who → of_who who_of w.who (entries w.seen) ≡ w.mine
+      pub all : HasSeenAll setup journal w
 
   -- each pass that was joined is so
   abbrev pub EachJoined : View S E → (Joined E → Type 0) → Type 0

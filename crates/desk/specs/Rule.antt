@@ -11,7 +11,7 @@ use Rattle.desk.specs.declared.view.Stage.{Stage}
 use Rattle.desk.specs.declared.view.Stage.TheVariants.{Spent, Idle, Waiting, Holding}
 use Rattle.desk.specs.declared.view.View.{View}
 use Rattle.desk.specs.History.{AreBelow, AreOf, StartsWith, entries, of_pass, of_who}
-use Rattle.desk.specs.Views.{live, live_seats, tickets}
+use Rattle.desk.specs.Views.{live_count, live_seats, tickets}
 
 module _ {S E : Type 0} (who_of : E → ℕ) where
   -- what a seat that is not spent knows; `owner` gives the number of the pass that a connection belongs to
@@ -36,11 +36,11 @@ module _ {S E : Type 0} (who_of : E → ℕ) where
     pub who_mine : 0 < x.who → of_who who_of x.who (entries history) ≡ x.mine
     pub view : View S E
     pub there : get_elem? views x.number ≡ some view
-    pub spent_is : live view.stage ≡ 0
+    pub spent_is : live_count view.stage ≡ 0
 
 -- what the first pass knows besides
 pub record FirstView {S E : Type 0} (given : ℕ) (joined : List (Joined E)) (views : List (View S E)) (v : View S E) : Type 0 where
-  pub is_live : live v.stage ≡ 1
+  pub is_live : live_count v.stage ≡ 1
   pub given_is : v.given ≡ given
   pub joined_is : v.joined ≡ joined
   pub made_is : length views ≡ v.made + 1
@@ -51,14 +51,14 @@ module _ {S E : Type 0} (who_of : E → ℕ) where
   pub record Members (history : List (Numbered E)) (given : ℕ) (owner : ℕ → ℕ) (joined : List (Joined E)) (views : List (View S E)) : Type 0 where
     pub first : (v : View S E) → get_elem? views 0 ≡ some v → FirstView given joined views v
     pub each_joined : (k : ℕ) (x : Joined E) → get_elem? joined k ≡ some x → JoinedPass who_of history given owner views x
-    pub all_joined : (j : ℕ) (v : View S E) → get_elem? views j ≡ some v → live v.stage ≡ 0 → (k : ℕ) × (x : Joined E) × (get_elem? joined k ≡ some x) × (x.number ≡ j)
+    pub all_joined : (j : ℕ) (v : View S E) → get_elem? views j ≡ some v → live_count v.stage ≡ 0 → (k : ℕ) × (x : Joined E) × (get_elem? joined k ≡ some x) × (x.number ≡ j)
     pub distinct : (k l : ℕ) (x y : Joined E) → get_elem? joined k ≡ some x → get_elem? joined l ≡ some y → x.number ≡ y.number → k ≡ l
     pub numbers_given : AreBelow (length views) history
     pub whos_given : (k : ℕ) (x : Numbered E) → get_elem? history k ≡ some x → who_of x.entry ≤ given
 
 -- some pass that is not spent knows the whole history
 abbrev pub Covered : {S E : Type 0} → List (Numbered E) → List (View S E) → Type 0
-Covered {S} {E} history views = (j : ℕ) × (v : View S E) × (get_elem? views j ≡ some v) × (live v.stage ≡ 1) × ((v.seen ≡ history) ⊎ (v.inherited ≡ history))
+Covered {S} {E} history views = (j : ℕ) × (v : View S E) × (get_elem? views j ≡ some v) × (live_count v.stage ≡ 1) × ((v.seen ≡ history) ⊎ (v.inherited ≡ history))
 
 -- the seat j stands in the queue with this ticket; the queue has the seats that have one, in order, from the one that is served on
 abbrev pub Queued : List ℕ → ℕ → ℕ → ℕ → Type 0

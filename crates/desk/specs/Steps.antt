@@ -13,8 +13,8 @@ abbrev pub SeatState : Type 0 → Type 0 → Type 0 → Type 0
 SeatState T S E = Me (Option T) (View S E)
 
 -- the seat has this ticket, which the word r shows
-abbrev pub drew : {T S E : Type 0} → Step (Option T) → SeatState T S E → ℕ → SeatState T S E → Type 0
-drew st m r m' = (t : ℕ) × (r ≡ t % 2 ^ 64) × (m'.0 ≡ at_stage (Waiting t) m.0) × (m'.1 ≡ m.1)
+abbrev pub DrawTells : {T S E : Type 0} → Step (Option T) → SeatState T S E → ℕ → SeatState T S E → Type 0
+DrawTells st m r m' = (t : ℕ) × (r ≡ t % 2 ^ 64) × (m'.0 ≡ at_stage (Waiting t) m.0) × (m'.1 ≡ m.1)
 
 module _ {T S E : Type 0} (who_of : E → ℕ) (setup : T → S) (journal : T → List E) where
   -- the seat holds the value, which stands for all that it has seen now
@@ -29,8 +29,8 @@ module _ {T S E : Type 0} (who_of : E → ℕ) (setup : T → S) (journal : T �
     pub who_mine : 0 < m.0.who → of_who who_of m.0.who (journal value) ≡ m.0.mine
 
   -- a look takes the turn where the word shows the seat's ticket, and changes nothing where it does not
-  abbrev pub looked : Step (Option T) → SeatState T S E → ℕ → SeatState T S E → Type 0
-  looked st m r m' = (t : ℕ) → m.0.stage ≡ Waiting t → (r ≡ t % 2 ^ 64 → Served t m m') × (r ≢ t % 2 ^ 64 → m' ≡ m)
+  abbrev pub LookTells : Step (Option T) → SeatState T S E → ℕ → SeatState T S E → Type 0
+  LookTells st m r m' = (t : ℕ) → m.0.stage ≡ Waiting t → (r ≡ t % 2 ^ 64 → Served t m m') × (r ≢ t % 2 ^ 64 → m' ≡ m)
 
   -- the seat holds the value, which stands for all that was seen
   pub record HoldsTurn (m : SeatState T S E) : Type 0 where
@@ -44,19 +44,19 @@ module _ {T S E : Type 0} (who_of : E → ℕ) (setup : T → S) (journal : T �
     pub who_mine : 0 < m.0.who → of_who who_of m.0.who (journal value) ≡ m.0.mine
 
 -- what the value's journal has beyond what was seen
-abbrev pub gained : {S E : Type 0} → List E → View S E → List E
-gained now v = drop (length v.seen) now
+abbrev pub new_entries : {S E : Type 0} → List E → View S E → List E
+new_entries now v = drop (length v.seen) now
 
 -- the seat gives its turn up, and has seen what the value in its slot gained in it
 pub record Published {T S E : Type 0} (journal : T → List E) (x : T) (m m' : SeatState T S E) : Type 0 where
-  pub now : m'.0 ≡ with_own (gained (journal x) m.0) (at_stage Idle m.0)
+  pub now : m'.0 ≡ with_own (new_entries (journal x) m.0) (at_stage Idle m.0)
   pub gives_back : m'.1 ≡ []
   pub mine_is : of_pass m'.0.number m'.0.seen ≡ m'.0.mine
   pub numbers : m'.0.number ≡ 0 → AreBelow (m'.0.made + 1) m'.0.seen
   pub joined_seen : m'.0.number ≡ 0 → HasJoined m'.0.joined m'.0.seen
 
-abbrev pub published : {T S E : Type 0} → (T → List E) → Step (Option T) → SeatState T S E → ℕ → SeatState T S E → Type 0
-published {T} journal st m r m' = (x : T) → m.1 ≡ (0, Some x) ∷ [] → Published journal x m m'
+abbrev pub PublishTells : {T S E : Type 0} → (T → List E) → Step (Option T) → SeatState T S E → ℕ → SeatState T S E → Type 0
+PublishTells {T} journal st m r m' = (x : T) → m.1 ≡ (0, Some x) ∷ [] → Published journal x m m'
 
 -- the seat has seen what was published by now, and so all that a joined pass had seen
 pub record CatchesUp {S E : Type 0} (v w : View S E) : Type 0 where
@@ -67,5 +67,5 @@ pub record CatchesUp {S E : Type 0} (v w : View S E) : Type 0 where
   pub numbers : w.number ≡ 0 → AreBelow (w.made + 1) w.seen
   pub joined_seen : w.number ≡ 0 → HasJoined w.joined w.seen
 
-abbrev pub caught_up : {T S E : Type 0} → Step (Option T) → SeatState T S E → ℕ → SeatState T S E → Type 0
-caught_up st m r m' = CatchesUp m.0 m'.0 × (m'.1 ≡ m.1)
+abbrev pub CatchUpTells : {T S E : Type 0} → Step (Option T) → SeatState T S E → ℕ → SeatState T S E → Type 0
+CatchUpTells st m r m' = CatchesUp m.0 m'.0 × (m'.1 ≡ m.1)

@@ -1,5 +1,5 @@
 -- The view of a seat, and how steps change it.
-use Rattle.std.specs.Prelude.{◌≡◌, ℕ, ◌+◌, ◌-◌, ◌==◌, cond, List, [], ◌∷◌, ◌++◌, Some, None}
+use Rattle.std.specs.Prelude.{◌≡◌, ℕ, ◌+◌, ◌-◌, ◌==◌, if◌then◌else◌, List, [], ◌∷◌, ◌++◌, Some, None}
 use Rattle.desk.specs.declared.view.Joined.{Joined}
 use Rattle.desk.specs.declared.view.Numbered.{Numbered}
 use Rattle.desk.specs.declared.view.Stage.{Stage}
@@ -8,29 +8,29 @@ use Rattle.desk.specs.declared.view.View.{View}
 use Rattle.desk.specs.History.{AreBelow, HasJoined, numbered, of_pass}
 
 -- 1 where the seat has a ticket
-abbrev pub ticketed : Stage → ℕ
-ticketed Spent = 0
-ticketed Idle = 0
-ticketed (Waiting t) = 1
-ticketed (Holding t) = 1
+abbrev pub ticket_count : Stage → ℕ
+ticket_count Spent = 0
+ticket_count Idle = 0
+ticket_count (Waiting t) = 1
+ticket_count (Holding t) = 1
 
 -- 1 where the seat is not spent
-abbrev pub live : Stage → ℕ
-live Spent = 0
-live Idle = 1
-live (Waiting t) = 1
-live (Holding t) = 1
+abbrev pub live_count : Stage → ℕ
+live_count Spent = 0
+live_count Idle = 1
+live_count (Waiting t) = 1
+live_count (Holding t) = 1
 
 module _ {S E : Type 0} where
   -- how many seats have a ticket
   abbrev pub tickets : List (View S E) → ℕ
   tickets [] = 0
-  tickets (v ∷ vs) = ticketed v.stage + tickets vs
+  tickets (v ∷ vs) = ticket_count v.stage + tickets vs
 
   -- how many seats are not spent
   abbrev pub live_seats : List (View S E) → ℕ
   live_seats [] = 0
-  live_seats (v ∷ vs) = live v.stage + live_seats vs
+  live_seats (v ∷ vs) = live_count v.stage + live_seats vs
 
   -- the first pass as the desk is opened
   abbrev pub first_view : S → View S E
@@ -52,7 +52,7 @@ module _ {S E : Type 0} where
 
   -- the first pass after it was split for a connection
   abbrev pub after_split : ℕ → View S E → View S E
-  after_split who v = record v { given = cond (who == 0) v.given who; made = v.made + 1; out = v.out + 1 }
+  after_split who v = record v { given = if who == 0 then v.given else who; made = v.made + 1; out = v.out + 1 }
 
   -- the pass that was split from it
   abbrev pub split_view : ℕ → View S E → View S E

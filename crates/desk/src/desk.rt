@@ -2,7 +2,7 @@
 
 ghost use Rattle.std.specs.Prelude.{◌≡◌, ◌<◌, [], IfOk, Some};
 ghost use Rattle.desk.specs.History.{HasMade, StartsWith, entries, of_pass, of_who};
-ghost use Rattle.desk.specs.Passes.{AreDistinct, Closes, EachJoined, HasNoOther, IsFirst, IsNew, IsSettled, JoinsPass, TakesTurn, Waited};
+ghost use Rattle.desk.specs.Passes.{AreDistinct, Closes, EachJoined, EndsTurn, HasNoOther, HasSeenAll, IsFirst, IsNew, IsSettled, JoinsPass, TakesTurn, Waited};
 ghost use Rattle.desk.specs.Steps.{HoldsTurn};
 ghost use Rattle.desk.specs.Views.{first_view, after_split, split_view};
 
@@ -164,7 +164,10 @@ impl<V: Kept> Desk<V> {
         requires may { 0 < pass.old.view.who → A.may act.old pass.old.view.mine }
         requires after { StartsWith (entries pass.old.view.seen) (A.after act.old) }
         ensures desk { pass.new.desk ≡ pass.old.desk }
-        ensures turn { TakesTurn V.who V.setup V.journal (λ setup before after. A.does act.old pass.old.view.who setup before after act.new result) pass.old.view pass.new.view }
+        ensures turn { TakesTurn V.who (λ setup before after. A.does act.old pass.old.view.who setup before after act.new result) pass.old.view pass.new.view }
+        ensures mine { of_pass pass.new.view.number pass.new.view.seen ≡ pass.new.view.mine }
+        ensures who_mine { 0 < pass.new.view.who → of_who V.who pass.new.view.who (entries pass.new.view.seen) ≡ pass.new.view.mine }
+        ensures all { HasSeenAll V.setup V.journal pass.new.view }
     {
         let mut seat = mem::replace(&mut pass.badge, Badge::blank()).into_seat();
         self.wait(rt, &mut seat);
@@ -200,7 +203,7 @@ impl<V: Kept> Desk<V> {
         requires may { 0 < who.0 → A.may act.old seat.old.me.0.mine }
         requires after { StartsWith (entries seat.old.me.0.seen) (A.after act.old) }
         ensures seat { IsSettled self.now seat.new }
-        ensures turn { TakesTurn V.who V.setup V.journal (λ setup before after. A.does act.old who.0 setup before after act.new result) seat.old.me.0 seat.new.me.0 }
+        ensures turn { EndsTurn V.who V.setup V.journal (λ setup before after. A.does act.old who.0 setup before after act.new result) seat.old.me.0 seat.new.me.0 }
     {
         let table = &self.table.shared;
         let Some(mut value) = table.exchange(seat, 0, None) else {

@@ -1,7 +1,7 @@
 // What each step tells the seat that makes it.
 
 ghost use Rattle.std.specs.Prelude.{ℕ};
-ghost use Rattle.desk.specs.Steps.{drew, looked, published, caught_up};
+ghost use Rattle.desk.specs.Steps.{CatchUpTells, DrawTells, LookTells, PublishTells};
 ghost use Rattle.desk.specs.Views.{after_split, split_view, after_join, spent_view};
 
 use crate::kept::Kept;
@@ -13,28 +13,28 @@ use std::marker::{Brand, PhantomData};
 pub struct Draw;
 
 impl<V: Kept> Play<Option<V>, View<V::Setup, V::Entry>> for Draw {
-    ghost then = { drew };
+    ghost then = { DrawTells };
 }
 
 /// The serving word is looked at while a ticket is out.
 pub struct Look;
 
 impl<V: Kept> Play<Option<V>, View<V::Setup, V::Entry>> for Look {
-    ghost then = { looked V.who V.setup V.journal };
+    ghost then = { LookTells V.who V.setup V.journal };
 }
 
 /// The turn is given up, with one entry or none.
 pub struct Publish;
 
 impl<V: Kept> Play<Option<V>, View<V::Setup, V::Entry>> for Publish {
-    ghost then = { published V.journal };
+    ghost then = { PublishTells V.journal };
 }
 
 /// The serving word is looked at after a join.
 pub struct CatchUp;
 
 impl<V: Kept> Play<Option<V>, View<V::Setup, V::Entry>> for CatchUp {
-    ghost then = { caught_up };
+    ghost then = { CatchUpTells };
 }
 
 /// The connection that a pass is split for. Each call picks it.
