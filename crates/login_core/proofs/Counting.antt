@@ -6,8 +6,7 @@ use Rattle.login_model.specs.declared.fact.Fact.{Fact}
 use Rattle.login_model.specs.declared.mark.Mark.TheVariants.{Set, Say}
 use Rattle.login_model.specs.declared.mark.Whom.{Whom}
 use Rattle.login_model.specs.declared.mark.Notice.{Notice}
-use Rattle.login_model.specs.Trail.{Trail, value, put}
-use Rattle.login_model.specs.Same.{same_fact}
+use Rattle.login_model.specs.Trail.{Trail}
 use Rattle.login_model.specs.Fresh.{fresh_session, fresh_handle, is_open_fact, is_owned_fact}
 use Rattle.login_core.specs.Facts.{opens, gives}
 
@@ -43,23 +42,6 @@ sessions-none = refl
 pub handles-none : fresh_handle [] ≡ 1
 unfolding fresh_handle
 handles-none = refl
-
--- a setting that is left out, or made
-put-sessions : (b : Bool) (k : Key) (x : Fact) (t : Trail) → fresh_session (cond b t (Set k x ∷ t)) ≤ fresh_session t + opens k x
-put-sessions true k x t = omega arith
-put-sessions false k x t = omega (arith, sessions-set k x t)
-
-pub sessions-put : (k : Key) (x : Fact) (t : Trail) → fresh_session (put k x t) ≤ fresh_session t + opens k x
-unfolding put
-sessions-put k x t = put-sessions (same_fact (value t k) x) k x t
-
-put-handles : (b : Bool) (k : Key) (x : Fact) (t : Trail) → fresh_handle (cond b t (Set k x ∷ t)) ≤ fresh_handle t + gives k x
-put-handles true k x t = omega arith
-put-handles false k x t = omega (arith, handles-set k x t)
-
-pub handles-put : (k : Key) (x : Fact) (t : Trail) → fresh_handle (put k x t) ≤ fresh_handle t + gives k x
-unfolding put
-handles-put k x t = put-handles (same_fact (value t k) x) k x t
 
 -- there are at most as many as marks, and one
 bit : (b : Bool) → cond b 1 0 ≤ 1

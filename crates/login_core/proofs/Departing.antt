@@ -1,5 +1,5 @@
 -- Users who leave, and those whose delay is over.
-use Rattle.std.proofs.Common.{◌≡◌, ◌==◌, ℕ, not, Bool, true, false, cond, Option, None, Some, List, [], ◌∷◌, filter, find, refl, ap, sym, ◌∙◌, inl, inr}
+use Rattle.std.proofs.Common.{◌≡◌, ◌==◌, ℕ, not, Bool, true, false, cond, Option, Some, List, [], ◌∷◌, filter, find, refl, ap, sym, ◌∙◌, inl, inr}
 use Rattle.std.specs.Option.{is_some}
 use Rattle.login_base.specs.declared.ids.Uid.{Uid}
 use Rattle.login_base.specs.declared.ids.SessId.{SessId}
@@ -18,12 +18,12 @@ use Rattle.login_model.specs.Direct.{leave_known, is_overdue_fact, overdue}
 use Rattle.login_laws.proofs.Grows.{Grows, grows-refl, leave-grows}
 use Rattle.login_model.proofs.Keys.{test, same-user}
 use Rattle.login_model.proofs.NameLaws.{user_order}
-use Rattle.login_model.proofs.InOrder.{rest-all, users-enumerated}
+use Rattle.login_model.proofs.InOrder.{users-enumerated}
 use Rattle.login_core.specs.Leaving.{is_overdue}
 use Rattle.login_model.specs.Facts.{is_known}
 use Rattle.login_core.proofs.Among.{among, left-same}
 use Rattle.login_core.proofs.Frames.{Keeps, keeps-then, keeps-put, keeps-say, put-other}
-use Rattle.login_core.proofs.Going.{Tour, left, KeepsAbove}
+use Rattle.login_core.proofs.Going.{Tour, KeepsAbove}
 use Rattle.login_core.proofs.Chosen.{chosen, chosen-above}
 
 -- a user who is known leaves
@@ -79,10 +79,6 @@ late U m = record {
   list = λ t. filter (is_user t) (names user_lt user_in t);
   whole = λ t. among user_lt (is_user t) (is_overdue U m t) (names user_lt user_in t) (overdue-there U m t) (users-enumerated t);
 }
-
-pub late-all : (U : Setup) (m : ℕ) (t : Trail) → left (late U m) t None ≡ overdue U t m
-unfolding overdue users
-late-all U m t = rest-all user_lt (is_overdue U m t) (filter (is_user t) (names user_lt user_in t)) ((late U m).whole t)
 
 overdue-is : (U : Setup) (m : ℕ) (t : Trail) → overdue U t m ≡ filter (is_overdue U m t) (filter (is_user t) (names user_lt user_in t))
 unfolding overdue users

@@ -1,5 +1,5 @@
 -- The devices that a session has taken, and what is left of them.
-use Rattle.std.proofs.Common.{◌≡◌, ◌==◌, Bool, true, false, None, refl, ap, sym, ◌∙◌, inl, inr}
+use Rattle.std.proofs.Common.{◌≡◌, ◌==◌, Bool, true, false, refl, ap, sym, ◌∙◌, inl, inr}
 use Rattle.login_base.specs.declared.ids.SessId.{SessId}
 use Rattle.login_base.specs.declared.ids.DevNo.{DevNo}
 use Rattle.login_base.specs.declared.ids.HandleNo.{HandleNo}
@@ -16,14 +16,14 @@ use Rattle.login_model.specs.Same.{same_key, same_device}
 use Rattle.login_model.specs.Trail.{Trail, value, put}
 use Rattle.login_model.specs.Fresh.{next_handle}
 use Rattle.login_model.specs.Names.{names, device_lt}
-use Rattle.login_model.specs.Devices.{taken_in, is_handle_fact, is_taken, taken_devices, is_live}
+use Rattle.login_model.specs.Devices.{taken_in, is_handle_fact, is_taken, is_live}
 use Rattle.login_model.specs.Procedure.{yes, no, tell_controller, kill, untake, revoke, force_handle, force_device, renew, revive, resume_handle, resume_device}
 use Rattle.login_model.specs.Switching.{await_handle, await_device}
 use Rattle.login_model.proofs.Keys.{test, both, same-device}
 use Rattle.login_model.proofs.NameLaws.{device_order}
-use Rattle.login_model.proofs.InOrder.{IsIn, Ascending, rest-all, taken-enumerated, same-ascending, filter-ascending, filter-gives, filter-keeps}
+use Rattle.login_model.proofs.InOrder.{taken-enumerated}
 use Rattle.login_core.proofs.Frames.{Keeps, Covers, keeps-all, keeps-then, keeps-say, keeps-put, keeps-told, keeps-if}
-use Rattle.login_core.proofs.Going.{Tour, left, KeepsAbove}
+use Rattle.login_core.proofs.Going.{Tour, KeepsAbove}
 
 -- the devices that a session has taken
 abbrev pub taken : SessId → Tour DevNo
@@ -33,30 +33,6 @@ taken s = record {
   list = λ t. names device_lt (taken_in s) t;
   whole = λ t. taken-enumerated t s;
 }
-
-pub taken-all : (s : SessId) (t : Trail) → left (taken s) t None ≡ taken_devices t s
-unfolding taken_devices
-taken-all s t = rest-all device_lt (is_taken t s) (names device_lt (taken_in s) t) (taken-enumerated t s)
-
--- a device that is taken is one of them
-taken-in : (s : SessId) (t : Trail) (d : DevNo) → is_taken t s d ≡ true → IsIn d (taken_devices t s)
-unfolding taken_devices
-taken-in s t d e = filter-keeps (is_taken t s) d (names device_lt (taken_in s) t) e ((taken-enumerated t s).complete d e)
-
-taken-is : (s : SessId) (t : Trail) (d : DevNo) → IsIn d (taken_devices t s) → is_taken t s d ≡ true
-unfolding taken_devices
-taken-is s t d i = filter-gives (is_taken t s) d (names device_lt (taken_in s) t) i
-
-taken-ascending : (s : SessId) (t : Trail) → Ascending device_lt (taken_devices t s)
-unfolding taken_devices
-taken-ascending s t = filter-ascending device_lt (is_taken t s) (names device_lt (taken_in s) t) (taken-enumerated t s).ascending
-
--- they are the same where their facts are
-pub taken-same : (s : SessId) (t u : Trail) → ((d : DevNo) → value u (key.Taken s d) ≡ value t (key.Taken s d)) → taken_devices u s ≡ taken_devices t s
-taken-same s t u k =
-    same-ascending device_lt device_order (taken_devices u s) (taken_devices t s) (taken-ascending s u) (taken-ascending s t)
-    (λ d i. taken-in s t d (sym (ap is_handle_fact (k d)) ∙ taken-is s u d i))
-    (λ d i. taken-in s u d (ap is_handle_fact (k d) ∙ taken-is s t d i))
 
 -- what is touched where a device of a session comes or goes
 abbrev pub of_device : SessId → DevNo → Key → Bool

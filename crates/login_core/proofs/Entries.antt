@@ -15,7 +15,8 @@ use Rattle.login_model.specs.Legal.{after_all, trail_of, IsPlaced, IsLegal, IsLe
 use Rattle.login_model.specs.Stopping.{is_stop, stop_from}
 use Rattle.login_laws.proofs.JournalLaws.{length-after}
 use Rattle.login_core.specs.declared.board.Board.{Board}
-use Rattle.login_core.specs.Board.{trail}
+use Rattle.login_core.specs.Board.{IsBegun}
+use Rattle.login_core.specs.Draft.{DraftState, marked_by}
 use Rattle.login_core.specs.UnderWay.{so_far, entry_of}
 use Rattle.login_core.specs.State.{stop_next}
 use Rattle.login_core.proofs.Standing.{so_far-none, so_far-closed}
@@ -50,9 +51,14 @@ legal-closed U journal e v a ms h s =
 pub trail-closed : (U : Setup) (journal : List Entry) (e : Event) (v : Verdict) (a : Answer) (ms : List Mark) → Steps U journal e v a ms → trail_of (journal ++ entry_of e v a ms ∷ []) ≡ stepped U v e (trail_of journal)
 trail-closed U journal e v a ms s = sym (so_far-none (journal ++ entry_of e v a ms ∷ [])) ∙ so_far-closed journal (entry_of e v a ms) ∙ s.marks_are
 
--- a machine with no entry under way has the marks of its journal
-pub trail-is : (m : Board) → m.marks.items ≡ [] → trail m ≡ trail_of m.journal.items
-trail-is m h = ap (so_far m.journal.items) h ∙ so_far-none m.journal.items
+-- the draft goes on behind the journal after any marks
+pub begun-marked : (f : Trail → Trail) (m : Board) (d : DraftState) → d ≡ marked_by f m.draft → IsBegun m → IsBegun (record m { draft = d })
+begun-marked f m d e b =
+    let before : d.before ≡ m.draft.before = ap (λ (x : DraftState). x.before) e in
+    let reach : d.reach ≡ m.draft.reach = ap (λ (x : DraftState). x.reach) e in
+    let length_is = ap length before in
+    let fit = b.blanks_fit in
+    record { before = before ∙ b.before; blanks_fit = omega arith }
 
 pub length-closed : (journal : List Entry) (e : Entry) → length (journal ++ e ∷ []) ≡ length journal + 1
 length-closed journal e = length-append journal (e ∷ [])

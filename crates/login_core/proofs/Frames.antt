@@ -22,10 +22,6 @@ keeps-all touched t = record { facts = λ k e. refl }
 pub keeps-then : (touched : Key → Bool) (t u v : Trail) → Keeps touched t u → Keeps touched u v → Keeps touched t v
 keeps-then touched t u v a b = record { facts = λ k e. b.facts k e ∙ a.facts k e }
 
--- f keeps them
-abbrev pub Leaves : (Key → Bool) → (Trail → Trail) → Type 0
-Leaves touched f = (t : Trail) → Keeps touched t (f t)
-
 say-value : (w : Whom) (n : Notice) (t : Trail) (k : Key) → value (Say w n ∷ t) k ≡ value t k
 unfolding value
 say-value w n t k = refl

@@ -1,12 +1,11 @@
 -- Going over the names of a kind in order while marks are made.
-use Rattle.std.proofs.Common.{◌≡◌, ◌+◌, ◌<◌, ◌≤◌, Bool, true, Option, Some, None, List, [], ◌∷◌, length, refl, ap, sym, ◌∙◌, arith, add-one}
+use Rattle.std.proofs.Common.{◌≡◌, ◌+◌, ◌<◌, Bool, true, Option, Some, None, List, [], ◌∷◌, length, refl, ap, sym, ◌∙◌, arith, add-one}
 use Rattle.login_model.specs.Trail.{Trail}
 use Rattle.login_model.specs.Names.{IsNext}
 use Rattle.login_model.specs.Procedure.{each}
 use Rattle.login_laws.proofs.Grows.{Grows, each-grows}
 use Rattle.login_model.proofs.InOrder.{Enumerates, rest, rest-none, rest-next, rest-stays}
-use Rattle.login_core.specs.declared.board.Board.{Board}
-use Rattle.login_core.specs.Board.{trail}
+use Rattle.login_core.specs.Draft.{DraftState, Fits, marked_by, with_trail}
 
 -- the names of a kind that are there, which a list has
 pub record Tour (A : Type 0) : Type 0 where
@@ -28,9 +27,8 @@ abbrev pub Adds : {A : Type 0} → (A → Trail → Trail) → Type 0
 Adds {A} f = (d : A) (t : Trail) → Grows t (f d t)
 
 -- f of those that are left, from now, is f of all, from the start
-pub record Going {A : Type 0} (k : Tour A) (f : A → Trail → Trail) (all : List A) (above : Option A) (start now : Board) : Type 0 where
-  pub marked : each f (left k (trail now) above) (trail now) ≡ each f all (trail start)
-  pub journal : now.journal ≡ start.journal
+abbrev pub Going : {A : Type 0} → Tour A → (A → Trail → Trail) → List A → Option A → DraftState → DraftState → Type 0
+Going {A} k f all above start now = marked_by (λ t. each f (left k t above) t) now ≡ marked_by (each f all) start
 
 each-none : {A : Type 0} (f : A → Trail → Trail) (t : Trail) → each f [] t ≡ t
 unfolding each
@@ -40,67 +38,53 @@ each-more : {A : Type 0} (f : A → Trail → Trail) (x : A) (xs : List A) (t : 
 unfolding each
 each-more f x xs t = refl
 
-pub going-start : {A : Type 0} (k : Tour A) (f : A → Trail → Trail) (all : List A) (m : Board) → left k (trail m) None ≡ all → Going k f all None m m
-going-start {A} k f all m e = record {
-  marked = ap (λ (xs : List A). each f xs (trail m)) e;
-  journal = refl;
-}
+pub going-start : {A : Type 0} (k : Tour A) (f : A → Trail → Trail) (all : List A) (m : DraftState) → left k m.trail None ≡ all → Going k f all None m m
+going-start {A} k f all m e = ap (λ (xs : List A). marked_by (each f xs) m) e
 
 -- the first of those that are left, and the others, which are the same after f
-going-next : {A : Type 0} (k : Tour A) (f : A → Trail → Trail) (above : Option A) (d : A) (now next : Board) → KeepsAbove k f → trail next ≡ f d (trail now) → IsNext k.lt (k.there (trail now)) above (Some d)
-    → left k (trail now) above ≡ d ∷ left k (trail next) (Some d)
+going-next : {A : Type 0} (k : Tour A) (f : A → Trail → Trail) (above : Option A) (d : A) (now next : DraftState) → KeepsAbove k f → next ≡ marked_by (f d) now → IsNext k.lt (k.there now.trail) above (Some d)
+    → left k now.trail above ≡ d ∷ left k next.trail (Some d)
 going-next {A} k f above d now next keeps e n =
-    let t = trail now in
+    let t = now.trail in
     rest-next k.lt (k.there t) (k.list t) (k.whole t) above d n
     ∙ ap (λ (ds : List A). d ∷ ds)
     (sym (rest-stays k.lt (k.there (f d t)) (k.there t) (k.list (f d t)) (k.list t) (k.whole (f d t)) (k.whole t) d (λ x l. keeps d x t l))
-    ∙ ap (λ (u : Trail). left k u (Some d)) (sym e))
+    ∙ ap (λ (m : DraftState). left k m.trail (Some d)) (sym e))
 
 -- one more than are left
 more : {A : Type 0} (x : A) (xs ys : List A) → ys ≡ x ∷ xs → length ys ≡ length xs + 1
 more x xs ys e = ap length e ∙ sym (add-one (length xs))
 
-pub going-less : {A : Type 0} (k : Tour A) (f : A → Trail → Trail) (above : Option A) (d : A) (now next : Board) → KeepsAbove k f → trail next ≡ f d (trail now) → IsNext k.lt (k.there (trail now)) above (Some d)
-    → length (left k (trail next) (Some d)) < length (left k (trail now) above)
+pub going-less : {A : Type 0} (k : Tour A) (f : A → Trail → Trail) (above : Option A) (d : A) (now next : DraftState) → KeepsAbove k f → next ≡ marked_by (f d) now → IsNext k.lt (k.there now.trail) above (Some d)
+    → length (left k next.trail (Some d)) < length (left k now.trail above)
 going-less k f above d now next keeps e n =
-    let m = more d (left k (trail next) (Some d)) (left k (trail now) above) (going-next k f above d now next keeps e n) in
+    let m = more d (left k next.trail (Some d)) (left k now.trail above) (going-next k f above d now next keeps e n) in
     omega arith
 
 -- the next one's marks are among all
-pub going-room : {A : Type 0} (k : Tour A) (f : A → Trail → Trail) (all : List A) (above : Option A) (d : A) (start now : Board) → Adds f → Going k f all above start now
-    → IsNext k.lt (k.there (trail now)) above (Some d) → length (each f all (trail start)) ≤ start.journal.reach → length (f d (trail now)) ≤ now.journal.reach
+pub going-room : {A : Type 0} (k : Tour A) (f : A → Trail → Trail) (all : List A) (above : Option A) (d : A) (start now : DraftState) → Adds f → Going k f all above start now
+    → IsNext k.lt (k.there now.trail) above (Some d) → Fits (each f all) start → Fits (f d) now
 going-room {A} k f all above d start now grows g n h =
-    let t = trail now in
+    let t = now.trail in
     let ds = rest k.lt (k.there t) (k.list t) (Some d) in
     let w = rest-next k.lt (k.there t) (k.list t) (k.whole t) above d n in
-    let e : length (each f ds (f d t)) ≡ length (each f all (trail start)) =
-    ap length (sym (each-more f d ds t) ∙ sym (ap (λ (xs : List A). each f xs t) w) ∙ g.marked) in
+    let e : length (each f ds (f d t)) ≡ length (each f all start.trail) =
+    ap length (sym (each-more f d ds t) ∙ sym (ap (λ (xs : List A). each f xs t) w)) ∙ ap (λ (m : DraftState). length m.trail) g in
     let r = each-grows f grows ds (f d t) in
-    let j = ap (λ l. l.reach) g.journal in
+    let j : now.reach ≡ start.reach = ap (λ (m : DraftState). m.reach) g in
     omega arith
 
-pub going-step : {A : Type 0} (k : Tour A) (f : A → Trail → Trail) (all : List A) (above : Option A) (d : A) (start now next : Board) → KeepsAbove k f → Going k f all above start now
-    → trail next ≡ f d (trail now) → next.journal ≡ now.journal → IsNext k.lt (k.there (trail now)) above (Some d)
-    → Going k f all (Some d) start next
-going-step {A} k f all above d start now next keeps g e j n =
-    let ds = left k (trail next) (Some d) in
+pub going-step : {A : Type 0} (k : Tour A) (f : A → Trail → Trail) (all : List A) (above : Option A) (d : A) (start now next : DraftState) → KeepsAbove k f → Going k f all above start now
+    → next ≡ marked_by (f d) now → IsNext k.lt (k.there now.trail) above (Some d) → Going k f all (Some d) start next
+going-step {A} k f all above d start now next keeps g e n =
+    let ds = left k next.trail (Some d) in
     let w = going-next k f above d now next keeps e n in
-    record {
-      marked = ap (each f ds) e ∙ sym (each-more f d ds (trail now)) ∙ sym (ap (λ (xs : List A). each f xs (trail now)) w) ∙ g.marked;
-      journal = j ∙ g.journal;
-    }
+    ap (marked_by (each f ds)) e ∙ ap (with_trail now) (sym (each-more f d ds now.trail) ∙ sym (ap (λ (xs : List A). each f xs now.trail) w)) ∙ g
 
 -- at the end none is left
-pub record Gone {A : Type 0} (f : A → Trail → Trail) (all : List A) (start now : Board) : Type 0 where
-  pub marked : trail now ≡ each f all (trail start)
-  pub journal : now.journal ≡ start.journal
-
-pub going-end : {A : Type 0} (k : Tour A) (f : A → Trail → Trail) (all : List A) (above : Option A) (start now : Board) → Going k f all above start now → IsNext k.lt (k.there (trail now)) above None
-    → Gone f all start now
+pub going-end : {A : Type 0} (k : Tour A) (f : A → Trail → Trail) (all : List A) (above : Option A) (start now : DraftState) → Going k f all above start now → IsNext k.lt (k.there now.trail) above None
+    → now ≡ marked_by (each f all) start
 going-end {A} k f all above start now g n =
-    let t = trail now in
+    let t = now.trail in
     let w = rest-none k.lt (k.there t) (k.list t) (k.whole t) above n in
-    record {
-      marked = sym (ap (λ (xs : List A). each f xs t) w ∙ each-none f t) ∙ g.marked;
-      journal = g.journal;
-    }
+    sym (ap (with_trail now) (ap (λ (xs : List A). each f xs t) w ∙ each-none f t)) ∙ g

@@ -1,11 +1,15 @@
 -- That procedures only add marks, for the tactics.
 use Rattle.std.proofs.Common.{◌≡◌, ◌≤◌, length, ap, arith}
 use Rattle.login_model.specs.Trail.{Trail}
-use Rattle.login_core.specs.Ledger.{LedgerState}
+use Rattle.login_core.specs.Draft.{DraftState, with_trail}
 use Rattle.login_laws.proofs.Grows.{put-grows, tell_all-grows, tell_controller-grows, kill-grows, untake-grows, release-grows, revoke-grows, set_phase-grows, vacate-grows, leave_seat-grows, force-grows, resume-grows, know-grows, forget-grows, shut-grows}
 
 pub ruleset growing = (put-grows, tell_all-grows, tell_controller-grows, kill-grows, untake-grows, release-grows, revoke-grows, set_phase-grows, vacate-grows, leave_seat-grows, force-grows, resume-grows, know-grows, forget-grows, shut-grows)
 
--- what stays within the reach
-pub fits : (t u : Trail) (l m : LedgerState) → t ≡ u → m ≡ l → length u ≤ l.reach → length t ≤ m.reach
-fits t u l m e j h = let n = ap length e in let r = ap (λ (x : LedgerState). x.reach) j in omega arith
+-- what is marked from here fits where all did from the start
+pub fits : (t u : Trail) (m n : DraftState) → with_trail n t ≡ with_trail m u → length u ≤ m.reach → length t ≤ n.reach
+fits t u m n e h = let l = ap (λ (d : DraftState). length d.trail) e in let r = ap (λ (d : DraftState). d.reach) e in omega arith
+
+-- the marks of two drafts that are one
+pub trails : {m n : DraftState} → m ≡ n → m.trail ≡ n.trail
+trails e = ap (λ (d : DraftState). d.trail) e

@@ -9,6 +9,7 @@ pub mod Told
 pub mod Frames
 pub mod Going
 pub mod Growing
+mod Drafting
 pub mod Devices
 pub mod Chosen
 pub mod Rounds

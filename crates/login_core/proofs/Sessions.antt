@@ -14,7 +14,7 @@ use Rattle.login_model.specs.declared.mark.Notice.TheVariants.{Lock, Unlock}
 use Rattle.login_model.specs.Fresh.{is_open_fact}
 use Rattle.login_model.specs.Trail.{Trail, value, put, tell_all}
 use Rattle.login_model.specs.Names.{names, session_lt, session_in}
-use Rattle.login_model.specs.Where.{is_session, is_session_fact, is_open, is_user_in, sessions, open_sessions, sessions_of}
+use Rattle.login_model.specs.Where.{is_session, is_session_fact, is_open, is_user_in, sessions, open_sessions}
 use Rattle.login_model.specs.Policy.{controls}
 use Rattle.login_model.specs.Direct.{controlled_by, lock_session, unlock_session}
 use Rattle.login_model.proofs.InOrder.{sessions-enumerated}
@@ -71,10 +71,6 @@ open-all t = sessions-all is_open t
 -- the sessions of a user
 abbrev pub is_of : ℕ → Trail → SessId → Bool
 is_of uid t s = is_user_in uid (value t (Sess s))
-
-pub user-all : (uid : ℕ) (t : Trail) → left (sessions_that (is_of uid)) t None ≡ sessions_of t uid
-unfolding sessions_of
-user-all uid t = sessions-all (is_of uid) t
 
 -- the sessions that a connection controls
 abbrev pub is_controlled_by : ConnId → Trail → SessId → Bool

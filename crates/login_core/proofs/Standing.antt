@@ -1,5 +1,5 @@
 -- The tables stand for one more mark.
-use Rattle.std.proofs.Common.{◌≡◌, ◌+◌, Bool, true, false, cond, Option, Some, None, List, [], ◌∷◌, ◌++◌, length, refl, ap, sym, subst, ◌∙◌}
+use Rattle.std.proofs.Common.{◌≡◌, Bool, true, false, cond, List, [], ◌∷◌, ◌++◌, length, refl, ap, sym, subst, ◌∙◌}
 use Rattle.login_model.specs.declared.fact.Key.{Key}
 use Rattle.login_model.specs.declared.fact.Fact.{Fact}
 use Rattle.login_model.specs.declared.mark.Mark.{Mark}
@@ -9,14 +9,8 @@ use Rattle.login_model.specs.declared.mark.Notice.{Notice}
 use Rattle.login_model.specs.declared.mark.Entry.{Entry}
 use Rattle.login_model.specs.Same.{same_fact}
 use Rattle.login_model.specs.Trail.{Trail, value, after, put}
-use Rattle.login_model.specs.Names.{IsNext}
 use Rattle.login_model.specs.Legal.{after_all, trail_of}
-use Rattle.login_table.specs.Listed.{is_there}
-use Rattle.login_core.specs.declared.board.home.Home.{Home}
-use Rattle.login_core.specs.declared.room.counts.Counts.{Counts}
-use Rattle.login_core.specs.Counts.{AreCounted}
-use Rattle.login_core.specs.Facts.{Tables, TablesStand, StandFor, table}
-use Rattle.login_core.specs.Home.{home}
+use Rattle.login_core.specs.Facts.{Tables, TablesStand, StandFor}
 use Rattle.login_core.specs.UnderWay.{so_far}
 use Rattle.login_core.proofs.CountedLaws.{counted-say}
 use Rattle.login_core.proofs.Counting.{sessions-say, handles-say}
@@ -33,18 +27,6 @@ pub closed : (f : Tables) (t : Trail) → TablesStand f t → StandFor f t
 unfolding StandFor
 closed f t s = s
 
--- with the same rows, counts and numbers they stand for the same marks
-pub stands-same : (f g : Tables) (t : Trail) → ((h : Home) → table g h ≡ table f h) → g.counts ≡ f.counts → g.session ≡ f.session → g.handle ≡ f.handle → StandFor f t → StandFor g t
-stands-same f g t rows counts session handle stands =
-    let s = opened f t stands in
-    let P : Counts → Type 0 = λ c. AreCounted c t in
-    closed g t (record {
-      facts = λ k. ap (λ (u : Trail). value u k) (rows (home k)) ∙ s.facts k;
-      counts = subst P (sym counts) s.counts;
-      session = session ∙ s.session;
-      handle = handle ∙ s.handle;
-    })
-
 -- a notice changes no fact
 pub stand-say : (f : Tables) (t : Trail) (w : Whom) (n : Notice) → StandFor f t → StandFor f (Say w n ∷ t)
 stand-say f t w n stands = let s = opened f t stands in closed f (Say w n ∷ t) (record {
@@ -53,17 +35,6 @@ stand-say f t w n stands = let s = opened f t stands in closed f (Say w n ∷ t)
   session = s.session ∙ sym (sessions-say w n t);
   handle = s.handle ∙ sym (handles-say w n t);
 })
-
--- the next name where the same names are there
-pub next-same : {A : Type 0} (lt : A → A → Bool) (p q : A → Bool) (above next : Option A) → ((a : A) → p a ≡ q a) → IsNext lt p above next → IsNext lt q above next
-next-same lt p q above None e h = λ a i j. h a (e a ∙ i) j
-next-same lt p q above (Some a) e h = (sym (e a) ∙ h.0, h.1, λ b i j. h.2 b (e b ∙ i) j)
-
--- the next name of those that a table keeps
-pub next-standing : {A : Type 0} (lt : A → A → Bool) (key_of : A → Key) (is_fact : Fact → Bool) (rows t : Trail) (above next : Option A)
-    → ((a : A) → value rows (key_of a) ≡ value t (key_of a)) → IsNext lt (is_there key_of is_fact rows) above next → IsNext lt (is_there key_of is_fact t) above next
-next-standing lt key_of is_fact rows t above next s h =
-    next-same lt (is_there key_of is_fact rows) (is_there key_of is_fact t) above next (λ a. ap is_fact (s a)) h
 
 -- the marks so far
 pub after-more : (t : Trail) (ms : List Mark) (m : Mark) → after t (ms ++ m ∷ []) ≡ m ∷ after t ms

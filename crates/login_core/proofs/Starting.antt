@@ -13,6 +13,7 @@ use Rattle.login_model.specs.Trail.{Trail, value}
 use Rattle.login_model.specs.Where.{connections, locks, open_sessions, sessions}
 use Rattle.login_model.specs.declared.mark.Entry.{Entry}
 use Rattle.login_model.specs.declared.setup.Setup.{Setup}
+use Rattle.login_core.specs.Board.{IsBegun}
 use Rattle.login_core.specs.Inside.{IsCore}
 use Rattle.login_core.specs.Kept.{HaveTexts, copies_in}
 use Rattle.login_core.specs.declared.board.Board.{Board}
@@ -36,9 +37,9 @@ no-texts x a b = record {
   gone = record { kept = λ s e. absurd (false-true e); made = λ s e. b s };
 }
 
-pub core-new : (U : Setup) (m : Board) (x : Texts) → IsSetup U → m.journal.items ≡ [] → m.marks.items ≡ [] → 1 ≤ m.journal.entries → ((s : SessId) → copies_in x.closing.items s ≡ None) → ((s : SessId) → copies_in x.gone.items s ≡ None)
+pub core-new : (U : Setup) (m : Board) (x : Texts) → IsSetup U → m.journal.items ≡ [] → m.draft.trail ≡ [] → IsBegun m → 1 ≤ m.journal.entries → ((s : SessId) → copies_in x.closing.items s ≡ None) → ((s : SessId) → copies_in x.gone.items s ≡ None)
     → IsCore U m x None
-core-new U m x u j k n a b =
+core-new U m x u j k g n a b =
     let P : List Entry → Type 0 = IsLegal U in
     let t : trail_of m.journal.items ≡ [] = ap trail_of j in
     let c = ap (λ (u : Trail). length (connections u)) t ∙ no-connections in
@@ -50,7 +51,8 @@ core-new U m x u j k n a b =
       set_up = u;
       legal = subst P (sym j) tt;
       quiet = subst IsQuiet (sym t) start-quiet;
-      no_marks = k;
+      begun = g;
+      no_marks = k ∙ sym t;
       stop_is = ap (stop_from 1) (sym j);
       entries = omega arith;
       reach = omega arith;

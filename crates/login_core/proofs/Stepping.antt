@@ -28,6 +28,7 @@ use Rattle.login_laws.proofs.Comings.{disconnect-connections}
 use Rattle.login_laws.proofs.Quiet.{stepped-quiet}
 use Rattle.login_laws.proofs.RoomLaws.{room}
 use Rattle.login_core.specs.Fullness.{always_fits}
+use Rattle.login_core.specs.Board.{IsBegun}
 use Rattle.login_core.specs.Inside.{IsCore, stop_need}
 use Rattle.login_core.specs.Kept.{AreReady, HaveTexts}
 use Rattle.login_core.specs.UnderWay.{entry_of}
@@ -40,7 +41,7 @@ use Rattle.login_core.proofs.Keeping.{Kept, Made, kept-disconnect, kept-other, k
 
 -- what a core of these parts is seen as
 abbrev pub seen : Setup → Board → Texts → Ready → CoreState
-seen U m x a = record { setup = U; journal = m.journal.items; entries = m.journal.entries; reach = m.journal.reach; texts = x; ready = a }
+seen U m x a = record { setup = U; journal = m.journal.items; entries = m.journal.entries; reach = m.draft.reach; texts = x; ready = a }
 
 -- what is so where an event is stepped
 pub record Stepping (U : Setup) (m : Board) (x : Texts) (a : Ready) (stop : Option ℕ) (e : Event) (v : Verdict) : Type 0 where
@@ -64,7 +65,7 @@ stop-before es _ n = refl
 no-stop : (U : Setup) (m : Board) (x : Texts) (stop : Option ℕ) (e : Event) → IsCore U m x stop → IsPlaced m.journal.items e → (IsDisconnect e → ⊥) → stop ≡ None
 no-stop U m x stop e k p n = k.stop_is ∙ stop-before m.journal.items e n ∙ p.1
 
-made : (U : Setup) (m : Board) (x : Texts) (a : Ready) (e : Event) (last : ℕ) → always_fits e ≡ false → m.journal.entries ≡ last + 1 → IsRoomFor (seen U m x a) e → Made U (last + 1) m.journal.reach (length m.journal.items) (trail_of m.journal.items) e
+made : (U : Setup) (m : Board) (x : Texts) (a : Ready) (e : Event) (last : ℕ) → always_fits e ≡ false → m.journal.entries ≡ last + 1 → IsRoomFor (seen U m x a) e → Made U (last + 1) m.draft.reach (length m.journal.items) (trail_of m.journal.items) e
 made U m x a e last f l r =
     let t = trail_of m.journal.items in
     let s = small U m.journal.items e f r.small in
@@ -80,7 +81,7 @@ made U m x a e last f l r =
       few_marks = omega arith;
     }
 
-kept-core : (U : Setup) (m : Board) (x : Texts) (stop : Option ℕ) (last : ℕ) → m.journal.entries ≡ last + 1 → IsCore U m x stop → Kept (last + 1) m.journal.reach (length m.journal.items) stop (trail_of m.journal.items)
+kept-core : (U : Setup) (m : Board) (x : Texts) (stop : Option ℕ) (last : ℕ) → m.journal.entries ≡ last + 1 → IsCore U m x stop → Kept (last + 1) m.draft.reach (length m.journal.items) stop (trail_of m.journal.items)
 kept-core U m x stop last l k =
     let a = k.entries in
     record { entries_kept = omega arith; reach_kept = k.reach; few_entries = k.few_entries; few_marks = k.few_marks }
@@ -104,17 +105,17 @@ has-entry U m x a stop Stop v s =
     omega arith
 
 other-step : (U : Setup) (m : Board) (x : Texts) (a : Ready) (stop : Option ℕ) (e : Event) (v : Verdict) (last : ℕ) → (IsDisconnect e → ⊥) → always_fits e ≡ false → is_stop e ≡ false → m.journal.entries ≡ last + 1
-    → IsRoomFor (seen U m x a) e → Stepping U m x a stop e v → Kept last m.journal.reach (length m.journal.items + 1) (stop_next stop e (length m.journal.items + 1)) (stepped U v e (trail_of m.journal.items))
+    → IsRoomFor (seen U m x a) e → Stepping U m x a stop e v → Kept last m.draft.reach (length m.journal.items + 1) (stop_next stop e (length m.journal.items + 1)) (stepped U v e (trail_of m.journal.items))
 other-step U m x a stop e v last n f i l r s =
     let t = trail_of m.journal.items in
-    let P : Option ℕ → Type 0 = λ o. Kept last m.journal.reach (length m.journal.items + 1) o (stepped U v e t) in
-    let k = kept-other U last m.journal.reach (length m.journal.items) t e v s.sound n s.verdict_is (made U m x a e last f l r) in
+    let P : Option ℕ → Type 0 = λ o. Kept last m.draft.reach (length m.journal.items + 1) o (stepped U v e t) in
+    let k = kept-other U last m.draft.reach (length m.journal.items) t e v s.sound n s.verdict_is (made U m x a e last f l r) in
     let none = no-stop U m x stop e s.core s.placed n in
     subst P (sym (ap (λ (o : Option ℕ). stop_next o e (length m.journal.items + 1)) none ∙ ap (λ (b : Bool). cond b (Some (length m.journal.items + 1)) None) i)) k
 
 -- room is kept for all ends
 pub kept-step : (U : Setup) (m : Board) (x : Texts) (a : Ready) (stop : Option ℕ) (e : Event) (v : Verdict) (last : ℕ) → m.journal.entries ≡ last + 1 → Stepping U m x a stop e v
-    → Kept last m.journal.reach (length m.journal.items + 1) (stop_next stop e (length m.journal.items + 1)) (stepped U v e (trail_of m.journal.items))
+    → Kept last m.draft.reach (length m.journal.items + 1) (stop_next stop e (length m.journal.items + 1)) (stepped U v e (trail_of m.journal.items))
 kept-step U m x a stop (Connect c u) v last l s = other-step U m x a stop (Connect c u) v last (λ z. z) refl refl l s.ready s
 kept-step U m x a stop (Calls r) v last l s = other-step U m x a stop (Calls r) v last (λ z. z) refl refl l s.ready s
 kept-step U m x a stop (Happens y) v last l s = other-step U m x a stop (Happens y) v last (λ z. z) refl refl l s.ready s
@@ -122,8 +123,8 @@ kept-step U m x a stop (Tick n) v last l s = other-step U m x a stop (Tick n) v 
 kept-step U m x a stop (Disconnect c) v last l s =
     let t = trail_of m.journal.items in
     let n = length m.journal.items in
-    let P : Option ℕ → Type 0 = λ o. Kept last m.journal.reach (n + 1) o (stepped U v (Disconnect c) t) in
-    subst P (sym (still stop (n + 1))) (kept-disconnect U last m.journal.reach n stop t c v s.sound s.placed.0 s.verdict_is (kept-core U m x stop last l s.core))
+    let P : Option ℕ → Type 0 = λ o. Kept last m.draft.reach (n + 1) o (stepped U v (Disconnect c) t) in
+    subst P (sym (still stop (n + 1))) (kept-disconnect U last m.draft.reach n stop t c v s.sound s.placed.0 s.verdict_is (kept-core U m x stop last l s.core))
   where
     still : (o : Option ℕ) (k : ℕ) → stop_next o (Disconnect c) k ≡ o
     still None k = refl
@@ -132,9 +133,9 @@ kept-step U m x a stop Stop v last l s =
     let t = trail_of m.journal.items in
     let n = length m.journal.items in
     let none = no-stop U m x stop Stop s.core s.placed (λ z. z) in
-    let P : Option ℕ → Type 0 = λ o. Kept last m.journal.reach (n + 1) (stop_next o Stop (n + 1)) (stepped U v Stop t) in
-    let Q : Option ℕ → Type 0 = λ o. Kept (last + 1) m.journal.reach n o t in
-    subst P (sym none) (kept-stop U last m.journal.reach n (n + 1) t v s.sound s.verdict_is (subst Q none (kept-core U m x stop last l s.core)))
+    let P : Option ℕ → Type 0 = λ o. Kept last m.draft.reach (n + 1) (stop_next o Stop (n + 1)) (stepped U v Stop t) in
+    let Q : Option ℕ → Type 0 = λ o. Kept (last + 1) m.draft.reach n o t in
+    subst P (sym none) (kept-stop U last m.draft.reach n (n + 1) t v s.sound s.verdict_is (subst Q none (kept-core U m x stop last l s.core)))
 
 pub ready-texts : (c : CoreState) (e : Event) → IsReady c e → AreReady e c.texts
 ready-texts c (Connect b u) r = r.texts
@@ -145,7 +146,7 @@ ready-texts c (Disconnect b) r = tt
 ready-texts c Stop r = tt
 
 -- the marks stay within the reach
-pub stays-within : (U : Setup) (m : Board) (x : Texts) (a : Ready) (stop : Option ℕ) (e : Event) (v : Verdict) → Stepping U m x a stop e v → length (stepped U v e (trail_of m.journal.items)) ≤ m.journal.reach
+pub stays-within : (U : Setup) (m : Board) (x : Texts) (a : Ready) (stop : Option ℕ) (e : Event) (v : Verdict) → Stepping U m x a stop e v → length (stepped U v e (trail_of m.journal.items)) ≤ m.draft.reach
 stays-within U m x a stop e v s =
     let has = has-entry U m x a stop e v s in
     let k = kept-step U m x a stop e v (m.journal.entries - 1) (omega arith) s in
@@ -197,9 +198,9 @@ answered-next U m x a stop Stop v s = stop-answer U m.journal.items v
 
 -- the board after the entry is closed is one of a core again
 pub core-closed : (U : Setup) (m n : Board) (x y : Texts) (a : Ready) (b : Answer) (stop next : Option ℕ) (e : Event) (v : Verdict) (ms : List Mark) → Stepping U m x a stop e v → Steps U m.journal.items e v b ms
-    → n.journal.items ≡ m.journal.items ++ entry_of e v b ms ∷ [] → n.marks.items ≡ [] → n.journal.entries + 1 ≡ m.journal.entries → n.journal.reach ≡ m.journal.reach
+    → n.journal.items ≡ m.journal.items ++ entry_of e v b ms ∷ [] → n.draft.trail ≡ trail_of n.journal.items → IsBegun n → n.journal.entries + 1 ≡ m.journal.entries → n.draft.reach ≡ m.draft.reach
     → next ≡ stop_next stop e (length m.journal.items + 1) → HaveTexts y (stepped U v e (trail_of m.journal.items)) → IsCore U n y next
-core-closed U m n x y a b stop next e v ms s w j k l r o h =
+core-closed U m n x y a b stop next e v ms s w j k g l r o h =
     let es = m.journal.items in
     let t = trail_of es in
     let d = entry_of e v b ms in
@@ -210,7 +211,7 @@ core-closed U m n x y a b stop next e v ms s w j k l r o h =
     let Q : Trail → Type 0 = HaveTexts y in
     let c = ap (λ (u : Trail). length (connections u)) trail in
     let f = ap (λ (u : Trail). length u + need u) trail in
-    let g = ap stop_need o in
+    let i = ap stop_need o in
     let A = kept.entries_kept in
     let B = kept.reach_kept in
     let C = kept.few_entries in
@@ -219,6 +220,7 @@ core-closed U m n x y a b stop next e v ms s w j k l r o h =
       set_up = s.core.set_up;
       legal = subst P (sym j) (legal-closed U es e v b ms s.core.legal w);
       quiet = subst IsQuiet (sym trail) (stepped-quiet U v e t s.built s.core.quiet);
+      begun = g;
       no_marks = k;
       stop_is = o ∙ ap (λ (p : Option ℕ). stop_next p e (length es + 1)) s.core.stop_is ∙ sym (stop-closed es d) ∙ ap (stop_from 1) (sym j);
       entries = omega arith;

@@ -1,16 +1,20 @@
--- What a board has.
-use Rattle.std.specs.Prelude.{◌∷◌}
-use Rattle.login_model.specs.declared.mark.Mark.TheVariants.{Say}
-use Rattle.login_model.specs.declared.mark.Whom.{Whom}
-use Rattle.login_model.specs.declared.mark.Notice.{Notice}
-use Rattle.login_model.specs.Trail.{Trail}
+-- What a board keeps, and how its entry closes.
+use Rattle.std.specs.Prelude.{◌≡◌, ◌+◌, ◌≤◌, ◌∷◌, ◌++◌, [], List, length}
+use Rattle.login_model.specs.declared.rule.Verdict.{Verdict}
+use Rattle.login_model.specs.declared.answer.Answer.{Answer}
+use Rattle.login_model.specs.declared.mark.Mark.{Mark}
+use Rattle.login_model.specs.declared.event.Event.{Event}
+use Rattle.login_model.specs.Legal.{trail_of}
 use Rattle.login_core.specs.declared.board.Board.{Board}
-use Rattle.login_core.specs.UnderWay.{so_far}
+use Rattle.login_core.specs.UnderWay.{so_far, entry_of}
 
--- the marks so far, the newest first
-abbrev pub trail : Board → Trail
-trail m = so_far m.journal.items m.marks.items
+-- the draft goes on behind the journal, and each empty list for marks has room for all that there may be
+pub record IsBegun (m : Board) : Type 0 where
+  pub before : m.draft.before ≡ trail_of m.journal.items
+  pub blanks_fit : m.draft.reach ≤ length m.draft.before + m.journal.room
 
--- a notice to these
-abbrev pub tell : Whom → Notice → Trail → Trail
-tell w n t = Say w n ∷ t
+-- the journal has one more entry, whose marks are those that the draft made
+pub record Closes (event : Event) (verdict : Verdict) (answer : Answer) (old new : Board) : Type 0 where
+  pub marks : List Mark
+  pub made : so_far old.journal.items marks ≡ old.draft.trail
+  pub entry : new.journal.items ≡ old.journal.items ++ entry_of event verdict answer marks ∷ []

@@ -33,20 +33,21 @@ NamesSeat (SwitchToNext seat) = is_seat_name seat ≡ true
 NamesSeat (SwitchToPrevious seat) = is_seat_name seat ≡ true
 NamesSeat _ = Unit {0}
 
--- the session that a plain call names by its id
+-- the session that a call is on, by its id
 abbrev pub session_in : Call → Option SessId
 session_in (Activate id) = session_of id
 session_in (ActivateOnSeat id seat) = session_of id
 session_in (Lock id) = session_of id
 session_in (Unlock id) = session_of id
 session_in (Kill id whom signal) = session_of id
+session_in (Terminate id) = session_of id
 session_in (SetIdle id on) = session_of id
 session_in (SetLocked id on) = session_of id
 session_in (Control id force) = session_of id
 session_in (Uncontrol id) = session_of id
 session_in _ = None
 
--- what such a call does to it
+-- what a plain call does to it
 abbrev pub call_on : ConnId → Call → SessId → Trail → Trail
 call_on who (Activate id) s t = activate s t
 call_on who (ActivateOnSeat id seat) s t = activate s t

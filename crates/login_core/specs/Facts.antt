@@ -1,5 +1,4 @@
 -- The facts in their tables.
-use denote.Struct.Props.{props}
 use Rattle.std.specs.Prelude.{ℕ, ◌≡◌, ◌+◌, ◌<◌, ◌^◌, if◌then◌else◌, length}
 use Rattle.login_model.specs.declared.fact.Key.{Key}
 use Rattle.login_model.specs.declared.fact.Key.TheVariants.{Sess, Owner}
@@ -52,11 +51,6 @@ pub record TablesStand (f : Tables) (t : Trail) : Type 0 where
 -- the facts are those that the marks leave
 unfoldable pub StandFor : Tables → Trail → Type 0
 StandFor f t = TablesStand f t
-
--- it is a fact, and no more
-pub StandFor-prop : (f : Tables) (t : Trail) → IsProp (StandFor f t)
-unfolding StandFor
-StandFor-prop f t = hlevel props
 
 -- they are those that some marks leave, so few that one more can be numbered
 pub record StandForFew (f : Tables) : Type 0 where

@@ -1,5 +1,5 @@
 -- What holds inside a core.
-use Rattle.std.specs.Prelude.{ℕ, ◌≡◌, ◌+◌, ◌≤◌, [], length, Option, Some, None}
+use Rattle.std.specs.Prelude.{ℕ, ◌≡◌, ◌+◌, ◌≤◌, length, Option, Some, None}
 use Rattle.login_model.specs.Legal.{IsLegal, trail_of}
 use Rattle.login_laws.specs.Need.{need}
 use Rattle.login_laws.specs.Quiet.{IsQuiet}
@@ -8,6 +8,7 @@ use Rattle.login_model.specs.Stopping.{stop_from}
 use Rattle.login_model.specs.Where.{connections}
 use Rattle.login_model.specs.declared.setup.Setup.{Setup}
 use Rattle.login_core.specs.Kept.{HaveTexts}
+use Rattle.login_core.specs.Board.{IsBegun}
 use Rattle.login_core.specs.declared.board.Board.{Board}
 use Rattle.login_core.specs.declared.room.texts.Texts.{Texts}
 use Rattle.login_model.specs.Limits.{entries_limit, marks_limit}
@@ -24,10 +25,11 @@ pub record IsCore (U : Setup) (m : Board) (texts : Texts) (stop : Option ℕ) : 
   pub set_up : IsSetup U
   pub legal : IsLegal U m.journal.items
   pub quiet : IsQuiet (trail_of m.journal.items)
-  pub no_marks : m.marks.items ≡ []
+  pub begun : IsBegun m
+  pub no_marks : m.draft.trail ≡ trail_of m.journal.items
   pub stop_is : stop ≡ stop_from 1 m.journal.items
   pub entries : length (connections (trail_of m.journal.items)) + stop_need stop ≤ m.journal.entries
-  pub reach : length (trail_of m.journal.items) + need (trail_of m.journal.items) ≤ m.journal.reach
+  pub reach : length (trail_of m.journal.items) + need (trail_of m.journal.items) ≤ m.draft.reach
   pub kept_texts : HaveTexts texts (trail_of m.journal.items)
   pub few_entries : length m.journal.items + length (connections (trail_of m.journal.items)) + stop_need stop ≤ entries_limit
   pub few_marks : length (trail_of m.journal.items) + need (trail_of m.journal.items) ≤ marks_limit

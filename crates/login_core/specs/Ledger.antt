@@ -5,13 +5,11 @@ use Rattle.login_base.specs.Room.{Room}
 use Rattle.login_model.specs.declared.mark.Entry.{Entry}
 use Rattle.login_model.specs.declared.mark.Mark.{Mark}
 
--- the entries; how many more there is room for, each with how many marks; and how many marks there may
--- be in all
+-- the entries; how many more there is room for, and each with how many marks
 pub record LedgerState : Type 0 where
   pub items : List Entry
   pub entries : ℕ
   pub room : ℕ
-  pub reach : ℕ
 
 -- each of these lists of marks is empty, and has room for so many
 abbrev pub HaveRoom : ℕ → List (Room Mark) → Type 0

@@ -10,6 +10,7 @@ pub mod Handles
 pub mod Ledger
 pub mod Ending
 pub mod UnderWay
+pub mod Draft
 pub mod Board
 pub mod Awaiting
 pub mod Leaving

@@ -1,4 +1,4 @@
-// The journal, the marks of the entry under way, and the facts that both leave.
+// The marks of the entry under way, with the facts that the marks leave; and the journal beside them.
 
 pub mod choosing;
 pub mod facts;
@@ -6,100 +6,125 @@ pub mod home;
 pub mod rounds;
 pub mod setting;
 
-ghost use Rattle.std.specs.Prelude.{◌≡◌, ◌+◌, ◌<◌, ◌≤◌, ◌^◌, ◌++◌, [], ◌∷◌, OnOk, length};
+ghost use Rattle.std.specs.Prelude.{◌≡◌, ◌+◌, ◌<◌, ◌≤◌, ◌^◌, [], OnOk, OnErr, length};
 ghost use Rattle.login_model.specs.Trail.{put};
 ghost use Rattle.login_model.specs.Fresh.{next_session};
-ghost use Rattle.login_core.specs.UnderWay.{so_far, entry_of};
+ghost use Rattle.login_model.specs.Devices.{is_awaiting};
 ghost use Rattle.login_core.specs.Counts.{AreCounted};
-ghost use Rattle.login_core.specs.Facts.{StandFor, StandFor-prop};
+ghost use Rattle.login_core.specs.Draft.{marked_by, reaching, tell, Fits};
 
 use crate::board::facts::Facts;
 use crate::room::counts::Counts;
 use crate::room::ledger::Ledger;
 use login_base::{ConnId, DevNo, HandleNo, LockNo, NoMemory, Reserved, SeatName, SessId, Uid};
 use login_model::{
-    Answer, Entry, Event, Fact, Key, Look, Mark, Notice, Verdict, Whom, is_same_fact,
+    Answer, Entry, Event, Fact, Journal, Key, Look, Mark, Notice, Verdict, Whom, is_same_fact,
 };
 use std::alloc::Global;
+use std::marker::Model;
 use std::mem;
+use std::snapshot::Snapshot;
 
-/// The journal, the marks of the entry under way, and the facts that both leave.
+/// The marks of the entry under way, and the facts that they leave with those before them. The journal is
+/// apart: only contracts see it here.
 #[derive(Drop)]
-pub struct Board {
-    pub journal: Ledger,
-    pub marks: Reserved<Mark>,
-    pub facts: Facts,
-    pub alloc: Global,
+pub struct Draft {
+    journal: Snapshot<Journal>,
+    marks: Reserved<Mark>,
+    facts: Facts,
     /// How many marks there are in all.
-    pub made: u32,
-    pub ghost stands: { StandFor facts (so_far journal.items marks.items) } by { StandFor-prop facts (so_far journal.items marks.items) },
-    pub ghost counted: { made ≡ length (so_far journal.items marks.items) },
-    pub ghost marks_fit: { journal.reach ≤ made + marks.spare },
-    pub ghost facts_fit: { journal.reach ≤ made + facts.spare },
-    pub ghost blanks_fit: { journal.reach ≤ made + journal.room },
-    pub ghost within: { made ≤ journal.reach },
-    pub ghost numbered: { journal.reach + 2 < 2 ^ 32 },
+    made: u32,
+    /// How many marks there may be in all.
+    reach: u32,
 }
 
-impl Board {
-    ghost use Rattle.login_core.specs.Board.{trail, tell};
+impl Model for Draft {
+    ghost use Rattle.login_core.specs.Draft.{DraftState, IsDraft};
+    ghost use Rattle.login_core.specs.UnderWay.{so_far};
+    ghost use Rattle.login_model.specs.Legal.{trail_of};
 
-    /// The empty journal, and no marks. It takes no memory.
-    pub fn new(alloc: Global) -> Board
-        ensures journal { result.journal.items ≡ [] }
-        ensures marks { result.marks.items ≡ [] }
+    ghost Value = { DraftState };
+
+    ghost view = { λ d. record {
+      before = trail_of d.journal.value.items;
+      trail = so_far d.journal.value.items d.marks.items;
+      reach = d.reach;
+    } };
+
+    ghost invariant = { λ d. IsDraft (so_far d.journal.value.items d.marks.items) d.marks d.facts d.made d.reach };
+}
+
+impl Draft {
+    /// No marks, and room for none. It takes no memory.
+    pub fn new(alloc: Global) -> Draft
+        ensures before { result.before ≡ [] }
+        ensures trail { result.trail ≡ [] }
+        ensures reach { result.reach ≡ 0 }
     {
-        Board {
-            journal: Ledger::new(alloc),
+        Draft {
+            journal: Snapshot::of(&Journal::new(alloc)),
             marks: Reserved::new(alloc),
             facts: Facts::new(alloc),
-            alloc,
             made: 0,
+            reach: 0,
         }
     }
 
-    /// Makes room for so many more entries, and for so many marks in all, each of which may be a
-    /// setting. What there is room for already stays.
-    pub fn reserve(&mut self, entries: u32, reach: u32) -> Result<(), NoMemory>
-        requires { reach + 2 < 2 ^ 32 }
-        ensures entries { OnOk result (entries ≤ self.new.journal.entries) }
-        ensures reach { OnOk result (reach ≤ self.new.journal.reach) }
-        ensures keeps_entries { self.old.journal.entries ≤ self.new.journal.entries }
-        ensures keeps_reach { self.old.journal.reach ≤ self.new.journal.reach }
-        ensures items { self.new.journal.items ≡ self.old.journal.items }
-        ensures marks { self.new.marks.items ≡ self.old.marks.items }
+    /// How many marks there may be in all.
+    pub fn reach(&self) -> u32
+        ensures { result ≡ self.now.reach }
     {
-        if reach <= self.journal.reach() {
-            return self.journal.reserve(entries, 0);
-        }
+        self.reach
+    }
+
+    /// How many marks there are in all.
+    pub fn made(&self) -> u32
+        ensures count { result ≡ length self.now.trail }
+        ensures within { result ≤ self.now.reach }
+    {
+        self.made
+    }
+
+    /// Makes room for so many marks in all, each of which may be a setting.
+    pub fn reserve(&mut self, reach: u32) -> Result<(), NoMemory>
+        requires more { self.old.reach ≤ reach }
+        requires numbered { reach + 2 < 2 ^ 32 }
+        ensures made { OnOk result (self.new ≡ reaching reach self.old) }
+        ensures refused { OnErr result (self.new ≡ self.old) }
+    {
         let more = reach - self.made;
-        self.journal.reserve(entries, more)?;
         self.marks.reserve(more as usize)?;
         self.facts.reserve(more as usize)?;
-        self.journal.raise(reach);
+        self.reach = reach;
         Ok(())
     }
 
     /// The number of the next session.
     pub fn fresh_session(&self) -> SessId
-        ensures { result ≡ next_session (trail self.now) }
+        ensures { result ≡ next_session self.now.trail }
     {
         self.facts.fresh_session()
     }
 
     /// How many there are of what needs room.
     pub fn counts(&self) -> Counts
-        ensures { AreCounted result (trail self.now) }
+        ensures { AreCounted result self.now.trail }
     {
         self.facts.counts()
+    }
+
+    /// Whether the pause of some device has still to be acknowledged.
+    pub fn is_awaiting(&self) -> bool
+        ensures { result ≡ is_awaiting self.now.trail }
+    {
+        self.facts.is_awaiting()
     }
 
     /// Sets a fact, unless it is so already. The fact comes twice: for the mark and for the facts.
     pub fn put(&mut self, key: Key, fact: Fact, copy: Fact)
         requires copy { copy ≡ fact }
-        requires room { length (put key fact (trail self.old)) ≤ self.old.journal.reach }
-        ensures marked { trail self.new ≡ put key fact (trail self.old) }
-        ensures journal { self.new.journal ≡ self.old.journal }
+        requires room { Fits (put key fact) self.old }
+        ensures marked { self.new ≡ marked_by (put key fact) self.old }
     {
         if is_same_fact(self.fact(&key), &fact) {
             return;
@@ -111,37 +136,16 @@ impl Board {
 
     /// Sends a notice.
     pub fn tell(&mut self, whom: Whom, notice: Notice)
-        requires room { length (trail self.old) + 1 ≤ self.old.journal.reach }
-        ensures marked { trail self.new ≡ tell whom notice (trail self.old) }
-        ensures journal { self.new.journal ≡ self.old.journal }
+        requires room { Fits (tell whom notice) self.old }
+        ensures marked { self.new ≡ marked_by (tell whom notice) self.old }
     {
         self.made += 1;
         self.marks.push(Mark::Say(whom, notice));
     }
-
-    /// The marks of the entry under way become the journal's last entry. It takes no memory.
-    pub fn close_entry(&mut self, event: Event, verdict: Verdict, answer: Answer)
-        requires { 0 < self.old.journal.entries }
-        ensures entry { self.new.journal.items ≡ self.old.journal.items ++ entry_of event verdict answer self.old.marks.items ∷ [] }
-        ensures marks { self.new.marks.items ≡ [] }
-        ensures marked { trail self.new ≡ trail self.old }
-        ensures entries { self.new.journal.entries + 1 ≡ self.old.journal.entries }
-        ensures reach { self.new.journal.reach ≡ self.old.journal.reach }
-    {
-        let marks = mem::replace(&mut self.marks, Reserved::new(self.alloc)).into_items();
-        self.marks = self.journal.close(Entry {
-            event,
-            verdict,
-            answer,
-            marks,
-        });
-    }
 }
 
-impl Look for Board {
-    ghost use Rattle.login_core.specs.Board.{trail};
-
-    ghost trail = { trail };
+impl Look for Draft {
+    ghost trail = { λ d. d.trail };
 
     fn fact(&self, key: &Key) -> &Fact {
         self.facts.fact(key)
@@ -177,5 +181,73 @@ impl Look for Board {
 
     fn next_conn(&self, after: Option<ConnId>) -> Option<ConnId> {
         self.facts.next_conn(after)
+    }
+}
+
+/// The journal, and the entry under way.
+#[derive(Drop)]
+pub struct Board {
+    pub journal: Ledger,
+    pub draft: Draft,
+    pub alloc: Global,
+}
+
+impl Board {
+    ghost use Rattle.login_model.specs.Legal.{trail_of};
+    ghost use Rattle.login_core.specs.Board.{Closes, IsBegun};
+
+    /// The empty journal, and no marks. It takes no memory.
+    pub fn new(alloc: Global) -> Board
+        ensures journal { result.journal.items ≡ [] }
+        ensures marks { result.draft.trail ≡ [] }
+        ensures begun { IsBegun result }
+    {
+        Board {
+            journal: Ledger::new(alloc),
+            draft: Draft::new(alloc),
+            alloc,
+        }
+    }
+
+    /// Makes room for so many more entries, and for so many marks in all, each of which may be a
+    /// setting. What there is room for already stays.
+    pub fn reserve(&mut self, entries: u32, reach: u32) -> Result<(), NoMemory>
+        requires numbered { reach + 2 < 2 ^ 32 }
+        requires begun { IsBegun self.old }
+        requires no_marks { self.old.draft.trail ≡ self.old.draft.before }
+        ensures entries { OnOk result (entries ≤ self.new.journal.entries) }
+        ensures reach { OnOk result (reach ≤ self.new.draft.reach) }
+        ensures keeps_entries { self.old.journal.entries ≤ self.new.journal.entries }
+        ensures keeps_reach { self.old.draft.reach ≤ self.new.draft.reach }
+        ensures items { self.new.journal.items ≡ self.old.journal.items }
+        ensures trail { self.new.draft.trail ≡ self.old.draft.trail }
+        ensures begun { IsBegun self.new }
+    {
+        if reach <= self.draft.reach() {
+            return self.journal.reserve(entries, 0);
+        }
+        self.journal.reserve(entries, reach - self.draft.made())?;
+        self.draft.reserve(reach)
+    }
+
+    /// The marks of the entry under way become the journal's last entry. It takes no memory.
+    pub fn close_entry(&mut self, event: Event, verdict: Verdict, answer: Answer)
+        requires begun { IsBegun self.old }
+        requires entries { 0 < self.old.journal.entries }
+        ensures closes { Closes event verdict answer self.old self.new }
+        ensures no_marks { self.new.draft.trail ≡ trail_of self.new.journal.items }
+        ensures entries { self.new.journal.entries + 1 ≡ self.old.journal.entries }
+        ensures reach { self.new.draft.reach ≡ self.old.draft.reach }
+        ensures begun { IsBegun self.new }
+    {
+        let draft = &mut self.draft;
+        let marks = mem::replace(&mut draft.marks, Reserved::new(self.alloc)).into_items();
+        draft.marks = self.journal.close(Entry {
+            event,
+            verdict,
+            answer,
+            marks,
+        });
+        draft.journal = Snapshot::of(self.journal.journal());
     }
 }

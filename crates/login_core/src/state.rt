@@ -1,6 +1,6 @@
 // The core: the setup, the journal, and what is made ready for the next entry.
 
-ghost use Rattle.std.specs.Prelude.{◌≡◌, ◌≢◌, ◌+◌, ◌^◌, ◌<◌, ◌≤◌, ◌++◌, [], ◌∷◌, length, true, false, None, Err, IfOk, IfErr, OnOk};
+ghost use Rattle.std.specs.Prelude.{◌≡◌, ◌≢◌, ◌+◌, ◌^◌, ◌≤◌, ◌++◌, [], ◌∷◌, length, true, false, None, Err, IfOk, IfErr, OnOk};
 ghost use Rattle.std.specs.Borrow.{sem};
 ghost use Rattle.std.specs.Io.BufRead.{Rests};
 ghost use Rattle.login_model.specs.Built.{is_built};
@@ -12,14 +12,13 @@ ghost use Rattle.login_model.specs.Setups.{IsSetup};
 ghost use Rattle.login_model.specs.Stopping.{is_stop, stopped};
 ghost use Rattle.login_model.specs.Where.{is_connected};
 ghost use Rattle.login_model.specs.declared.event.Event.TheVariants.{Disconnect};
-ghost use Rattle.login_core.specs.Board.{trail};
 ghost use Rattle.login_core.specs.Fullness.{always_fits};
 ghost use Rattle.login_core.specs.State.{CoreState, IsReady, IsRoomFor, IsSame, Appends, RoomGives, answer_next, stop_next};
 ghost use Rattle.login_core.specs.contracts.state.Core.{the_row};
 ghost use Rattle.login_model.specs.Limits.{entries_limit, marks_limit};
 
 use crate::answering::answer_of;
-use crate::board::Board;
+use crate::board::{Board, Draft};
 use crate::room::fullness::{always_fits, connected_after, full};
 use crate::room::ready::Ready;
 use crate::room::texts::Texts;
@@ -54,13 +53,13 @@ fn answer_for(event: &Event, ready: &mut Answer) -> Answer
 
 /// The verdict of an event: that which was found when room was made for it. A disconnect and the stop are
 /// judged here.
-fn verdict_for(board: &Board, setup: &Setup, ready: &Ready, event: &Event) -> Verdict
+fn verdict_for(draft: &Draft, setup: &Setup, ready: &Ready, event: &Event) -> Verdict
     requires built { is_built event.now ≡ true }
-    requires ready { always_fits event.now ≡ false → ready.now.verdict ≡ policy_verdict setup.now (trail board.now) event.now }
-    ensures { result ≡ policy_verdict setup.now (trail board.now) event.now }
+    requires ready { always_fits event.now ≡ false → ready.now.verdict ≡ policy_verdict setup.now draft.now.trail event.now }
+    ensures { result ≡ policy_verdict setup.now draft.now.trail event.now }
 {
     if always_fits(event) {
-        judge(board, setup, event)
+        judge(draft, setup, event)
     } else {
         ready.verdict
     }
@@ -102,7 +101,7 @@ impl Model for Core {
       setup = c.setup;
       journal = c.board.journal.items;
       entries = c.board.journal.entries;
-      reach = c.board.journal.reach;
+      reach = c.board.draft.reach;
       texts = c.texts;
       ready = c.ready;
     } };
@@ -150,7 +149,7 @@ impl Core {
         if always_fits(event) {
             return Ok(());
         }
-        let verdict = judge(&self.board, &self.setup, event);
+        let verdict = judge(&self.board.draft, &self.setup, event);
         if let Some(count) = self.full(event, verdict) {
             return Err(Refused::Full(count));
         }
@@ -178,9 +177,9 @@ impl Core {
     {
         let entries = self.board.journal.journal().len() as u32;
         full(
-            self.board.counts(),
+            self.board.draft.counts(),
             entries,
-            self.board.made,
+            self.board.draft.made(),
             event,
             verdict,
         )
@@ -194,9 +193,9 @@ impl Core {
         match verdict {
             Verdict::Granted => answer_of(
                 self.board.alloc,
-                &self.board,
+                &self.board.draft,
                 &self.setup,
-                self.board.fresh_session(),
+                self.board.draft.fresh_session(),
                 event,
             ),
             Verdict::Denied(_) => Ok(Answer::Nothing),
@@ -209,14 +208,17 @@ impl Core {
         ensures value { result ≡ connected_after self.now.setup (trail_of self.now.journal) event.now + 2 }
         ensures bound { result ≤ 2 ^ 33 + 2 }
     {
-        connected_after(self.board.counts(), event, verdict) + 2
+        connected_after(self.board.draft.counts(), event, verdict) + 2
     }
 
     /// How far the marks of an event and of all ends may reach.
     fn reach_for(&self) -> u64
         ensures { result ≡ marks_needed (trail_of self.now.journal) (mark_count self.now.journal) }
     {
-        self.board.counts().marks_needed(self.board.made)
+        self.board
+            .draft
+            .counts()
+            .marks_needed(self.board.draft.made())
     }
 
     /// Takes the memory of an event with this verdict and of the ends of all connections after it.
@@ -246,9 +248,10 @@ impl Core {
         ensures lawful { IsLawful self.old.setup (self.old.journal ++ result.now ∷ []) }
         ensures* after { sem 𝓛 (Rests the_row self.entry (λ core. Appends self.old result.now core)) }
     {
-        let verdict = verdict_for(&self.board, &self.setup, &self.ready, &event);
+        let verdict = verdict_for(&self.board.draft, &self.setup, &self.ready, &event);
         let answer = answer_for(&event, &mut self.ready.answer);
         self.board
+            .draft
             .perform(&self.setup, &event, verdict, &mut self.texts);
         let number = (self.board.journal.journal().len() + 1) as u32;
         self.stop = stop_after(self.stop, &event, number);
@@ -291,38 +294,38 @@ impl Look for Core {
     ghost trail = { λ core. trail_of core.journal };
 
     fn fact(&self, key: &Key) -> &Fact {
-        self.board.fact(key)
+        self.board.draft.fact(key)
     }
 
     fn fresh_handle(&self) -> HandleNo {
-        self.board.fresh_handle()
+        self.board.draft.fresh_handle()
     }
 
     fn next_session(&self, after: Option<SessId>) -> Option<SessId> {
-        self.board.next_session(after)
+        self.board.draft.next_session(after)
     }
 
     fn next_user(&self, after: Option<Uid>) -> Option<Uid> {
-        self.board.next_user(after)
+        self.board.draft.next_user(after)
     }
 
     fn next_seat(&self, after: Option<SeatName>) -> Option<SeatName> {
-        self.board.next_seat(after)
+        self.board.draft.next_seat(after)
     }
 
     fn next_device(&self, after: Option<DevNo>) -> Option<DevNo> {
-        self.board.next_device(after)
+        self.board.draft.next_device(after)
     }
 
     fn next_taken(&self, session: SessId, after: Option<DevNo>) -> Option<DevNo> {
-        self.board.next_taken(session, after)
+        self.board.draft.next_taken(session, after)
     }
 
     fn next_lock(&self, after: Option<LockNo>) -> Option<LockNo> {
-        self.board.next_lock(after)
+        self.board.draft.next_lock(after)
     }
 
     fn next_conn(&self, after: Option<ConnId>) -> Option<ConnId> {
-        self.board.next_conn(after)
+        self.board.draft.next_conn(after)
     }
 }

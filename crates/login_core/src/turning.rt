@@ -1,16 +1,17 @@
 // How a seat turns to the next or the previous of its sessions.
 
-ghost use Rattle.std.specs.Prelude.{◌≡◌, ◌≤◌, length};
+ghost use Rattle.std.specs.Prelude.{◌≡◌};
 ghost use Rattle.login_model.specs.Names.{is_above};
 ghost use Rattle.login_model.specs.Where.{is_this_seat};
 ghost use Rattle.login_model.specs.Procedure.{if_some};
 ghost use Rattle.login_model.specs.Turning.{turn_to_next, turn_to_previous};
 ghost use Rattle.login_table.specs.Nearest.{is_lower};
 ghost use Rattle.login_core.specs.Places.{is_before, behind, around, is_open_on, place_of, places, current_place, nearer_place, nearer_open, turn_to_place, turn_to};
+ghost use Rattle.login_core.specs.Draft.{marked_by, Fits};
 
-use crate::board::Board;
+use crate::board::Draft;
 use login_base::{SeatName, SessId};
-use login_model::{Key, Look, seat0};
+use login_model::{Key, Look, is_seat0};
 use login_table::{active_on, current_vt, seat_of_session};
 
 /// Which way a seat turns.
@@ -69,12 +70,10 @@ fn is_this_seat(seat: SeatName, name: Option<SeatName>) -> bool
 }
 
 #[tactic(auto, using(crate::proofs::Growing::growing))]
-impl Board {
-    ghost use Rattle.login_core.specs.Board.{trail};
-
+impl Draft {
     /// Whether a session is on a seat, and open.
     fn is_open_on(&self, seat: SeatName, session: SessId) -> bool
-        ensures { result ≡ is_open_on (trail self.now) seat session }
+        ensures { result ≡ is_open_on self.now.trail seat session }
     {
         is_this_seat(seat, seat_of_session(self, session))
             && self.fact(&Key::Sess(session)).is_open()
@@ -82,9 +81,9 @@ impl Board {
 
     /// The place of a session on a seat: on seat0 its terminal, on another seat its number.
     fn place_of(&self, seat: SeatName, session: SessId) -> u32
-        ensures { result ≡ place_of (trail self.now) seat session }
+        ensures { result ≡ place_of self.now.trail seat session }
     {
-        if seat.as_slice() == seat0().as_slice() {
+        if is_seat0(seat.as_slice()) {
             self.vt_of(session)
         } else {
             session.0
@@ -100,7 +99,7 @@ impl Board {
         session: SessId,
         best: Option<u32>,
     ) -> Option<u32>
-        ensures { result ≡ nearer_open way (trail self.now) seat start session best }
+        ensures { result ≡ nearer_open way self.now.trail seat start session best }
     {
         if self.is_open_on(seat, session) {
             nearer_place(way, start, self.place_of(seat, session), best)
@@ -111,7 +110,7 @@ impl Board {
 
     /// The nearest place of an open session behind a place of a seat, or the first of all.
     fn nearest_place(&self, way: Way, seat: SeatName, start: Option<u32>) -> Option<u32>
-        ensures { result ≡ behind way start (places (trail self.now) seat) }
+        ensures { result ≡ behind way start (places self.now.trail seat) }
     {
         let mut best = None;
         let mut above = None;
@@ -124,9 +123,9 @@ impl Board {
 
     /// The place of a seat's active session, or of its current terminal.
     fn current_place(&self, seat: SeatName) -> Option<u32>
-        ensures { result ≡ current_place (trail self.now) seat }
+        ensures { result ≡ current_place self.now.trail seat }
     {
-        if seat.as_slice() == seat0().as_slice() {
+        if is_seat0(seat.as_slice()) {
             Some(current_vt(self))
         } else {
             match active_on(self, seat) {
@@ -138,7 +137,7 @@ impl Board {
 
     /// The next place of a seat.
     fn next_place(&self, way: Way, seat: SeatName) -> Option<u32>
-        ensures { result ≡ around way (current_place (trail self.now) seat) (places (trail self.now) seat) }
+        ensures { result ≡ around way (current_place self.now.trail seat) (places self.now.trail seat) }
     {
         let start = self.current_place(seat);
         match self.nearest_place(way, seat, start) {
@@ -148,11 +147,10 @@ impl Board {
     }
 
     fn turn_to_place(&mut self, seat: SeatName, place: u32)
-        requires room { length (turn_to_place seat place (trail self.old)) ≤ self.old.journal.reach }
-        ensures marked { trail self.new ≡ turn_to_place seat place (trail self.old) }
-        ensures journal { self.new.journal ≡ self.old.journal }
+        requires room { Fits (turn_to_place seat place) self.old }
+        ensures marked { self.new ≡ marked_by (turn_to_place seat place) self.old }
     {
-        if seat.as_slice() == seat0().as_slice() {
+        if is_seat0(seat.as_slice()) {
             self.request(place);
         } else {
             self.front(seat, SessId(place));
@@ -160,9 +158,8 @@ impl Board {
     }
 
     fn turn_to_some(&mut self, seat: SeatName, place: Option<u32>)
-        requires room { length (if_some (turn_to_place seat) place (trail self.old)) ≤ self.old.journal.reach }
-        ensures marked { trail self.new ≡ if_some (turn_to_place seat) place (trail self.old) }
-        ensures journal { self.new.journal ≡ self.old.journal }
+        requires room { Fits (if_some (turn_to_place seat) place) self.old }
+        ensures marked { self.new ≡ marked_by (if_some (turn_to_place seat) place) self.old }
     {
         if let Some(place) = place {
             self.turn_to_place(seat, place);
@@ -170,9 +167,8 @@ impl Board {
     }
 
     fn turn_to(&mut self, way: Way, seat: SeatName)
-        requires room { length (turn_to way seat (trail self.old)) ≤ self.old.journal.reach }
-        ensures marked { trail self.new ≡ turn_to way seat (trail self.old) }
-        ensures journal { self.new.journal ≡ self.old.journal }
+        requires room { Fits (turn_to way seat) self.old }
+        ensures marked { self.new ≡ marked_by (turn_to way seat) self.old }
     {
         let place = self.next_place(way, seat);
         self.turn_to_some(seat, place);
@@ -181,18 +177,16 @@ impl Board {
     /// The next session of a seat becomes active, in the order of terminals on seat0, of sessions on
     /// another seat.
     pub fn turn_to_next(&mut self, seat: SeatName)
-        requires room { length (turn_to_next seat (trail self.old)) ≤ self.old.journal.reach }
-        ensures marked { trail self.new ≡ turn_to_next seat (trail self.old) }
-        ensures journal { self.new.journal ≡ self.old.journal }
+        requires room { Fits (turn_to_next seat) self.old }
+        ensures marked { self.new ≡ marked_by (turn_to_next seat) self.old }
     {
         self.turn_to(Way::Next, seat);
     }
 
     /// The previous session of a seat becomes active.
     pub fn turn_to_previous(&mut self, seat: SeatName)
-        requires room { length (turn_to_previous seat (trail self.old)) ≤ self.old.journal.reach }
-        ensures marked { trail self.new ≡ turn_to_previous seat (trail self.old) }
-        ensures journal { self.new.journal ≡ self.old.journal }
+        requires room { Fits (turn_to_previous seat) self.old }
+        ensures marked { self.new ≡ marked_by (turn_to_previous seat) self.old }
     {
         self.turn_to(Way::Previous, seat);
     }

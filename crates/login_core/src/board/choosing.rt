@@ -9,7 +9,7 @@ ghost use Rattle.login_model.specs.Direct.{is_held_by};
 ghost use Rattle.login_table.specs.Listed.{is_there};
 ghost use Rattle.login_core.specs.Chosen.{is_chosen};
 
-use crate::board::Board;
+use crate::board::Draft;
 use login_base::{ConnId, LockNo, SessId};
 use login_model::{Key, Look};
 use login_table::{Listed, Test};
@@ -38,19 +38,17 @@ impl Test<LockNo> for HeldBy {
     }
 }
 
-impl Board {
-    ghost use Rattle.login_core.specs.Board.{trail};
-
+impl Draft {
     /// The least name of a kind above that one that is there.
     fn next<N: Listed>(&self, above: Option<N>) -> Option<N>
-        ensures { IsNext N.lt (is_there N.key_of N.is_fact (trail self.now)) above result }
+        ensures { IsNext N.lt (is_there N.key_of N.is_fact self.now.trail) above result }
     {
         N::next(self, above)
     }
 
     /// The least name of a kind above that one that is there and meets a test.
     pub fn next_that<N: Listed, T: Test<N>>(&self, test: &T, above: Option<N>) -> Option<N>
-        ensures { IsNext N.lt (is_chosen (is_there N.key_of N.is_fact (trail self.now)) (T.meets test.now (trail self.now))) above result }
+        ensures { IsNext N.lt (is_chosen (is_there N.key_of N.is_fact self.now.trail) (T.meets test.now self.now.trail)) above result }
     {
         let mut from = above;
         while let Some(name) = self.next(from) {

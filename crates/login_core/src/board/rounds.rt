@@ -1,6 +1,6 @@
 // Doing the same with each of some names, in order.
 
-ghost use Rattle.std.specs.Prelude.{◌≡◌, ◌≤◌, Bool, List, length, filter};
+ghost use Rattle.std.specs.Prelude.{◌≡◌, Bool, List, filter};
 ghost use Rattle.login_model.specs.Trail.{Trail};
 ghost use Rattle.login_model.specs.Names.{IsNext, device_lt, names, insert_some};
 ghost use Rattle.login_model.specs.Devices.{taken_in, is_taken};
@@ -11,9 +11,9 @@ ghost use Rattle.login_laws.proofs.Grows.{Grows};
 ghost use Rattle.login_table.specs.Listed.{is_there, listed};
 ghost use Rattle.login_core.specs.Chosen.{is_chosen};
 ghost use Rattle.login_core.specs.Rounds.{SparesAbove};
-ghost use Rattle.login_core.specs.Board.{trail};
+ghost use Rattle.login_core.specs.Draft.{marked_by, Fits};
 
-use crate::board::Board;
+use crate::board::Draft;
 use login_base::{DevNo, SessId};
 use login_model::Look;
 use login_table::{Listed, Test};
@@ -29,8 +29,8 @@ pub trait Choice<N> {
     ghost among: { Self → Trail → List N };
 
     /// The next of them.
-    fn next(&self, board: &Board, above: Option<N>) -> Option<N>
-        ensures { IsNext lt (is_in self.now (trail board.now)) above result };
+    fn next(&self, draft: &Draft, above: Option<N>) -> Option<N>
+        ensures { IsNext lt (is_in self.now draft.now.trail) above result };
 
     ghost whole: { (c : Self) (t : Trail) → Enumerates lt (is_in c t) (among c t) };
 }
@@ -40,10 +40,9 @@ pub trait Task<N> {
     ghost does: { Self → N → Trail → Trail };
 
     /// Does it with one name.
-    fn run(&self, board: &mut Board, name: N)
-        requires room { length (does self.now name (trail board.old)) ≤ board.old.journal.reach }
-        ensures marked { trail board.new ≡ does self.now name (trail board.old) }
-        ensures journal { board.new.journal ≡ board.old.journal };
+    fn run(&self, draft: &mut Draft, name: N)
+        requires room { Fits (does self.now name) draft.old }
+        ensures marked { draft.new ≡ marked_by (does self.now name) draft.old };
 
     ghost adds: { (x : Self) (n : N) (t : Trail) → Grows t (does x n t) };
 }
@@ -61,10 +60,10 @@ impl Choice<DevNo> for TakenBy {
 
     ghost whole = { λ c t. taken-enumerated t c.0 };
 
-    fn next(&self, board: &Board, above: Option<DevNo>) -> Option<DevNo>
-        ensures { IsNext device_lt (is_taken (trail board.now) self.now.0) above result }
+    fn next(&self, draft: &Draft, above: Option<DevNo>) -> Option<DevNo>
+        ensures { IsNext device_lt (is_taken draft.now.trail self.now.0) above result }
     {
-        board.next_taken(self.0, above)
+        draft.next_taken(self.0, above)
     }
 }
 
@@ -88,22 +87,19 @@ impl<N: Listed, T: Test<N> + Drop> Choice<N> for ThatMeet<T> {
         }
         ) };
 
-    fn next(&self, board: &Board, above: Option<N>) -> Option<N>
-        ensures { IsNext N.lt (is_chosen (is_there N.key_of N.is_fact (trail board.now)) (T.meets self.now.0 (trail board.now))) above result }
+    fn next(&self, draft: &Draft, above: Option<N>) -> Option<N>
+        ensures { IsNext N.lt (is_chosen (is_there N.key_of N.is_fact draft.now.trail) (T.meets self.now.0 draft.now.trail)) above result }
     {
-        board.next_that(&self.0, above)
+        draft.next_that(&self.0, above)
     }
 }
 
-impl Board {
-    ghost use Rattle.login_core.specs.Board.{trail};
-
+impl Draft {
     /// A task is done with each name of a choice, in order. It leaves those above a name in the choice.
     pub fn for_each<N: Copy, C: Choice<N>, X: Task<N>>(&mut self, choice: &C, task: &X)
         requires spares { SparesAbove C.lt (C.is_in choice.now) (X.does task.now) }
-        requires room { length (each (X.does task.now) (filter (C.is_in choice.now (trail self.old)) (C.among choice.now (trail self.old))) (trail self.old)) ≤ self.old.journal.reach }
-        ensures marked { trail self.new ≡ each (X.does task.now) (filter (C.is_in choice.now (trail self.old)) (C.among choice.now (trail self.old))) (trail self.old) }
-        ensures journal { self.new.journal ≡ self.old.journal }
+        requires room { Fits (λ t. each (X.does task.now) (filter (C.is_in choice.now t) (C.among choice.now t)) t) self.old }
+        ensures marked { self.new ≡ marked_by (λ t. each (X.does task.now) (filter (C.is_in choice.now t) (C.among choice.now t)) t) self.old }
     {
         let mut above = None;
         while let Some(name) = choice.next(self, above) {
@@ -115,9 +111,8 @@ impl Board {
     /// A task is done with each name of a kind that is there and meets a test, in order.
     pub fn for_each_that<N: Listed, T: Test<N> + Drop, X: Task<N>>(&mut self, test: T, task: &X)
         requires spares { SparesAbove N.lt (λ t. is_chosen (is_there N.key_of N.is_fact t) (T.meets test t)) (X.does task.now) }
-        requires room { length (each (X.does task.now) (filter (T.meets test (trail self.old)) (listed N.lt N.name_in N.key_of N.is_fact N.first (trail self.old))) (trail self.old)) ≤ self.old.journal.reach }
-        ensures marked { trail self.new ≡ each (X.does task.now) (filter (T.meets test (trail self.old)) (listed N.lt N.name_in N.key_of N.is_fact N.first (trail self.old))) (trail self.old) }
-        ensures journal { self.new.journal ≡ self.old.journal }
+        requires room { Fits (λ t. each (X.does task.now) (filter (T.meets test t) (listed N.lt N.name_in N.key_of N.is_fact N.first t)) t) self.old }
+        ensures marked { self.new ≡ marked_by (λ t. each (X.does task.now) (filter (T.meets test t) (listed N.lt N.name_in N.key_of N.is_fact N.first t)) t) self.old }
     {
         self.for_each(&ThatMeet(test), task);
     }

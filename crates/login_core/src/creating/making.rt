@@ -1,6 +1,6 @@
 // How sessions are created.
 
-ghost use Rattle.std.specs.Prelude.{◌≡◌, ◌≤◌, Some, None, length};
+ghost use Rattle.std.specs.Prelude.{◌≡◌, Some, None};
 ghost use Rattle.login_model.specs.Trail.{put};
 ghost use Rattle.login_model.specs.Fresh.{next_session, next_handle};
 ghost use Rattle.login_model.specs.Start.{seat0};
@@ -8,34 +8,31 @@ ghost use Rattle.login_model.specs.Where.{active_on};
 ghost use Rattle.login_model.specs.Procedure.{take_seat};
 ghost use Rattle.login_model.specs.Creating.{appear_on, create};
 ghost use Rattle.login_core.specs.Texts.{session_texts};
+ghost use Rattle.login_core.specs.Draft.{marked_by, Fits};
 
-use crate::board::Board;
+use crate::board::Draft;
 use crate::creating::created::{created_session, seat_of};
 use crate::room::copies::Copies;
 use login_base::{ConnId, HandleNo, SeatName, SessId};
-use login_model::{Creation, Fact, Key, Look, Notice, Owner, Session, seat0};
+use login_model::{Creation, Fact, Key, Look, Notice, Owner, Session, is_seat0, seat0};
 use login_table::{active_on, is_active};
 
 #[tactic(auto, using(crate::proofs::Growing::growing, crate::proofs::Appearing::appearing))]
-impl Board {
-    ghost use Rattle.login_core.specs.Board.{trail};
-
+impl Draft {
     /// Another session is the active one of its seat, which has no virtual terminals.
     fn replace_active(&mut self, seat: SeatName, session: SessId)
-        requires room { length (take_seat seat session (active_on (trail self.old) seat) (trail self.old)) ≤ self.old.journal.reach }
-        ensures marked { trail self.new ≡ take_seat seat session (active_on (trail self.old) seat) (trail self.old) }
-        ensures journal { self.new.journal ≡ self.old.journal }
+        requires room { Fits (λ t. take_seat seat session (active_on t seat) t) self.old }
+        ensures marked { self.new ≡ marked_by (λ t. take_seat seat session (active_on t seat) t) self.old }
     {
         let old = active_on(self, seat);
         self.take_seat(seat, session, old);
     }
 
     fn appear_at(&mut self, seat: SeatName, session: SessId)
-        requires room { length (appear_on (Some seat) session (trail self.old)) ≤ self.old.journal.reach }
-        ensures marked { trail self.new ≡ appear_on (Some seat) session (trail self.old) }
-        ensures journal { self.new.journal ≡ self.old.journal }
+        requires room { Fits (appear_on (Some seat) session) self.old }
+        ensures marked { self.new ≡ marked_by (appear_on (Some seat) session) self.old }
     {
-        if seat.as_slice() == seat0().as_slice() {
+        if is_seat0(seat.as_slice()) {
             if is_active(self, session) {
                 self.tell_all(Notice::Active(seat0(), None, Some(session)));
             }
@@ -47,9 +44,8 @@ impl Board {
     /// A new session of seat0 is active where its terminal is the current one, and all are told so; on
     /// another seat it becomes the active one.
     fn appear_on(&mut self, seat: Option<SeatName>, session: SessId)
-        requires room { length (appear_on seat session (trail self.old)) ≤ self.old.journal.reach }
-        ensures marked { trail self.new ≡ appear_on seat session (trail self.old) }
-        ensures journal { self.new.journal ≡ self.old.journal }
+        requires room { Fits (appear_on seat session) self.old }
+        ensures marked { self.new ≡ marked_by (appear_on seat session) self.old }
     {
         if let Some(seat) = seat {
             self.appear_at(seat, session);
@@ -59,9 +55,8 @@ impl Board {
     /// A session is as it is created. It comes twice: for the mark and for the facts.
     fn put_session(&mut self, session: SessId, created: Session, copy: Session)
         requires copy { copy ≡ created }
-        requires room { length (put (Key.Sess session) (Fact.Session created) (trail self.old)) ≤ self.old.journal.reach }
-        ensures marked { trail self.new ≡ put (Key.Sess session) (Fact.Session created) (trail self.old) }
-        ensures journal { self.new.journal ≡ self.old.journal }
+        requires room { Fits (put (Key.Sess session) (Fact.Session created)) self.old }
+        ensures marked { self.new ≡ marked_by (put (Key.Sess session) (Fact.Session created)) self.old }
     {
         self.put(
             Key::Sess(session),
@@ -82,9 +77,8 @@ impl Board {
     )
         requires mark { copies.mark ≡ session_texts creation.now }
         requires fact { copies.fact ≡ session_texts creation.now }
-        requires room { length (create who creation.now session fifo (trail self.old)) ≤ self.old.journal.reach }
-        ensures marked { trail self.new ≡ create who creation.now session fifo (trail self.old) }
-        ensures journal { self.new.journal ≡ self.old.journal }
+        requires room { Fits (create who creation.now session fifo) self.old }
+        ensures marked { self.new ≡ marked_by (create who creation.now session fifo) self.old }
     {
         let Copies { mark, fact } = copies;
         let created = created_session(who, creation, fifo, mark);
@@ -101,9 +95,8 @@ impl Board {
     pub fn create(&mut self, who: ConnId, creation: &Creation, copies: Copies)
         requires mark { copies.mark ≡ session_texts creation.now }
         requires fact { copies.fact ≡ session_texts creation.now }
-        requires room { length (create who creation.now (next_session (trail self.old)) (next_handle (trail self.old)) (trail self.old)) ≤ self.old.journal.reach }
-        ensures marked { trail self.new ≡ create who creation.now (next_session (trail self.old)) (next_handle (trail self.old)) (trail self.old) }
-        ensures journal { self.new.journal ≡ self.old.journal }
+        requires room { Fits (λ t. create who creation.now (next_session t) (next_handle t) t) self.old }
+        ensures marked { self.new ≡ marked_by (λ t. create who creation.now (next_session t) (next_handle t) t) self.old }
     {
         let session = self.fresh_session();
         let fifo = self.fresh_handle();

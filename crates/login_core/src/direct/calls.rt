@@ -1,6 +1,6 @@
 // What granted calls do.
 
-ghost use Rattle.std.specs.Prelude.{◌≡◌, ◌≤◌, None, length, true};
+ghost use Rattle.std.specs.Prelude.{◌≡◌, None, true};
 ghost use Rattle.std.specs.Str.{bytes_eq};
 ghost use Rattle.login_base.specs.Seat.{is_seat_name};
 ghost use Rattle.login_model.specs.Built.{is_built_call};
@@ -11,11 +11,12 @@ ghost use Rattle.login_model.specs.Policy.{meant_user};
 ghost use Rattle.login_model.specs.Procedure.{each, if_some, shut};
 ghost use Rattle.login_model.specs.Turning.{turn_to_next, turn_to_previous};
 ghost use Rattle.login_model.specs.Where.{sessions_on};
-ghost use Rattle.login_model.specs.Direct.{whom_of, at_session, linger, close, direct_call};
+ghost use Rattle.login_model.specs.Direct.{whom_of, linger, close, direct_call};
 ghost use Rattle.login_core.specs.Kept.{AreClosing, AreReadyToCall, HaveTexts};
 ghost use Rattle.login_core.specs.Calls.{IsPlain, NamesSeat, call_on, fifo_session, session_in};
+ghost use Rattle.login_core.specs.Draft.{marked_by, Fits};
 
-use crate::board::Board;
+use crate::board::Draft;
 use crate::room::kept::Kept;
 use crate::room::texts::Texts;
 use login_base::{ConnId, HandleNo, SeatName, SessId, Uid, Word};
@@ -33,7 +34,7 @@ fn whom_of(text: &[u8]) -> KillWhom
     }
 }
 
-/// The session that a call names by its id, of the calls that need no texts.
+/// The session that a call is on, by its id.
 fn session_in(call: &Call) -> Option<SessId>
     ensures { result ≡ session_in call.now }
 {
@@ -43,6 +44,7 @@ fn session_in(call: &Call) -> Option<SessId>
         | Call::Lock(id)
         | Call::Unlock(id)
         | Call::Kill(id, _, _)
+        | Call::Terminate(id)
         | Call::SetIdle(id, _)
         | Call::SetLocked(id, _)
         | Call::Control(id, _)
@@ -52,14 +54,11 @@ fn session_in(call: &Call) -> Option<SessId>
 }
 
 #[tactic(auto, using(crate::proofs::Growing::growing))]
-impl Board {
-    ghost use Rattle.login_core.specs.Board.{trail};
-
+impl Draft {
     /// What a call does to the session that it names.
     fn call_on(&mut self, who: ConnId, session: SessId, call: &Call)
-        requires room { length (call_on who call.now session (trail self.old)) ≤ self.old.journal.reach }
-        ensures marked { trail self.new ≡ call_on who call.now session (trail self.old) }
-        ensures journal { self.new.journal ≡ self.old.journal }
+        requires room { Fits (call_on who call.now session) self.old }
+        ensures marked { self.new ≡ marked_by (call_on who call.now session) self.old }
     {
         match call {
             Call::Activate(_) | Call::ActivateOnSeat(_, _) => self.activate(session),
@@ -78,9 +77,8 @@ impl Board {
 
     /// What a call does to the session that it names, if it names one.
     fn call_session(&mut self, who: ConnId, call: &Call)
-        requires room { length (if_some (call_on who call.now) (session_in call.now) (trail self.old)) ≤ self.old.journal.reach }
-        ensures marked { trail self.new ≡ if_some (call_on who call.now) (session_in call.now) (trail self.old) }
-        ensures journal { self.new.journal ≡ self.old.journal }
+        requires room { Fits (if_some (call_on who call.now) (session_in call.now)) self.old }
+        ensures marked { self.new ≡ marked_by (if_some (call_on who call.now) (session_in call.now)) self.old }
     {
         if let Some(session) = session_in(call) {
             self.call_on(who, session, call);
@@ -88,9 +86,8 @@ impl Board {
     }
 
     fn linger_meant(&mut self, setup: &Setup, who: ConnId, user: Uid, lingers: bool)
-        requires room { length (linger setup.now (record { 0 = meant_user (trail self.old) who user.0 }) lingers (trail self.old)) ≤ self.old.journal.reach }
-        ensures marked { trail self.new ≡ linger setup.now (record { 0 = meant_user (trail self.old) who user.0 }) lingers (trail self.old) }
-        ensures journal { self.new.journal ≡ self.old.journal }
+        requires room { Fits (λ t. linger setup.now (record { 0 = meant_user t who user.0 }) lingers t) self.old }
+        ensures marked { self.new ≡ marked_by (λ t. linger setup.now (record { 0 = meant_user t who user.0 }) lingers t) self.old }
     {
         let user = Uid(meant_user(self, who, user.0));
         self.linger(setup, user, lingers);
@@ -98,9 +95,8 @@ impl Board {
 
     fn next_on(&mut self, seat: &Word)
         requires named { is_seat_name seat.now ≡ true }
-        requires room { length (turn_to_next seat.now (trail self.old)) ≤ self.old.journal.reach }
-        ensures marked { trail self.new ≡ turn_to_next seat.now (trail self.old) }
-        ensures journal { self.new.journal ≡ self.old.journal }
+        requires room { Fits (turn_to_next seat.now) self.old }
+        ensures marked { self.new ≡ marked_by (turn_to_next seat.now) self.old }
     {
         if let Ok(seat) = SeatName::read(seat.as_slice()) {
             self.turn_to_next(seat);
@@ -109,9 +105,8 @@ impl Board {
 
     fn previous_on(&mut self, seat: &Word)
         requires named { is_seat_name seat.now ≡ true }
-        requires room { length (turn_to_previous seat.now (trail self.old)) ≤ self.old.journal.reach }
-        ensures marked { trail self.new ≡ turn_to_previous seat.now (trail self.old) }
-        ensures journal { self.new.journal ≡ self.old.journal }
+        requires room { Fits (turn_to_previous seat.now) self.old }
+        ensures marked { self.new ≡ marked_by (turn_to_previous seat.now) self.old }
     {
         if let Ok(seat) = SeatName::read(seat.as_slice()) {
             self.turn_to_previous(seat);
@@ -120,32 +115,30 @@ impl Board {
 
     fn terminate_on(&mut self, seat: &Word, closing: &mut Kept)
         requires named { is_seat_name seat.now ≡ true }
-        requires copies { AreClosing closing.old.items (trail self.old) }
-        requires room { length (each shut (sessions_on (trail self.old) seat.now) (trail self.old)) ≤ self.old.journal.reach }
-        ensures marked { trail self.new ≡ each shut (sessions_on (trail self.old) seat.now) (trail self.old) }
-        ensures journal { self.new.journal ≡ self.old.journal }
-        ensures copies { AreClosing closing.new.items (trail self.new) }
+        requires copies { AreClosing closing.old.items self.old.trail }
+        requires room { Fits (λ t. each shut (sessions_on t seat.now) t) self.old }
+        ensures marked { self.new ≡ marked_by (λ t. each shut (sessions_on t seat.now) t) self.old }
+        ensures copies { AreClosing closing.new.items self.new.trail }
     {
         if let Ok(seat) = SeatName::read(seat.as_slice()) {
             self.terminate_seat(seat, closing);
         }
     }
 
-    fn terminate_id(&mut self, id: &Word, closing: &mut Kept)
-        requires copies { AreClosing closing.old.items (trail self.old) }
-        requires room { length (at_session shut id.now (trail self.old)) ≤ self.old.journal.reach }
-        ensures marked { trail self.new ≡ at_session shut id.now (trail self.old) }
-        ensures journal { self.new.journal ≡ self.old.journal }
-        ensures copies { AreClosing closing.new.items (trail self.new) }
+    fn terminate_some(&mut self, session: Option<SessId>, closing: &mut Kept)
+        requires copies { AreClosing closing.old.items self.old.trail }
+        requires room { Fits (if_some shut session) self.old }
+        ensures marked { self.new ≡ marked_by (if_some shut session) self.old }
+        ensures copies { AreClosing closing.new.items self.new.trail }
     {
-        if let Some(session) = SessId::read(id.as_slice()) {
+        if let Some(session) = session {
             self.shut_kept(session, closing);
         }
     }
 
     /// The session whose fifo a handle is.
     fn session_of_fifo(&self, handle: HandleNo) -> Option<SessId>
-        ensures { result ≡ fifo_session (value (trail self.now) (Key.Owner handle)) }
+        ensures { result ≡ fifo_session (value self.now.trail (Key.Owner handle)) }
     {
         match self.fact(&Key::Owner(handle)).owner() {
             Some(Owner::Fifo(_, session)) => Some(session),
@@ -155,11 +148,10 @@ impl Board {
 
     /// A handle closes, by the copies that are kept for the session that it keeps open.
     fn close_kept(&mut self, handle: HandleNo, closing: &mut Kept)
-        requires copies { AreClosing closing.old.items (trail self.old) }
-        requires room { length (close handle (trail self.old)) ≤ self.old.journal.reach }
-        ensures marked { trail self.new ≡ close handle (trail self.old) }
-        ensures journal { self.new.journal ≡ self.old.journal }
-        ensures copies { AreClosing closing.new.items (trail self.new) }
+        requires copies { AreClosing closing.old.items self.old.trail }
+        requires room { Fits (close handle) self.old }
+        ensures marked { self.new ≡ marked_by (close handle) self.old }
+        ensures copies { AreClosing closing.new.items self.new.trail }
     {
         let copies = match self.session_of_fifo(handle) {
             Some(session) => closing.take(session),
@@ -173,9 +165,8 @@ impl Board {
         requires plain { IsPlain call.now }
         requires built { is_built_call call.now ≡ true }
         requires named { NamesSeat call.now }
-        requires room { length (direct_call setup.now who call.now (trail self.old)) ≤ self.old.journal.reach }
-        ensures marked { trail self.new ≡ direct_call setup.now who call.now (trail self.old) }
-        ensures journal { self.new.journal ≡ self.old.journal }
+        requires room { Fits (direct_call setup.now who call.now) self.old }
+        ensures marked { self.new ≡ marked_by (direct_call setup.now who call.now) self.old }
     {
         match call {
             Call::LockAll => self.lock_all(),
@@ -196,19 +187,18 @@ impl Board {
 
     /// What a granted call does by itself.
     pub fn direct_call(&mut self, setup: &Setup, who: ConnId, call: &Call, texts: &mut Texts)
-        requires unmade { texts_in (value (trail self.old) (Key.Sess (next_session (trail self.old)))) ≡ None }
+        requires unmade { texts_in (value self.old.trail (Key.Sess (next_session self.old.trail))) ≡ None }
         requires named { NamesSeat call.now }
         requires built { is_built_call call.now ≡ true }
         requires ready { AreReadyToCall call.now texts.old }
-        requires texts { HaveTexts texts.old (trail self.old) }
-        requires room { length (direct_call setup.now who call.now (trail self.old)) ≤ self.old.journal.reach }
-        ensures marked { trail self.new ≡ direct_call setup.now who call.now (trail self.old) }
-        ensures journal { self.new.journal ≡ self.old.journal }
-        ensures texts { HaveTexts texts.new (trail self.new) }
+        requires texts { HaveTexts texts.old self.old.trail }
+        requires room { Fits (direct_call setup.now who call.now) self.old }
+        ensures marked { self.new ≡ marked_by (direct_call setup.now who call.now) self.old }
+        ensures texts { HaveTexts texts.new self.new.trail }
     {
         match call {
             Call::Create(creation) => self.create_session(who, creation, texts),
-            Call::Terminate(id) => self.terminate_id(id, &mut texts.closing),
+            Call::Terminate(_) => self.terminate_some(session_in(call), &mut texts.closing),
             Call::TerminateUser(user) => self.terminate_user(*user, &mut texts.closing),
             Call::TerminateSeat(seat) => self.terminate_on(seat, &mut texts.closing),
             Call::Close(handle) => self.close_kept(*handle, &mut texts.closing),

@@ -1,6 +1,6 @@
 // How connections end.
 
-ghost use Rattle.std.specs.Prelude.{◌≡◌, ◌≤◌, length};
+ghost use Rattle.std.specs.Prelude.{◌≡◌};
 ghost use Rattle.login_model.specs.Procedure.{each, release};
 ghost use Rattle.login_model.specs.Direct.{controlled_by, unlock, disconnect};
 ghost use Rattle.login_model.specs.Trail.{put};
@@ -8,8 +8,9 @@ ghost use Rattle.login_model.specs.declared.fact.Key.TheVariants.{Lock};
 ghost use Rattle.login_model.specs.declared.fact.Fact.TheVariants.{Absent};
 ghost use Rattle.login_laws.proofs.Grows.{put-grows, release-grows};
 ghost use Rattle.login_core.specs.Kept.{AreClosing};
+ghost use Rattle.login_core.specs.Draft.{marked_by, Fits};
 
-use crate::board::Board;
+use crate::board::Draft;
 use crate::board::choosing::{ControlledBy, HeldBy};
 use crate::board::rounds::Task;
 use crate::room::kept::Kept;
@@ -25,8 +26,8 @@ impl Task<SessId> for Release {
 
     ghost adds = { λ x s t. release-grows s t };
 
-    fn run(&self, board: &mut Board, session: SessId) {
-        board.release(session);
+    fn run(&self, draft: &mut Draft, session: SessId) {
+        draft.release(session);
     }
 }
 
@@ -39,21 +40,18 @@ impl Task<LockNo> for DropLock {
 
     ghost adds = { λ x l t. put-grows (Lock l) Absent t };
 
-    fn run(&self, board: &mut Board, lock: LockNo) {
-        board.put_absent(Key::Lock(lock));
+    fn run(&self, draft: &mut Draft, lock: LockNo) {
+        draft.put_absent(Key::Lock(lock));
     }
 }
 
 #[tactic(auto, using(crate::proofs::Growing::growing))]
-impl Board {
-    ghost use Rattle.login_core.specs.Board.{trail};
-
+impl Draft {
     /// A connection gives back the sessions that it controls.
     #[tactic(auto, using(crate::proofs::Growing::growing), unfolding(login_model::specs::Direct::controlled_by, login_model::specs::Where::sessions))]
     fn release_controlled(&mut self, who: ConnId)
-        requires room { length (each release (controlled_by (trail self.old) who) (trail self.old)) ≤ self.old.journal.reach }
-        ensures marked { trail self.new ≡ each release (controlled_by (trail self.old) who) (trail self.old) }
-        ensures journal { self.new.journal ≡ self.old.journal }
+        requires room { Fits (λ t. each release (controlled_by t who) t) self.old }
+        ensures marked { self.new ≡ marked_by (λ t. each release (controlled_by t who) t) self.old }
     {
         self.for_each_that(ControlledBy(who), &Release);
     }
@@ -61,9 +59,8 @@ impl Board {
     /// The locks of a connection are gone.
     #[tactic(auto, using(crate::proofs::Growing::growing), unfolding(login_model::specs::Direct::locks_of, login_model::specs::Where::locks))]
     fn drop_locks(&mut self, who: ConnId)
-        requires room { length (unlock who (trail self.old)) ≤ self.old.journal.reach }
-        ensures marked { trail self.new ≡ unlock who (trail self.old) }
-        ensures journal { self.new.journal ≡ self.old.journal }
+        requires room { Fits (unlock who) self.old }
+        ensures marked { self.new ≡ marked_by (unlock who) self.old }
     {
         self.for_each_that(HeldBy(who), &DropLock);
     }
@@ -71,11 +68,10 @@ impl Board {
     /// A connection ends: it gives back what it controls, the sessions that it keeps open are shut, and
     /// its locks are gone.
     pub fn disconnect(&mut self, who: ConnId, closing: &mut Kept)
-        requires copies { AreClosing closing.old.items (trail self.old) }
-        requires room { length (disconnect who (trail self.old)) ≤ self.old.journal.reach }
-        ensures marked { trail self.new ≡ disconnect who (trail self.old) }
-        ensures journal { self.new.journal ≡ self.old.journal }
-        ensures copies { AreClosing closing.new.items (trail self.new) }
+        requires copies { AreClosing closing.old.items self.old.trail }
+        requires room { Fits (disconnect who) self.old }
+        ensures marked { self.new ≡ marked_by (disconnect who) self.old }
+        ensures copies { AreClosing closing.new.items self.new.trail }
     {
         self.release_controlled(who);
         self.end_sessions(who, closing);

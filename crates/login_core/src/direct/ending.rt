@@ -1,13 +1,14 @@
 // How the sessions of a user, of a seat and of a connection end.
 
-ghost use Rattle.std.specs.Prelude.{◌≡◌, ◌≤◌, length};
+ghost use Rattle.std.specs.Prelude.{◌≡◌};
 ghost use Rattle.login_model.specs.Where.{is_open, is_on_seat, sessions_of, sessions_on};
 ghost use Rattle.login_model.specs.Procedure.{each, shut};
 ghost use Rattle.login_model.specs.Direct.{is_fifo_of, fifo_of, end_sessions};
 ghost use Rattle.login_core.specs.Kept.{AreClosing};
 ghost use Rattle.login_core.specs.Ending.{sessions_such, StaysAbove, is_kept_open_by};
+ghost use Rattle.login_core.specs.Draft.{marked_by, Fits};
 
-use crate::board::Board;
+use crate::board::Draft;
 use crate::room::kept::Kept;
 use login_base::{ConnId, HandleNo, SeatName, SessId, Uid};
 use login_model::{Fact, Key, Look, Owner};
@@ -41,16 +42,13 @@ impl Test<SessId> for KeptOpenBy {
     }
 }
 
-impl Board {
-    ghost use Rattle.login_core.specs.Board.{trail};
-
+impl Draft {
     /// An open session closes, by the copies that are kept of its texts.
     pub fn shut_kept(&mut self, session: SessId, closing: &mut Kept)
-        requires copies { AreClosing closing.old.items (trail self.old) }
-        requires room { length (shut session (trail self.old)) ≤ self.old.journal.reach }
-        ensures marked { trail self.new ≡ shut session (trail self.old) }
-        ensures journal { self.new.journal ≡ self.old.journal }
-        ensures copies { AreClosing closing.new.items (trail self.new) }
+        requires copies { AreClosing closing.old.items self.old.trail }
+        requires room { Fits (shut session) self.old }
+        ensures marked { self.new ≡ marked_by (shut session) self.old }
+        ensures copies { AreClosing closing.new.items self.new.trail }
     {
         let copies = closing.take(session);
         self.shut(session, copies);
@@ -59,11 +57,10 @@ impl Board {
     /// The sessions that meet a test close, in order.
     fn shut_such<T: Test<SessId>>(&mut self, test: &T, closing: &mut Kept)
         requires stays { StaysAbove (T.meets test.now) }
-        requires copies { AreClosing closing.old.items (trail self.old) }
-        requires room { length (each shut (sessions_such (T.meets test.now) (trail self.old)) (trail self.old)) ≤ self.old.journal.reach }
-        ensures marked { trail self.new ≡ each shut (sessions_such (T.meets test.now) (trail self.old)) (trail self.old) }
-        ensures journal { self.new.journal ≡ self.old.journal }
-        ensures copies { AreClosing closing.new.items (trail self.new) }
+        requires copies { AreClosing closing.old.items self.old.trail }
+        requires room { Fits (λ t. each shut (sessions_such (T.meets test.now) t) t) self.old }
+        ensures marked { self.new ≡ marked_by (λ t. each shut (sessions_such (T.meets test.now) t) t) self.old }
+        ensures copies { AreClosing closing.new.items self.new.trail }
     {
         let mut above = None;
         while let Some(session) = self.next_that(test, above) {
@@ -74,33 +71,30 @@ impl Board {
 
     /// The sessions of a user close.
     pub fn terminate_user(&mut self, user: Uid, closing: &mut Kept)
-        requires copies { AreClosing closing.old.items (trail self.old) }
-        requires room { length (each shut (sessions_of (trail self.old) user.0) (trail self.old)) ≤ self.old.journal.reach }
-        ensures marked { trail self.new ≡ each shut (sessions_of (trail self.old) user.0) (trail self.old) }
-        ensures journal { self.new.journal ≡ self.old.journal }
-        ensures copies { AreClosing closing.new.items (trail self.new) }
+        requires copies { AreClosing closing.old.items self.old.trail }
+        requires room { Fits (λ t. each shut (sessions_of t user.0) t) self.old }
+        ensures marked { self.new ≡ marked_by (λ t. each shut (sessions_of t user.0) t) self.old }
+        ensures copies { AreClosing closing.new.items self.new.trail }
     {
         self.shut_such(&OfUser(user), closing);
     }
 
     /// The sessions on a seat close.
     pub fn terminate_seat(&mut self, seat: SeatName, closing: &mut Kept)
-        requires copies { AreClosing closing.old.items (trail self.old) }
-        requires room { length (each shut (sessions_on (trail self.old) seat) (trail self.old)) ≤ self.old.journal.reach }
-        ensures marked { trail self.new ≡ each shut (sessions_on (trail self.old) seat) (trail self.old) }
-        ensures journal { self.new.journal ≡ self.old.journal }
-        ensures copies { AreClosing closing.new.items (trail self.new) }
+        requires copies { AreClosing closing.old.items self.old.trail }
+        requires room { Fits (λ t. each shut (sessions_on t seat) t) self.old }
+        ensures marked { self.new ≡ marked_by (λ t. each shut (sessions_on t seat) t) self.old }
+        ensures copies { AreClosing closing.new.items self.new.trail }
     {
         self.shut_such(&OnSeat(seat), closing);
     }
 
     /// The sessions that a connection keeps open close.
     pub fn end_sessions(&mut self, who: ConnId, closing: &mut Kept)
-        requires copies { AreClosing closing.old.items (trail self.old) }
-        requires room { length (end_sessions who (trail self.old)) ≤ self.old.journal.reach }
-        ensures marked { trail self.new ≡ end_sessions who (trail self.old) }
-        ensures journal { self.new.journal ≡ self.old.journal }
-        ensures copies { AreClosing closing.new.items (trail self.new) }
+        requires copies { AreClosing closing.old.items self.old.trail }
+        requires room { Fits (end_sessions who) self.old }
+        ensures marked { self.new ≡ marked_by (end_sessions who) self.old }
+        ensures copies { AreClosing closing.new.items self.new.trail }
     {
         self.shut_such(&KeptOpenBy(who), closing);
     }

@@ -1,6 +1,6 @@
 // How users linger and leave, and sessions end.
 
-ghost use Rattle.std.specs.Prelude.{◌≡◌, ◌≤◌, not, true, length};
+ghost use Rattle.std.specs.Prelude.{◌≡◌, not, true};
 ghost use Rattle.login_model.specs.Trail.{value, put, tell_all};
 ghost use Rattle.login_laws.proofs.Grows.{forget-grows};
 ghost use Rattle.login_model.specs.Where.{is_open, sessions_of, moment_in, now};
@@ -9,8 +9,9 @@ ghost use Rattle.login_model.specs.Direct.{leave_known, begin_linger, end_linger
 ghost use Rattle.login_core.specs.Texts.{AreCopies, AreSome};
 ghost use Rattle.login_core.specs.Leaving.{is_overdue};
 ghost use Rattle.login_model.specs.Facts.{is_known};
+ghost use Rattle.login_core.specs.Draft.{marked_by, Fits};
 
-use crate::board::Board;
+use crate::board::Draft;
 use crate::board::rounds::Task;
 use crate::room::copies::Copies;
 use login_base::{Millis, SessId, Uid};
@@ -43,41 +44,38 @@ impl Task<Uid> for Forget {
 
     ghost adds = { λ x u t. forget-grows u t };
 
-    fn run(&self, board: &mut Board, user: Uid) {
-        board.forget(user);
+    fn run(&self, draft: &mut Draft, user: Uid) {
+        draft.forget(user);
     }
 }
 
 #[tactic(auto, using(crate::proofs::Growing::growing, crate::proofs::Departing::leaving))]
-impl Board {
-    ghost use Rattle.login_core.specs.Board.{trail};
-
+impl Draft {
     /// Whether a user has a session that is not gone.
     fn has_session(&self, user: Uid) -> bool
-        ensures { result ≡ not (is_empty (sessions_of (trail self.now) user.0)) }
+        ensures { result ≡ not (is_empty (sessions_of self.now.trail user.0)) }
     {
         find_session(self, &OfUser(user)).is_some()
     }
 
     /// Whether a session keeps a user, or the user lingers.
     pub fn is_kept(&self, user: Uid) -> bool
-        ensures { result ≡ is_kept (trail self.now) user }
+        ensures { result ≡ is_kept self.now.trail user }
     {
         self.has_session(user) || self.fact(&Key::Linger(user)).is_set()
     }
 
     /// The moment that the clock reached last, in milliseconds.
     fn now(&self) -> u64
-        ensures { result ≡ now (trail self.now) }
+        ensures { result ≡ now self.now.trail }
     {
         self.fact(&Key::Now).moment_or_zero()
     }
 
     /// A user is leaving since the moment that it is.
     fn begin_leaving(&mut self, user: Uid)
-        requires room { length (put (Key.User user) (Fact.Leaving (record { 0 = now (trail self.old) })) (trail self.old)) ≤ self.old.journal.reach }
-        ensures marked { trail self.new ≡ put (Key.User user) (Fact.Leaving (record { 0 = now (trail self.old) })) (trail self.old) }
-        ensures journal { self.new.journal ≡ self.old.journal }
+        requires room { Fits (λ t. put (Key.User user) (Fact.Leaving (record { 0 = now t })) t) self.old }
+        ensures marked { self.new ≡ marked_by (λ t. put (Key.User user) (Fact.Leaving (record { 0 = now t })) t) self.old }
     {
         let since = Millis(self.now());
         self.put_leaving(user, since);
@@ -86,9 +84,8 @@ impl Board {
     /// A user whom nothing keeps is absent after the delay of the configuration, which begins now.
     #[tactic(auto, unfolding(login_model::specs::Procedure::leave))]
     pub fn leave(&mut self, setup: &Setup, user: Uid)
-        requires room { length (leave setup.now user (trail self.old)) ≤ self.old.journal.reach }
-        ensures marked { trail self.new ≡ leave setup.now user (trail self.old) }
-        ensures journal { self.new.journal ≡ self.old.journal }
+        requires room { Fits (leave setup.now user) self.old }
+        ensures marked { self.new ≡ marked_by (leave setup.now user) self.old }
     {
         if !self.is_kept(user) {
             if setup.conf.user_stop_delay.0 == 0 {
@@ -101,9 +98,8 @@ impl Board {
 
     /// A user who is known leaves if nothing keeps them.
     fn leave_known(&mut self, setup: &Setup, user: Uid)
-        requires room { length (leave_known setup.now user (value (trail self.old) (Key.User user)) (trail self.old)) ≤ self.old.journal.reach }
-        ensures marked { trail self.new ≡ leave_known setup.now user (value (trail self.old) (Key.User user)) (trail self.old) }
-        ensures journal { self.new.journal ≡ self.old.journal }
+        requires room { Fits (λ t. leave_known setup.now user (value t (Key.User user)) t) self.old }
+        ensures marked { self.new ≡ marked_by (λ t. leave_known setup.now user (value t (Key.User user)) t) self.old }
     {
         if self.fact(&Key::User(user)).is_known() {
             self.leave(setup, user);
@@ -112,9 +108,8 @@ impl Board {
 
     /// A user lingers, and is known.
     fn begin_linger(&mut self, user: Uid)
-        requires room { length (begin_linger user (trail self.old)) ≤ self.old.journal.reach }
-        ensures marked { trail self.new ≡ begin_linger user (trail self.old) }
-        ensures journal { self.new.journal ≡ self.old.journal }
+        requires room { Fits (begin_linger user) self.old }
+        ensures marked { self.new ≡ marked_by (begin_linger user) self.old }
     {
         self.put_flag(Key::Linger(user), true);
         self.know(user);
@@ -122,9 +117,8 @@ impl Board {
 
     /// A user lingers no more, and leaves if nothing else keeps them.
     fn end_linger(&mut self, setup: &Setup, user: Uid)
-        requires room { length (end_linger setup.now user (trail self.old)) ≤ self.old.journal.reach }
-        ensures marked { trail self.new ≡ end_linger setup.now user (trail self.old) }
-        ensures journal { self.new.journal ≡ self.old.journal }
+        requires room { Fits (end_linger setup.now user) self.old }
+        ensures marked { self.new ≡ marked_by (end_linger setup.now user) self.old }
     {
         self.put_flag(Key::Linger(user), false);
         self.leave_known(setup, user);
@@ -132,9 +126,8 @@ impl Board {
 
     /// A user lingers, or does so no more.
     pub fn linger(&mut self, setup: &Setup, user: Uid, lingers: bool)
-        requires room { length (linger setup.now user lingers (trail self.old)) ≤ self.old.journal.reach }
-        ensures marked { trail self.new ≡ linger setup.now user lingers (trail self.old) }
-        ensures journal { self.new.journal ≡ self.old.journal }
+        requires room { Fits (linger setup.now user lingers) self.old }
+        ensures marked { self.new ≡ marked_by (linger setup.now user lingers) self.old }
     {
         if lingers {
             self.begin_linger(user);
@@ -146,27 +139,24 @@ impl Board {
     /// The users whose delay is over at a moment are absent.
     #[tactic(auto, using(crate::proofs::Growing::growing), unfolding(login_model::specs::Direct::overdue, login_model::specs::Where::users))]
     fn forget_overdue(&mut self, setup: &Setup, moment: u64)
-        requires room { length (each forget (overdue setup.now (trail self.old) moment) (trail self.old)) ≤ self.old.journal.reach }
-        ensures marked { trail self.new ≡ each forget (overdue setup.now (trail self.old) moment) (trail self.old) }
-        ensures journal { self.new.journal ≡ self.old.journal }
+        requires room { Fits (λ t. each forget (overdue setup.now t moment) t) self.old }
+        ensures marked { self.new ≡ marked_by (λ t. each forget (overdue setup.now t moment) t) self.old }
     {
         self.for_each_that(Overdue { setup, moment }, &Forget);
     }
 
     /// The clock stands at a moment.
     fn put_now(&mut self, moment: Millis)
-        requires room { length (put Key.Now (Fact.Moment moment) (trail self.old)) ≤ self.old.journal.reach }
-        ensures marked { trail self.new ≡ put Key.Now (Fact.Moment moment) (trail self.old) }
-        ensures journal { self.new.journal ≡ self.old.journal }
+        requires room { Fits (put Key.Now (Fact.Moment moment)) self.old }
+        ensures marked { self.new ≡ marked_by (put Key.Now (Fact.Moment moment)) self.old }
     {
         self.put(Key::Now, Fact::Moment(moment), Fact::Moment(moment));
     }
 
     /// The clock stands at a moment, and users whose delay is over are absent.
     pub fn tick(&mut self, setup: &Setup, moment: Millis)
-        requires room { length (tick setup.now moment (trail self.old)) ≤ self.old.journal.reach }
-        ensures marked { trail self.new ≡ tick setup.now moment (trail self.old) }
-        ensures journal { self.new.journal ≡ self.old.journal }
+        requires room { Fits (tick setup.now moment) self.old }
+        ensures marked { self.new ≡ marked_by (tick setup.now moment) self.old }
     {
         self.put_now(moment);
         self.forget_overdue(setup, moment.0);
@@ -174,11 +164,10 @@ impl Board {
 
     /// A session closes, if it is open, and is gone, and all are told. Its texts come as copies for both.
     fn remove_session(&mut self, session: SessId, closing: Option<Copies>, gone: Copies)
-        requires closing { is_open (trail self.old) session ≡ true → AreSome (value (trail self.old) (Key.Sess session)) closing }
-        requires gone { AreCopies (value (trail self.old) (Key.Sess session)) gone }
-        requires room { length (tell_all (Notice.SessionRemoved session) (set_phase session Phase.Gone (shut session (trail self.old)))) ≤ self.old.journal.reach }
-        ensures marked { trail self.new ≡ tell_all (Notice.SessionRemoved session) (set_phase session Phase.Gone (shut session (trail self.old))) }
-        ensures journal { self.new.journal ≡ self.old.journal }
+        requires closing { is_open self.old.trail session ≡ true → AreSome (value self.old.trail (Key.Sess session)) closing }
+        requires gone { AreCopies (value self.old.trail (Key.Sess session)) gone }
+        requires room { Fits (λ t. tell_all (Notice.SessionRemoved session) (set_phase session Phase.Gone (shut session t))) self.old }
+        ensures marked { self.new ≡ marked_by (λ t. tell_all (Notice.SessionRemoved session) (set_phase session Phase.Gone (shut session t))) self.old }
     {
         self.shut(session, closing);
         self.set_phase(session, Phase::Gone, gone);
@@ -188,11 +177,10 @@ impl Board {
     /// The last process of a session is gone. The copies of its texts are for its closing, if it is open,
     /// and for its end.
     pub fn exit(&mut self, setup: &Setup, session: SessId, closing: Option<Copies>, gone: Copies)
-        requires closing { is_open (trail self.old) session ≡ true → AreSome (value (trail self.old) (Key.Sess session)) closing }
-        requires gone { AreCopies (value (trail self.old) (Key.Sess session)) gone }
-        requires room { length (exit setup.now session (trail self.old)) ≤ self.old.journal.reach }
-        ensures marked { trail self.new ≡ exit setup.now session (trail self.old) }
-        ensures journal { self.new.journal ≡ self.old.journal }
+        requires closing { is_open self.old.trail session ≡ true → AreSome (value self.old.trail (Key.Sess session)) closing }
+        requires gone { AreCopies (value self.old.trail (Key.Sess session)) gone }
+        requires room { Fits (exit setup.now session) self.old }
+        ensures marked { self.new ≡ marked_by (exit setup.now session) self.old }
     {
         let owner = self.fact(&Key::Sess(session)).user_or_root();
         self.remove_session(session, closing, gone);

@@ -1,6 +1,6 @@
 // What a granted event does by itself.
 
-ghost use Rattle.std.specs.Prelude.{◌≡◌, ◌≤◌, None, IfSome, length, true};
+ghost use Rattle.std.specs.Prelude.{◌≡◌, None, IfSome, true};
 ghost use Rattle.login_base.specs.SessionId.{session_of};
 ghost use Rattle.login_model.specs.Trail.{Trail, value, put};
 ghost use Rattle.login_model.specs.Fresh.{next_session, next_handle};
@@ -14,25 +14,23 @@ ghost use Rattle.login_model.specs.Built.{is_built, is_built_hardware};
 ghost use Rattle.login_laws.specs.Sound.{IsSound};
 ghost use Rattle.login_core.specs.Calls.{ExitsHere};
 ghost use Rattle.login_core.specs.Kept.{AreReady, AreReadyFor, HaveTexts};
+ghost use Rattle.login_core.specs.Draft.{marked_by, Fits};
 
-use crate::board::Board;
+use crate::board::Draft;
 use crate::room::texts::{FreshTexts, Texts};
 use login_base::{ConnId, SessId, Uid, Word};
 use login_model::{Creation, Event, Fact, Hardware, Key, Setup};
 
 #[tactic(auto, using(crate::proofs::Growing::growing))]
-impl Board {
-    ghost use Rattle.login_core.specs.Board.{trail};
-
+impl Draft {
     /// A session is created, and the copies for its end are kept.
     pub fn create_session(&mut self, who: ConnId, creation: &Creation, texts: &mut Texts)
-        requires unmade { texts_in (value (trail self.old) (Key.Sess (next_session (trail self.old)))) ≡ None }
+        requires unmade { texts_in (value self.old.trail (Key.Sess (next_session self.old.trail))) ≡ None }
         requires ready { AreReadyFor creation.now texts.old }
-        requires texts { HaveTexts texts.old (trail self.old) }
-        requires room { length (create who creation.now (next_session (trail self.old)) (next_handle (trail self.old)) (trail self.old)) ≤ self.old.journal.reach }
-        ensures marked { trail self.new ≡ create who creation.now (next_session (trail self.old)) (next_handle (trail self.old)) (trail self.old) }
-        ensures journal { self.new.journal ≡ self.old.journal }
-        ensures texts { HaveTexts texts.new (trail self.new) }
+        requires texts { HaveTexts texts.old self.old.trail }
+        requires room { Fits (λ t. create who creation.now (next_session t) (next_handle t) t) self.old }
+        ensures marked { self.new ≡ marked_by (λ t. create who creation.now (next_session t) (next_handle t) t) self.old }
+        ensures texts { HaveTexts texts.new self.new.trail }
     {
         let session = self.fresh_session();
         match texts.fresh.take() {
@@ -52,12 +50,11 @@ impl Board {
 
     /// A session is gone.
     pub fn exit_session(&mut self, setup: &Setup, session: SessId, texts: &mut Texts)
-        requires here { is_session (trail self.old) session ≡ true }
-        requires texts { HaveTexts texts.old (trail self.old) }
-        requires room { length (exit setup.now session (trail self.old)) ≤ self.old.journal.reach }
-        ensures marked { trail self.new ≡ exit setup.now session (trail self.old) }
-        ensures journal { self.new.journal ≡ self.old.journal }
-        ensures texts { HaveTexts texts.new (trail self.new) }
+        requires here { is_session self.old.trail session ≡ true }
+        requires texts { HaveTexts texts.old self.old.trail }
+        requires room { Fits (exit setup.now session) self.old }
+        ensures marked { self.new ≡ marked_by (exit setup.now session) self.old }
+        ensures texts { HaveTexts texts.new self.new.trail }
     {
         let closing = texts.closing.take(session);
         match texts.gone.take(session) {
@@ -67,12 +64,11 @@ impl Board {
     }
 
     fn exit_id(&mut self, setup: &Setup, id: &Word, texts: &mut Texts)
-        requires here { IfSome (session_of id.now) (λ s. is_session (trail self.old) s ≡ true) }
-        requires texts { HaveTexts texts.old (trail self.old) }
-        requires room { length (at_session (exit setup.now) id.now (trail self.old)) ≤ self.old.journal.reach }
-        ensures marked { trail self.new ≡ at_session (exit setup.now) id.now (trail self.old) }
-        ensures journal { self.new.journal ≡ self.old.journal }
-        ensures texts { HaveTexts texts.new (trail self.new) }
+        requires here { IfSome (session_of id.now) (λ s. is_session self.old.trail s ≡ true) }
+        requires texts { HaveTexts texts.old self.old.trail }
+        requires room { Fits (at_session (exit setup.now) id.now) self.old }
+        ensures marked { self.new ≡ marked_by (at_session (exit setup.now) id.now) self.old }
+        ensures texts { HaveTexts texts.new self.new.trail }
     {
         if let Some(session) = SessId::read(id.as_slice()) {
             self.exit_session(setup, session, texts);
@@ -81,13 +77,12 @@ impl Board {
 
     /// What happens to the machine.
     fn happen(&mut self, setup: &Setup, hardware: &Hardware, texts: &mut Texts)
-        requires here { ExitsHere (trail self.old) hardware.now }
+        requires here { ExitsHere self.old.trail hardware.now }
         requires built { is_built_hardware hardware.now ≡ true }
-        requires texts { HaveTexts texts.old (trail self.old) }
-        requires room { length (happen setup.now hardware.now (trail self.old)) ≤ self.old.journal.reach }
-        ensures marked { trail self.new ≡ happen setup.now hardware.now (trail self.old) }
-        ensures journal { self.new.journal ≡ self.old.journal }
-        ensures texts { HaveTexts texts.new (trail self.new) }
+        requires texts { HaveTexts texts.old self.old.trail }
+        requires room { Fits (happen setup.now hardware.now) self.old }
+        ensures marked { self.new ≡ marked_by (happen setup.now hardware.now) self.old }
+        ensures texts { HaveTexts texts.new self.new.trail }
     {
         match hardware {
             Hardware::VtKey(vt) => self.request(*vt),
@@ -98,9 +93,8 @@ impl Board {
 
     /// A connection is there.
     fn connect(&mut self, who: ConnId, user: Uid)
-        requires room { length (put (Key.Conn who) (Fact.Connected user) (trail self.old)) ≤ self.old.journal.reach }
-        ensures marked { trail self.new ≡ put (Key.Conn who) (Fact.Connected user) (trail self.old) }
-        ensures journal { self.new.journal ≡ self.old.journal }
+        requires room { Fits (put (Key.Conn who) (Fact.Connected user)) self.old }
+        ensures marked { self.new ≡ marked_by (put (Key.Conn who) (Fact.Connected user)) self.old }
     {
         self.put(Key::Conn(who), Fact::Connected(user), Fact::Connected(user));
     }
@@ -109,14 +103,13 @@ impl Board {
     #[tactic(auto, unfolding(login_model::specs::Direct::direct))]
     pub fn direct(&mut self, setup: &Setup, event: &Event, texts: &mut Texts)
         requires built { is_built event.now ≡ true }
-        requires granted { policy_verdict setup.now (trail self.old) event.now ≡ Granted }
-        requires sound { IsSound setup.now (trail self.old) }
+        requires granted { policy_verdict setup.now self.old.trail event.now ≡ Granted }
+        requires sound { IsSound setup.now self.old.trail }
         requires ready { AreReady event.now texts.old }
-        requires texts { HaveTexts texts.old (trail self.old) }
-        requires room { length (direct setup.now event.now (trail self.old)) ≤ self.old.journal.reach }
-        ensures marked { trail self.new ≡ direct setup.now event.now (trail self.old) }
-        ensures journal { self.new.journal ≡ self.old.journal }
-        ensures texts { HaveTexts texts.new (trail self.new) }
+        requires texts { HaveTexts texts.old self.old.trail }
+        requires room { Fits (direct setup.now event.now) self.old }
+        ensures marked { self.new ≡ marked_by (direct setup.now event.now) self.old }
+        ensures texts { HaveTexts texts.new self.new.trail }
     {
         match event {
             Event::Connect(who, user) => self.connect(*who, *user),

@@ -1,6 +1,6 @@
 // What the calls on sessions set and tell.
 
-ghost use Rattle.std.specs.Prelude.{◌≡◌, ◌≤◌, length};
+ghost use Rattle.std.specs.Prelude.{◌≡◌};
 ghost use Rattle.login_base.specs.declared.ids.SessId.{SessId as SessionId};
 ghost use Rattle.login_model.specs.Trail.{Trail, put};
 ghost use Rattle.login_model.specs.Where.{open_sessions, sessions_of};
@@ -11,8 +11,9 @@ ghost use Rattle.login_model.specs.declared.session.KillWhom.TheVariants.{All};
 ghost use Rattle.login_model.specs.declared.mark.Notice.TheVariants.{Lock, Unlock};
 ghost use Rattle.login_laws.proofs.Grows.{put-grows, tell_all-grows};
 ghost use Rattle.login_model.specs.Direct.{lock_session, unlock_session};
+ghost use Rattle.login_core.specs.Draft.{marked_by, Fits};
 
-use crate::board::Board;
+use crate::board::Draft;
 use crate::board::rounds::Task;
 use login_base::{SessId, Uid};
 use login_model::{Fact, Key, KillWhom};
@@ -27,8 +28,8 @@ impl Task<SessId> for LockScreen {
 
     ghost adds = { λ x s t. tell_all-grows (Lock s) t };
 
-    fn run(&self, board: &mut Board, session: SessId) {
-        board.lock_session(session);
+    fn run(&self, draft: &mut Draft, session: SessId) {
+        draft.lock_session(session);
     }
 }
 
@@ -41,8 +42,8 @@ impl Task<SessId> for UnlockScreen {
 
     ghost adds = { λ x s t. tell_all-grows (Unlock s) t };
 
-    fn run(&self, board: &mut Board, session: SessId) {
-        board.unlock_session(session);
+    fn run(&self, draft: &mut Draft, session: SessId) {
+        draft.unlock_session(session);
     }
 }
 
@@ -55,21 +56,18 @@ impl Task<SessId> for SignalAll {
 
     ghost adds = { λ x s t. put-grows (Sig s) (Signal All x.0) t };
 
-    fn run(&self, board: &mut Board, session: SessId) {
-        board.put_signal(session, KillWhom::All, self.0);
+    fn run(&self, draft: &mut Draft, session: SessId) {
+        draft.put_signal(session, KillWhom::All, self.0);
     }
 }
 
 #[tactic(auto, using(crate::proofs::Growing::growing))]
-impl Board {
-    ghost use Rattle.login_core.specs.Board.{trail};
-
+impl Draft {
     /// The screens of all open sessions are to be locked.
     #[tactic(auto, using(crate::proofs::Growing::growing), unfolding(login_model::specs::Where::open_sessions, login_model::specs::Where::sessions))]
     pub fn lock_all(&mut self)
-        requires room { length (each lock_session (open_sessions (trail self.old)) (trail self.old)) ≤ self.old.journal.reach }
-        ensures marked { trail self.new ≡ each lock_session (open_sessions (trail self.old)) (trail self.old) }
-        ensures journal { self.new.journal ≡ self.old.journal }
+        requires room { Fits (λ t. each lock_session (open_sessions t) t) self.old }
+        ensures marked { self.new ≡ marked_by (λ t. each lock_session (open_sessions t) t) self.old }
     {
         self.for_each_that(IsOpen, &LockScreen);
     }
@@ -77,18 +75,16 @@ impl Board {
     /// The screens of all open sessions are to be unlocked.
     #[tactic(auto, using(crate::proofs::Growing::growing), unfolding(login_model::specs::Where::open_sessions, login_model::specs::Where::sessions))]
     pub fn unlock_all(&mut self)
-        requires room { length (each unlock_session (open_sessions (trail self.old)) (trail self.old)) ≤ self.old.journal.reach }
-        ensures marked { trail self.new ≡ each unlock_session (open_sessions (trail self.old)) (trail self.old) }
-        ensures journal { self.new.journal ≡ self.old.journal }
+        requires room { Fits (λ t. each unlock_session (open_sessions t) t) self.old }
+        ensures marked { self.new ≡ marked_by (λ t. each unlock_session (open_sessions t) t) self.old }
     {
         self.for_each_that(IsOpen, &UnlockScreen);
     }
 
     /// A signal is sent to processes of a session.
     pub fn put_signal(&mut self, session: SessId, whom: KillWhom, signal: i32)
-        requires room { length (put (Key.Sig session) (Fact.Signal whom signal) (trail self.old)) ≤ self.old.journal.reach }
-        ensures marked { trail self.new ≡ put (Key.Sig session) (Fact.Signal whom signal) (trail self.old) }
-        ensures journal { self.new.journal ≡ self.old.journal }
+        requires room { Fits (put (Key.Sig session) (Fact.Signal whom signal)) self.old }
+        ensures marked { self.new ≡ marked_by (put (Key.Sig session) (Fact.Signal whom signal)) self.old }
     {
         self.put(
             Key::Sig(session),
@@ -100,27 +96,24 @@ impl Board {
     /// A signal is sent to all processes of a user's sessions.
     #[tactic(auto, using(crate::proofs::Growing::growing), unfolding(login_model::specs::Where::sessions_of, login_model::specs::Where::sessions))]
     pub fn kill_user(&mut self, user: Uid, signal: i32)
-        requires room { length (each (λ (s : SessionId) (t : Trail). put (Key.Sig s) (Fact.Signal KillWhom.All signal) t) (sessions_of (trail self.old) user.0) (trail self.old)) ≤ self.old.journal.reach }
-        ensures marked { trail self.new ≡ each (λ (s : SessionId) (t : Trail). put (Key.Sig s) (Fact.Signal KillWhom.All signal) t) (sessions_of (trail self.old) user.0) (trail self.old) }
-        ensures journal { self.new.journal ≡ self.old.journal }
+        requires room { Fits (λ t. each (λ (s : SessionId) (t : Trail). put (Key.Sig s) (Fact.Signal KillWhom.All signal) t) (sessions_of t user.0) t) self.old }
+        ensures marked { self.new ≡ marked_by (λ t. each (λ (s : SessionId) (t : Trail). put (Key.Sig s) (Fact.Signal KillWhom.All signal) t) (sessions_of t user.0) t) self.old }
     {
         self.for_each_that(OfUser(user), &SignalAll(signal));
     }
 
     /// A session says whether it is idle.
     pub fn put_idle(&mut self, session: SessId, is_idle: bool)
-        requires room { length (put (Key.Idle session) (Fact.Flag is_idle) (trail self.old)) ≤ self.old.journal.reach }
-        ensures marked { trail self.new ≡ put (Key.Idle session) (Fact.Flag is_idle) (trail self.old) }
-        ensures journal { self.new.journal ≡ self.old.journal }
+        requires room { Fits (put (Key.Idle session) (Fact.Flag is_idle)) self.old }
+        ensures marked { self.new ≡ marked_by (put (Key.Idle session) (Fact.Flag is_idle)) self.old }
     {
         self.put_flag(Key::Idle(session), is_idle);
     }
 
     /// A session says whether its screen is locked.
     pub fn put_locked(&mut self, session: SessId, is_locked: bool)
-        requires room { length (put (Key.Locked session) (Fact.Flag is_locked) (trail self.old)) ≤ self.old.journal.reach }
-        ensures marked { trail self.new ≡ put (Key.Locked session) (Fact.Flag is_locked) (trail self.old) }
-        ensures journal { self.new.journal ≡ self.old.journal }
+        requires room { Fits (put (Key.Locked session) (Fact.Flag is_locked)) self.old }
+        ensures marked { self.new ≡ marked_by (put (Key.Locked session) (Fact.Flag is_locked)) self.old }
     {
         self.put_flag(Key::Locked(session), is_locked);
     }

@@ -1,6 +1,6 @@
 // How devices are taken from sessions by force, and come back.
 
-ghost use Rattle.std.specs.Prelude.{◌≡◌, ◌+◌, ◌*◌, ◌≤◌, length};
+ghost use Rattle.std.specs.Prelude.{◌≡◌};
 ghost use Rattle.login_model.specs.Trail.{value, put};
 ghost use Rattle.login_model.specs.Fresh.{next_handle};
 ghost use Rattle.login_model.specs.Devices.{taken_devices};
@@ -9,8 +9,9 @@ ghost use Rattle.login_model.specs.declared.fact.Key.TheVariants.{Taken};
 ghost use Rattle.login_laws.proofs.Grows.{force_handle-grows, resume_handle-grows};
 ghost use Rattle.login_core.specs.Told.{handle_fact, controller_fact, kind_fact};
 ghost use Rattle.login_model.specs.Facts.{kind_in};
+ghost use Rattle.login_core.specs.Draft.{marked_by, Fits};
 
-use crate::board::Board;
+use crate::board::Draft;
 use crate::board::rounds::{TakenBy, Task};
 use login_base::{ConnId, DevNo, HandleNo, SessId};
 use login_model::{DevKind, Fact, Key, Look, Notice, Owner, PauseKind, Whom};
@@ -24,8 +25,8 @@ impl Task<DevNo> for Force {
 
     ghost adds = { λ x d t. force_handle-grows x.0 d (value t (Taken x.0 d)) t };
 
-    fn run(&self, board: &mut Board, device: DevNo) {
-        board.force_device(self.0, device);
+    fn run(&self, draft: &mut Draft, device: DevNo) {
+        draft.force_device(self.0, device);
     }
 }
 
@@ -38,20 +39,17 @@ impl Task<DevNo> for Resume {
 
     ghost adds = { λ x d t. resume_handle-grows x.0 d (value t (Taken x.0 d)) t };
 
-    fn run(&self, board: &mut Board, device: DevNo) {
-        board.resume_device(self.0, device);
+    fn run(&self, draft: &mut Draft, device: DevNo) {
+        draft.resume_device(self.0, device);
     }
 }
 
 #[tactic(auto, using(crate::proofs::Growing::growing))]
-impl Board {
-    ghost use Rattle.login_core.specs.Board.{trail};
-
+impl Draft {
     /// A live handle is dead, and the controller is told.
     fn force_live(&mut self, session: SessId, device: DevNo, handle: HandleNo)
-        requires room { length (tell_controller (value (trail self.old) (Key.Ctl session)) (Notice.Pause session device PauseKind.Force) (put (Key.Live handle) no (trail self.old))) ≤ self.old.journal.reach }
-        ensures marked { trail self.new ≡ tell_controller (value (trail self.old) (Key.Ctl session)) (Notice.Pause session device PauseKind.Force) (put (Key.Live handle) no (trail self.old)) }
-        ensures journal { self.new.journal ≡ self.old.journal }
+        requires room { Fits (λ t. tell_controller (value t (Key.Ctl session)) (Notice.Pause session device PauseKind.Force) (put (Key.Live handle) no t)) self.old }
+        ensures marked { self.new ≡ marked_by (λ t. tell_controller (value t (Key.Ctl session)) (Notice.Pause session device PauseKind.Force) (put (Key.Live handle) no t)) self.old }
     {
         let controller = self.controller(session);
         self.put_flag(Key::Live(handle), false);
@@ -59,9 +57,8 @@ impl Board {
     }
 
     fn force_handle(&mut self, session: SessId, device: DevNo, taken: Option<HandleNo>)
-        requires room { length (force_handle session device (handle_fact taken) (trail self.old)) ≤ self.old.journal.reach }
-        ensures marked { trail self.new ≡ force_handle session device (handle_fact taken) (trail self.old) }
-        ensures journal { self.new.journal ≡ self.old.journal }
+        requires room { Fits (force_handle session device (handle_fact taken)) self.old }
+        ensures marked { self.new ≡ marked_by (force_handle session device (handle_fact taken)) self.old }
     {
         if let Some(handle) = taken {
             if self.is_live(handle) {
@@ -71,9 +68,8 @@ impl Board {
     }
 
     fn force_device(&mut self, session: SessId, device: DevNo)
-        requires room { length (force_device session device (trail self.old)) ≤ self.old.journal.reach }
-        ensures marked { trail self.new ≡ force_device session device (trail self.old) }
-        ensures journal { self.new.journal ≡ self.old.journal }
+        requires room { Fits (force_device session device) self.old }
+        ensures marked { self.new ≡ marked_by (force_device session device) self.old }
     {
         let taken = self.handle_of(session, device);
         self.force_handle(session, device, taken);
@@ -82,9 +78,8 @@ impl Board {
     /// The live handles of a session's devices are dead.
     #[tactic(auto, using(crate::proofs::Growing::growing), unfolding(login_model::specs::Procedure::force, login_model::specs::Devices::taken_devices))]
     pub fn force(&mut self, session: SessId)
-        requires room { length (force session (trail self.old)) ≤ self.old.journal.reach }
-        ensures marked { trail self.new ≡ force session (trail self.old) }
-        ensures journal { self.new.journal ≡ self.old.journal }
+        requires room { Fits (force session) self.old }
+        ensures marked { self.new ≡ marked_by (force session) self.old }
     {
         self.for_each(&TakenBy(session), &Force(session));
     }
@@ -97,9 +92,8 @@ impl Board {
         handle: HandleNo,
         controller: Option<ConnId>,
     )
-        requires room { length (renew session device handle (controller_fact controller) (trail self.old)) ≤ self.old.journal.reach }
-        ensures marked { trail self.new ≡ renew session device handle (controller_fact controller) (trail self.old) }
-        ensures journal { self.new.journal ≡ self.old.journal }
+        requires room { Fits (renew session device handle (controller_fact controller)) self.old }
+        ensures marked { self.new ≡ marked_by (renew session device handle (controller_fact controller)) self.old }
     {
         if let Some(who) = controller {
             self.put_owner(handle, Owner::Device(who, session, device));
@@ -111,9 +105,8 @@ impl Board {
 
     /// A fresh handle, in place of a dead one of an evdev device.
     fn renew_dead(&mut self, session: SessId, device: DevNo)
-        requires room { length (renew session device (next_handle (trail self.old)) (value (trail self.old) (Key.Ctl session)) (trail self.old)) ≤ self.old.journal.reach }
-        ensures marked { trail self.new ≡ renew session device (next_handle (trail self.old)) (value (trail self.old) (Key.Ctl session)) (trail self.old) }
-        ensures journal { self.new.journal ≡ self.old.journal }
+        requires room { Fits (λ t. renew session device (next_handle t) (value t (Key.Ctl session)) t) self.old }
+        ensures marked { self.new ≡ marked_by (λ t. renew session device (next_handle t) (value t (Key.Ctl session)) t) self.old }
     {
         let controller = self.controller(session);
         let fresh = self.fresh_handle();
@@ -121,9 +114,8 @@ impl Board {
     }
 
     fn tell_resumed(&mut self, session: SessId, device: DevNo, handle: HandleNo)
-        requires room { length (tell_controller (value (trail self.old) (Key.Ctl session)) (Notice.Resume session device handle) (trail self.old)) ≤ self.old.journal.reach }
-        ensures marked { trail self.new ≡ tell_controller (value (trail self.old) (Key.Ctl session)) (Notice.Resume session device handle) (trail self.old) }
-        ensures journal { self.new.journal ≡ self.old.journal }
+        requires room { Fits (λ t. tell_controller (value t (Key.Ctl session)) (Notice.Resume session device handle) t) self.old }
+        ensures marked { self.new ≡ marked_by (λ t. tell_controller (value t (Key.Ctl session)) (Notice.Resume session device handle) t) self.old }
     {
         let controller = self.controller(session);
         self.tell_controller(controller, Notice::Resume(session, device, handle));
@@ -131,9 +123,8 @@ impl Board {
 
     /// A dead handle of a DRM device is live again, and the controller is told.
     fn revive_dead(&mut self, session: SessId, device: DevNo, handle: HandleNo)
-        requires room { length (tell_controller (value (trail self.old) (Key.Ctl session)) (Notice.Resume session device handle) (put (Key.Live handle) yes (trail self.old))) ≤ self.old.journal.reach }
-        ensures marked { trail self.new ≡ tell_controller (value (trail self.old) (Key.Ctl session)) (Notice.Resume session device handle) (put (Key.Live handle) yes (trail self.old)) }
-        ensures journal { self.new.journal ≡ self.old.journal }
+        requires room { Fits (λ t. tell_controller (value t (Key.Ctl session)) (Notice.Resume session device handle) (put (Key.Live handle) yes t)) self.old }
+        ensures marked { self.new ≡ marked_by (λ t. tell_controller (value t (Key.Ctl session)) (Notice.Resume session device handle) (put (Key.Live handle) yes t)) self.old }
     {
         let controller = self.controller(session);
         self.put_flag(Key::Live(handle), true);
@@ -142,9 +133,8 @@ impl Board {
 
     /// A dead handle of a device of this kind comes back, or is renewed.
     fn revive(&mut self, session: SessId, device: DevNo, handle: HandleNo, kind: Option<DevKind>)
-        requires room { length (revive session device handle (kind_fact kind) (trail self.old)) ≤ self.old.journal.reach }
-        ensures marked { trail self.new ≡ revive session device handle (kind_fact kind) (trail self.old) }
-        ensures journal { self.new.journal ≡ self.old.journal }
+        requires room { Fits (revive session device handle (kind_fact kind)) self.old }
+        ensures marked { self.new ≡ marked_by (revive session device handle (kind_fact kind)) self.old }
     {
         if let Some(kind) = kind {
             match kind {
@@ -155,18 +145,16 @@ impl Board {
     }
 
     fn revive_device(&mut self, session: SessId, device: DevNo, handle: HandleNo)
-        requires room { length (revive session device handle (value (trail self.old) (Key.Dev device)) (trail self.old)) ≤ self.old.journal.reach }
-        ensures marked { trail self.new ≡ revive session device handle (value (trail self.old) (Key.Dev device)) (trail self.old) }
-        ensures journal { self.new.journal ≡ self.old.journal }
+        requires room { Fits (λ t. revive session device handle (value t (Key.Dev device)) t) self.old }
+        ensures marked { self.new ≡ marked_by (λ t. revive session device handle (value t (Key.Dev device)) t) self.old }
     {
         let kind = self.fact(&Key::Dev(device)).device_kind();
         self.revive(session, device, handle, kind);
     }
 
     fn resume_handle(&mut self, session: SessId, device: DevNo, taken: Option<HandleNo>)
-        requires room { length (resume_handle session device (handle_fact taken) (trail self.old)) ≤ self.old.journal.reach }
-        ensures marked { trail self.new ≡ resume_handle session device (handle_fact taken) (trail self.old) }
-        ensures journal { self.new.journal ≡ self.old.journal }
+        requires room { Fits (resume_handle session device (handle_fact taken)) self.old }
+        ensures marked { self.new ≡ marked_by (resume_handle session device (handle_fact taken)) self.old }
     {
         if let Some(handle) = taken {
             if self.is_live(handle) {
@@ -178,9 +166,8 @@ impl Board {
     }
 
     fn resume_device(&mut self, session: SessId, device: DevNo)
-        requires room { length (resume_device session device (trail self.old)) ≤ self.old.journal.reach }
-        ensures marked { trail self.new ≡ resume_device session device (trail self.old) }
-        ensures journal { self.new.journal ≡ self.old.journal }
+        requires room { Fits (resume_device session device) self.old }
+        ensures marked { self.new ≡ marked_by (resume_device session device) self.old }
     {
         let taken = self.handle_of(session, device);
         self.resume_handle(session, device, taken);
@@ -189,9 +176,8 @@ impl Board {
     /// The handles of a session's devices are live, and its controller is told of each.
     #[tactic(auto, using(crate::proofs::Growing::growing), unfolding(login_model::specs::Procedure::resume, login_model::specs::Devices::taken_devices))]
     pub fn resume(&mut self, session: SessId)
-        requires room { length (resume session (trail self.old)) ≤ self.old.journal.reach }
-        ensures marked { trail self.new ≡ resume session (trail self.old) }
-        ensures journal { self.new.journal ≡ self.old.journal }
+        requires room { Fits (resume session) self.old }
+        ensures marked { self.new ≡ marked_by (resume session) self.old }
     {
         self.for_each(&TakenBy(session), &Resume(session));
     }

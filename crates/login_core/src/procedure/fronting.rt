@@ -1,24 +1,22 @@
 // How a session becomes active on a seat without virtual terminals.
 
-ghost use Rattle.std.specs.Prelude.{◌≡◌, ◌+◌, ◌*◌, ◌≤◌, length};
+ghost use Rattle.std.specs.Prelude.{◌≡◌};
 ghost use Rattle.login_model.specs.Where.{is_active, active_on};
 ghost use Rattle.login_model.specs.Devices.{taken_devices};
 ghost use Rattle.login_model.specs.Procedure.{if_some, force, resume, take_seat, front};
+ghost use Rattle.login_core.specs.Draft.{marked_by, Fits};
 
-use crate::board::Board;
+use crate::board::Draft;
 use login_base::{SeatName, SessId};
 use login_model::Notice;
 use login_table::{active_on, is_active};
 
 #[tactic(auto, using(crate::proofs::Growing::growing))]
-impl Board {
-    ghost use Rattle.login_core.specs.Board.{trail};
-
+impl Draft {
     /// The live handles of a session's devices are dead, if there is a session.
     pub fn force_some(&mut self, session: Option<SessId>)
-        requires room { length (if_some force session (trail self.old)) ≤ self.old.journal.reach }
-        ensures marked { trail self.new ≡ if_some force session (trail self.old) }
-        ensures journal { self.new.journal ≡ self.old.journal }
+        requires room { Fits (if_some force session) self.old }
+        ensures marked { self.new ≡ marked_by (if_some force session) self.old }
     {
         if let Some(session) = session {
             self.force(session);
@@ -27,9 +25,8 @@ impl Board {
 
     /// The handles of a session's devices are live, if there is a session.
     pub fn resume_some(&mut self, session: Option<SessId>)
-        requires room { length (if_some resume session (trail self.old)) ≤ self.old.journal.reach }
-        ensures marked { trail self.new ≡ if_some resume session (trail self.old) }
-        ensures journal { self.new.journal ≡ self.old.journal }
+        requires room { Fits (if_some resume session) self.old }
+        ensures marked { self.new ≡ marked_by (if_some resume session) self.old }
     {
         if let Some(session) = session {
             self.resume(session);
@@ -38,9 +35,8 @@ impl Board {
 
     /// A seat without virtual terminals has another active session, and all are told.
     pub fn take_seat(&mut self, seat: SeatName, session: SessId, old: Option<SessId>)
-        requires room { length (take_seat seat session old (trail self.old)) ≤ self.old.journal.reach }
-        ensures marked { trail self.new ≡ take_seat seat session old (trail self.old) }
-        ensures journal { self.new.journal ≡ self.old.journal }
+        requires room { Fits (take_seat seat session old) self.old }
+        ensures marked { self.new ≡ marked_by (take_seat seat session old) self.old }
     {
         self.force_some(old);
         self.put_active(seat, session);
@@ -48,9 +44,8 @@ impl Board {
     }
 
     fn come_front(&mut self, seat: SeatName, session: SessId)
-        requires room { length (resume session (take_seat seat session (active_on (trail self.old) seat) (trail self.old))) ≤ self.old.journal.reach }
-        ensures marked { trail self.new ≡ resume session (take_seat seat session (active_on (trail self.old) seat) (trail self.old)) }
-        ensures journal { self.new.journal ≡ self.old.journal }
+        requires room { Fits (λ t. resume session (take_seat seat session (active_on t seat) t)) self.old }
+        ensures marked { self.new ≡ marked_by (λ t. resume session (take_seat seat session (active_on t seat) t)) self.old }
     {
         let old = active_on(self, seat);
         self.take_seat(seat, session, old);
@@ -60,9 +55,8 @@ impl Board {
     /// A session becomes active on a seat without virtual terminals, unless it is.
     #[tactic(auto, unfolding(login_model::specs::Procedure::front))]
     pub fn front(&mut self, seat: SeatName, session: SessId)
-        requires room { length (front seat session (trail self.old)) ≤ self.old.journal.reach }
-        ensures marked { trail self.new ≡ front seat session (trail self.old) }
-        ensures journal { self.new.journal ≡ self.old.journal }
+        requires room { Fits (front seat session) self.old }
+        ensures marked { self.new ≡ marked_by (front seat session) self.old }
     {
         if !is_active(self, session) {
             self.come_front(seat, session);

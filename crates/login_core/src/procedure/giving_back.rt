@@ -1,12 +1,13 @@
 // How sessions give back their devices.
 
-ghost use Rattle.std.specs.Prelude.{◌≡◌, ◌+◌, ◌*◌, ◌≤◌, length};
+ghost use Rattle.std.specs.Prelude.{◌≡◌};
 ghost use Rattle.login_model.specs.Devices.{taken_devices};
 ghost use Rattle.login_model.specs.Procedure.{kill, untake, release, revoke, oust};
 ghost use Rattle.login_laws.proofs.Grows.{untake-grows, revoke-grows};
 ghost use Rattle.login_core.specs.Told.{handle_fact};
+ghost use Rattle.login_core.specs.Draft.{marked_by, Fits};
 
-use crate::board::Board;
+use crate::board::Draft;
 use crate::board::rounds::{TakenBy, Task};
 use login_base::{ConnId, DevNo, HandleNo, SessId};
 use login_model::{Key, Look, Notice, PauseKind};
@@ -20,8 +21,8 @@ impl Task<DevNo> for Untake {
 
     ghost adds = { λ x d t. untake-grows x.0 d t };
 
-    fn run(&self, board: &mut Board, device: DevNo) {
-        board.untake(self.0, device);
+    fn run(&self, draft: &mut Draft, device: DevNo) {
+        draft.untake(self.0, device);
     }
 }
 
@@ -34,20 +35,17 @@ impl Task<DevNo> for Revoke {
 
     ghost adds = { λ x d t. revoke-grows x.0 d t };
 
-    fn run(&self, board: &mut Board, device: DevNo) {
-        board.revoke(self.0, device);
+    fn run(&self, draft: &mut Draft, device: DevNo) {
+        draft.revoke(self.0, device);
     }
 }
 
 #[tactic(auto, using(crate::proofs::Growing::growing))]
-impl Board {
-    ghost use Rattle.login_core.specs.Board.{trail};
-
+impl Draft {
     /// The handle of a taken device is dead.
     fn make_dead(&mut self, taken: Option<HandleNo>)
-        requires room { length (kill (handle_fact taken) (trail self.old)) ≤ self.old.journal.reach }
-        ensures marked { trail self.new ≡ kill (handle_fact taken) (trail self.old) }
-        ensures journal { self.new.journal ≡ self.old.journal }
+        requires room { Fits (kill (handle_fact taken)) self.old }
+        ensures marked { self.new ≡ marked_by (kill (handle_fact taken)) self.old }
     {
         if let Some(handle) = taken {
             self.put_flag(Key::Live(handle), false);
@@ -56,9 +54,8 @@ impl Board {
 
     /// A device is no longer taken: its handle is dead, and its pause is not awaited.
     pub fn untake(&mut self, session: SessId, device: DevNo)
-        requires room { length (untake session device (trail self.old)) ≤ self.old.journal.reach }
-        ensures marked { trail self.new ≡ untake session device (trail self.old) }
-        ensures journal { self.new.journal ≡ self.old.journal }
+        requires room { Fits (untake session device) self.old }
+        ensures marked { self.new ≡ marked_by (untake session device) self.old }
     {
         let taken = self.handle_of(session, device);
         self.make_dead(taken);
@@ -69,9 +66,8 @@ impl Board {
     /// A session gives back its devices, and has no controller.
     #[tactic(auto, using(crate::proofs::Growing::growing), unfolding(login_model::specs::Procedure::release, login_model::specs::Devices::taken_devices))]
     pub fn release(&mut self, session: SessId)
-        requires room { length (release session (trail self.old)) ≤ self.old.journal.reach }
-        ensures marked { trail self.new ≡ release session (trail self.old) }
-        ensures journal { self.new.journal ≡ self.old.journal }
+        requires room { Fits (release session) self.old }
+        ensures marked { self.new ≡ marked_by (release session) self.old }
     {
         self.for_each(&TakenBy(session), &Untake(session));
         self.put_absent(Key::Ctl(session));
@@ -79,9 +75,8 @@ impl Board {
 
     /// A device goes from a session, whose controller is told.
     fn revoke(&mut self, session: SessId, device: DevNo)
-        requires room { length (revoke session device (trail self.old)) ≤ self.old.journal.reach }
-        ensures marked { trail self.new ≡ revoke session device (trail self.old) }
-        ensures journal { self.new.journal ≡ self.old.journal }
+        requires room { Fits (revoke session device) self.old }
+        ensures marked { self.new ≡ marked_by (revoke session device) self.old }
     {
         let controller = self.controller(session);
         self.tell_controller(controller, Notice::Pause(session, device, PauseKind::Gone));
@@ -91,9 +86,8 @@ impl Board {
     /// Another connection takes control of a session by force.
     #[tactic(auto, using(crate::proofs::Growing::growing), unfolding(login_model::specs::Procedure::oust, login_model::specs::Devices::taken_devices))]
     pub fn oust(&mut self, session: SessId, who: ConnId)
-        requires room { length (oust session who (trail self.old)) ≤ self.old.journal.reach }
-        ensures marked { trail self.new ≡ oust session who (trail self.old) }
-        ensures journal { self.new.journal ≡ self.old.journal }
+        requires room { Fits (oust session who) self.old }
+        ensures marked { self.new ≡ marked_by (oust session who) self.old }
     {
         self.for_each(&TakenBy(session), &Revoke(session));
         self.put_controller(session, who);

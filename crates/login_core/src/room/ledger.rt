@@ -17,7 +17,6 @@ pub struct Ledger {
     alloc: Global,
     entries: u32,
     room: u32,
-    reach: u32,
 }
 
 impl Model for Ledger {
@@ -26,7 +25,7 @@ impl Model for Ledger {
 
     ghost Value = { LedgerState };
 
-    ghost view = { λ l. record { items = l.journal.items; entries = l.entries; room = l.room; reach = l.reach } };
+    ghost view = { λ l. record { items = l.journal.items; entries = l.entries; room = l.room } };
 
     ghost invariant = { λ l. IsLedger l.entries l.room l.journal.spare l.blanks.items };
 }
@@ -49,7 +48,6 @@ impl Ledger {
         ensures items { result.items ≡ [] }
         ensures entries { result.entries ≡ 0 }
         ensures room { result.room ≡ 0 }
-        ensures reach { result.reach ≡ 0 }
     {
         Ledger {
             journal: Journal::new(alloc),
@@ -57,7 +55,6 @@ impl Ledger {
             alloc,
             entries: 0,
             room: 0,
-            reach: 0,
         }
     }
 
@@ -68,30 +65,12 @@ impl Ledger {
         &self.journal
     }
 
-    /// How many marks there may be in all.
-    pub fn reach(&self) -> u32
-        ensures { result ≡ self.now.reach }
-    {
-        self.reach
-    }
-
-    /// There may be so many marks in all.
-    pub fn raise(&mut self, reach: u32)
-        ensures reach { self.new.reach ≡ reach }
-        ensures items { self.new.items ≡ self.old.items }
-        ensures entries { self.new.entries ≡ self.old.entries }
-        ensures room { self.new.room ≡ self.old.room }
-    {
-        self.reach = reach;
-    }
-
     /// Each of the lists of marks gets room for so many.
     fn widen(&mut self, room: u32) -> Result<(), NoMemory>
         ensures room { OnOk result (room ≤ self.new.room) }
         ensures keeps_room { self.old.room ≤ self.new.room }
         ensures items { self.new.items ≡ self.old.items }
         ensures entries { self.new.entries ≡ self.old.entries }
-        ensures reach { self.new.reach ≡ self.old.reach }
     {
         if room <= self.room {
             return Ok(());
@@ -105,7 +84,6 @@ impl Ledger {
     fn add_blank(&mut self) -> Result<(), NoMemory>
         requires { self.old.entries < 2 ^ 32 - 1 }
         ensures items { self.new.items ≡ self.old.items }
-        ensures reach { self.new.reach ≡ self.old.reach }
         ensures room { self.new.room ≡ self.old.room }
         ensures keeps { self.old.entries ≤ self.new.entries }
         ensures more { OnOk result (self.new.entries ≡ self.old.entries + 1) }
@@ -125,7 +103,6 @@ impl Ledger {
         ensures keeps_entries { self.old.entries ≤ self.new.entries }
         ensures keeps_room { self.old.room ≤ self.new.room }
         ensures items { self.new.items ≡ self.old.items }
-        ensures reach { self.new.reach ≡ self.old.reach }
     {
         self.widen(room)?;
         while self.entries < entries {
@@ -140,7 +117,6 @@ impl Ledger {
         ensures items { self.new.items ≡ self.old.items ++ entry ∷ [] }
         ensures entries { self.new.entries + 1 ≡ self.old.entries }
         ensures room { self.new.room ≡ self.old.room }
-        ensures reach { self.new.reach ≡ self.old.reach }
         ensures blank { result.items ≡ [] }
         ensures blank_room { self.old.room ≤ result.spare }
     {

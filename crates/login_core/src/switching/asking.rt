@@ -1,6 +1,6 @@
 // How seat0 is asked to go to another virtual terminal.
 
-ghost use Rattle.std.specs.Prelude.{◌≡◌, ◌+◌, ◌*◌, ◌≤◌, length};
+ghost use Rattle.std.specs.Prelude.{◌≡◌};
 ghost use Rattle.login_model.specs.Trail.{value, put};
 ghost use Rattle.login_model.specs.Start.{seat0};
 ghost use Rattle.login_model.specs.Where.{active_on};
@@ -10,8 +10,9 @@ ghost use Rattle.login_model.specs.Switching.{await_handle, await_device, await_
 ghost use Rattle.login_model.specs.declared.fact.Key.TheVariants.{Taken, Awaited};
 ghost use Rattle.login_laws.proofs.Grows.{put-grows, await_handle-grows};
 ghost use Rattle.login_core.specs.Told.{handle_fact};
+ghost use Rattle.login_core.specs.Draft.{marked_by, Fits};
 
-use crate::board::Board;
+use crate::board::Draft;
 use crate::board::rounds::{TakenBy, Task};
 use login_base::{DevNo, HandleNo, SessId};
 use login_model::{Fact, Key, Look, Notice, PauseKind, seat0};
@@ -26,8 +27,8 @@ impl Task<DevNo> for Await {
 
     ghost adds = { λ x d t. await_handle-grows x.0 d (value t (Taken x.0 d)) t };
 
-    fn run(&self, board: &mut Board, device: DevNo) {
-        board.await_device(self.0, device);
+    fn run(&self, draft: &mut Draft, device: DevNo) {
+        draft.await_device(self.0, device);
     }
 }
 
@@ -40,20 +41,17 @@ impl Task<DevNo> for Unawait {
 
     ghost adds = { λ x d t. put-grows (Awaited x.0 d) no t };
 
-    fn run(&self, board: &mut Board, device: DevNo) {
-        board.put_flag(Key::Awaited(self.0, device), false);
+    fn run(&self, draft: &mut Draft, device: DevNo) {
+        draft.put_flag(Key::Awaited(self.0, device), false);
     }
 }
 
 #[tactic(auto, using(crate::proofs::Growing::growing))]
-impl Board {
-    ghost use Rattle.login_core.specs.Board.{trail};
-
+impl Draft {
     /// A live device is to be let go of: that is awaited, and the controller is told.
     fn await_live(&mut self, session: SessId, device: DevNo)
-        requires room { length (tell_controller (value (trail self.old) (Key.Ctl session)) (Notice.Pause session device PauseKind.Pause) (put (Key.Awaited session device) yes (trail self.old))) ≤ self.old.journal.reach }
-        ensures marked { trail self.new ≡ tell_controller (value (trail self.old) (Key.Ctl session)) (Notice.Pause session device PauseKind.Pause) (put (Key.Awaited session device) yes (trail self.old)) }
-        ensures journal { self.new.journal ≡ self.old.journal }
+        requires room { Fits (λ t. tell_controller (value t (Key.Ctl session)) (Notice.Pause session device PauseKind.Pause) (put (Key.Awaited session device) yes t)) self.old }
+        ensures marked { self.new ≡ marked_by (λ t. tell_controller (value t (Key.Ctl session)) (Notice.Pause session device PauseKind.Pause) (put (Key.Awaited session device) yes t)) self.old }
     {
         let controller = self.controller(session);
         self.put_flag(Key::Awaited(session, device), true);
@@ -61,9 +59,8 @@ impl Board {
     }
 
     fn await_handle(&mut self, session: SessId, device: DevNo, taken: Option<HandleNo>)
-        requires room { length (await_handle session device (handle_fact taken) (trail self.old)) ≤ self.old.journal.reach }
-        ensures marked { trail self.new ≡ await_handle session device (handle_fact taken) (trail self.old) }
-        ensures journal { self.new.journal ≡ self.old.journal }
+        requires room { Fits (await_handle session device (handle_fact taken)) self.old }
+        ensures marked { self.new ≡ marked_by (await_handle session device (handle_fact taken)) self.old }
     {
         if let Some(handle) = taken {
             if self.is_live(handle) {
@@ -73,9 +70,8 @@ impl Board {
     }
 
     fn await_device(&mut self, session: SessId, device: DevNo)
-        requires room { length (await_device session device (trail self.old)) ≤ self.old.journal.reach }
-        ensures marked { trail self.new ≡ await_device session device (trail self.old) }
-        ensures journal { self.new.journal ≡ self.old.journal }
+        requires room { Fits (await_device session device) self.old }
+        ensures marked { self.new ≡ marked_by (await_device session device) self.old }
     {
         let taken = self.handle_of(session, device);
         self.await_handle(session, device, taken);
@@ -84,9 +80,8 @@ impl Board {
     /// The pauses of a session's live devices are awaited.
     #[tactic(auto, using(crate::proofs::Growing::growing), unfolding(login_model::specs::Switching::await_devices, login_model::specs::Devices::taken_devices))]
     fn await_devices(&mut self, session: SessId)
-        requires room { length (await_devices session (trail self.old)) ≤ self.old.journal.reach }
-        ensures marked { trail self.new ≡ await_devices session (trail self.old) }
-        ensures journal { self.new.journal ≡ self.old.journal }
+        requires room { Fits (await_devices session) self.old }
+        ensures marked { self.new ≡ marked_by (await_devices session) self.old }
     {
         self.for_each(&TakenBy(session), &Await(session));
     }
@@ -94,17 +89,15 @@ impl Board {
     /// No pause of a session's devices is awaited.
     #[tactic(auto, using(crate::proofs::Growing::growing), unfolding(login_model::specs::Switching::unawait_devices, login_model::specs::Devices::taken_devices))]
     fn unawait_devices(&mut self, session: SessId)
-        requires room { length (unawait_devices session (trail self.old)) ≤ self.old.journal.reach }
-        ensures marked { trail self.new ≡ unawait_devices session (trail self.old) }
-        ensures journal { self.new.journal ≡ self.old.journal }
+        requires room { Fits (unawait_devices session) self.old }
+        ensures marked { self.new ≡ marked_by (unawait_devices session) self.old }
     {
         self.for_each(&TakenBy(session), &Unawait(session));
     }
 
     fn await_some(&mut self, session: Option<SessId>)
-        requires room { length (if_some await_devices session (trail self.old)) ≤ self.old.journal.reach }
-        ensures marked { trail self.new ≡ if_some await_devices session (trail self.old) }
-        ensures journal { self.new.journal ≡ self.old.journal }
+        requires room { Fits (if_some await_devices session) self.old }
+        ensures marked { self.new ≡ marked_by (if_some await_devices session) self.old }
     {
         if let Some(session) = session {
             self.await_devices(session);
@@ -112,9 +105,8 @@ impl Board {
     }
 
     fn unawait_some(&mut self, session: Option<SessId>)
-        requires room { length (if_some unawait_devices session (trail self.old)) ≤ self.old.journal.reach }
-        ensures marked { trail self.new ≡ if_some unawait_devices session (trail self.old) }
-        ensures journal { self.new.journal ≡ self.old.journal }
+        requires room { Fits (if_some unawait_devices session) self.old }
+        ensures marked { self.new ≡ marked_by (if_some unawait_devices session) self.old }
     {
         if let Some(session) = session {
             self.unawait_devices(session);
@@ -123,9 +115,8 @@ impl Board {
 
     /// Another terminal is asked for, and the pauses of the active session's devices are awaited.
     fn begin_switch(&mut self, vt: u32)
-        requires room { length (if_some await_devices (active_on (trail self.old) seat0) (put Key.Pending (Fact.Number vt) (trail self.old))) ≤ self.old.journal.reach }
-        ensures marked { trail self.new ≡ if_some await_devices (active_on (trail self.old) seat0) (put Key.Pending (Fact.Number vt) (trail self.old)) }
-        ensures journal { self.new.journal ≡ self.old.journal }
+        requires room { Fits (λ t. if_some await_devices (active_on t seat0) (put Key.Pending (Fact.Number vt) t)) self.old }
+        ensures marked { self.new ≡ marked_by (λ t. if_some await_devices (active_on t seat0) (put Key.Pending (Fact.Number vt) t)) self.old }
     {
         let active = active_on(self, seat0());
         self.put_number(Key::Pending, vt);
@@ -134,9 +125,8 @@ impl Board {
 
     /// A switch goes to another terminal, or begins.
     fn ask_switch(&mut self, vt: u32, was_pending: bool)
-        requires room { length (ask_switch vt was_pending (trail self.old)) ≤ self.old.journal.reach }
-        ensures marked { trail self.new ≡ ask_switch vt was_pending (trail self.old) }
-        ensures journal { self.new.journal ≡ self.old.journal }
+        requires room { Fits (ask_switch vt was_pending) self.old }
+        ensures marked { self.new ≡ marked_by (ask_switch vt was_pending) self.old }
     {
         if was_pending {
             self.put_number(Key::Pending, vt);
@@ -147,9 +137,8 @@ impl Board {
 
     /// No switch is pending, no pause is awaited, and the active session goes on.
     fn withdraw_switch(&mut self)
-        requires room { length (withdraw_switch (trail self.old)) ≤ self.old.journal.reach }
-        ensures marked { trail self.new ≡ withdraw_switch (trail self.old) }
-        ensures journal { self.new.journal ≡ self.old.journal }
+        requires room { Fits withdraw_switch self.old }
+        ensures marked { self.new ≡ marked_by withdraw_switch self.old }
     {
         let active = active_on(self, seat0());
         self.put_absent(Key::Pending);
@@ -159,7 +148,7 @@ impl Board {
 
     /// Whether a switch of virtual terminals is pending.
     fn is_pending(&self) -> bool
-        ensures { result ≡ is_pending_fact (value (trail self.now) Key.Pending) }
+        ensures { result ≡ is_pending_fact (value self.now.trail Key.Pending) }
     {
         self.fact(&Key::Pending).is_number()
     }
@@ -167,9 +156,8 @@ impl Board {
     /// Another terminal is asked for; the current one withdraws a switch that is pending.
     #[tactic(auto, unfolding(login_model::specs::Switching::request))]
     pub fn request(&mut self, vt: u32)
-        requires room { length (request vt (trail self.old)) ≤ self.old.journal.reach }
-        ensures marked { trail self.new ≡ request vt (trail self.old) }
-        ensures journal { self.new.journal ≡ self.old.journal }
+        requires room { Fits (request vt) self.old }
+        ensures marked { self.new ≡ marked_by (request vt) self.old }
     {
         let is_pending = self.is_pending();
         if vt == current_vt(self) {

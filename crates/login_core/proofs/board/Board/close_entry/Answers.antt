@@ -1,45 +1,69 @@
-use Rattle.std.proofs.Common.{◌≡◌, ◌+◌, ◌<◌, ◌≤◌, ◌^◌, ◌∙◌, [], ◌∷◌, ◌++◌, List, sym, ap, subst, length, arith}
-use Rattle.login_model.specs.declared.mark.Mark.{Mark}
-use Rattle.login_model.specs.declared.mark.Entry.{Entry}
-use Rattle.login_core.specs.Facts.{StandFor}
-use Rattle.login_model.specs.Trail.{Trail}
-use Rattle.login_core.specs.UnderWay.{so_far}
-use Rattle.login_core.proofs.Standing.{so_far-closed}
+use Rattle.std.proofs.Common.{◌∙◌, sym, ap, length, arith}
+use Rattle.login_model.specs.Legal.{trail_of}
+use Rattle.login_core.specs.Draft.{DraftState}
+use Rattle.login_core.specs.UnderWay.{so_far, entry_of}
+use Rattle.login_core.proofs.Standing.{so_far-none}
+use Rattle.login_core.proofs.Drafting.{ClosesBehind, closed-trail, draft-closed, so_far-longer, so_far-same}
 use Rattle.login_core.proofs.board.Board.close_entry.Goals as goal
 
--- what the entry's marks were is among the journal's now
-closed : (old new : List Entry) (e : Entry) (ms none : List Mark) → new ≡ old ++ e ∷ [] → none ≡ [] → e.marks ≡ ms → so_far new none ≡ so_far old ms
-closed old new e ms none p q r = ap (so_far new) q ∙ ap (λ (es : List Entry). so_far es []) p ∙ so_far-closed old e ∙ ap (so_far old) r
-
-pub invariant_of-self : goal.invariant_of-self
-invariant_of-self c =
+pub invariant_of-draft : goal.invariant_of-draft
+invariant_of-draft c =
     let m = c.args.self.now in
-    let e : Entry = record { event = c.args.event; verdict = c.args.verdict; answer = c.args.answer; marks = c.into_items-marks.result } in
-    let same = closed m.journal.items c.close.new.self.items e m.marks.items c.close.result.items c.close.ensures.items c.close.ensures.blank
-    (c.into_items-marks.ensures ∙ ap (λ v. v.items) c.replace.ensures.value) in
-    let n = ap length same in
-    let counted : m.made ≡ length (so_far m.journal.items m.marks.items) = m.counted in
-    let blanks : m.journal.reach ≤ m.made + m.journal.room = m.blanks_fit in
-    let facts : m.journal.reach ≤ m.made + m.facts.spare = m.facts_fit in
-    let within : m.made ≤ m.journal.reach = m.within in
-    let numbered : m.journal.reach + 2 < 2 ^ 32 = m.numbered in
-    let reach = c.close.ensures.reach in
-    let room = c.close.ensures.room in
-    let spare = c.close.ensures.blank_room in
-    let P : Trail → Type 0 = StandFor m.facts in
+    let f = c.draft.inside in
+    let before = f.journal.value.items in
+    let new = c.of.result.value.items in
+    let e = entry_of c.args.event c.args.verdict c.args.answer c.into_items-marks.result in
+    let behind = ap (λ (d : DraftState). d.before) c.draft.view_is ∙ c.requires.begun.before in
+    let b : ClosesBehind before m.journal.items new e f.marks c.close.result = record {
+      behind = behind;
+      entry = ap (λ j. j.items) c.of.ensures ∙ c.journal.ensures ∙ c.close.ensures.items;
+      marks_are = c.into_items-marks.ensures ∙ ap (λ v. v.items) c.replace.ensures.value;
+      blank_is = c.close.ensures.blank;
+    } in
+    let n = ap (λ (d : DraftState). length d.before) c.draft.view_is in
+    let r = ap (λ (d : DraftState). d.reach) c.draft.view_is in
+    let fit = c.requires.begun.blanks_fit in
+    draft-closed before m.journal.items new e f.marks c.close.result f.facts f.made f.reach m.journal.room c.draft.invariant b (omega arith) c.close.ensures.blank_room
+
+pub returns-clause-closes : goal.returns-clause-closes
+returns-clause-closes c =
+    let m = c.args.self.now in
+    let f = c.draft.inside in
+    let behind = ap (λ (d : DraftState). d.before) c.draft.view_is ∙ c.requires.begun.before in
     record {
-      stands = subst P (sym same) m.stands;
-      counted = omega arith;
-      marks_fit = omega arith;
-      facts_fit = omega arith;
-      blanks_fit = omega arith;
-      within = omega arith;
-      numbered = omega arith;
+      marks = c.into_items-marks.result;
+      made = ap (so_far m.journal.items) (c.into_items-marks.ensures ∙ ap (λ v. v.items) c.replace.ensures.value)
+          ∙ sym (so_far-same f.journal.value.items m.journal.items f.marks.items behind) ∙ ap (λ (d : DraftState). d.trail) c.draft.view_is;
+      entry = c.close.ensures.items;
     }
 
-pub returns-clause-marked : goal.returns-clause-marked
-returns-clause-marked c =
+pub returns-clause-no_marks : goal.returns-clause-no_marks
+returns-clause-no_marks c =
+    let new = c.of.result.value.items in
+    ap (so_far new) c.close.ensures.blank ∙ so_far-none new ∙ ap trail_of (ap (λ j. j.items) c.of.ensures ∙ c.journal.ensures)
+
+pub returns-clause-begun : goal.returns-clause-begun
+returns-clause-begun c =
     let m = c.args.self.now in
-    let e : Entry = record { event = c.args.event; verdict = c.args.verdict; answer = c.args.answer; marks = c.into_items-marks.result } in
-    closed m.journal.items c.close.new.self.items e m.marks.items c.close.result.items c.close.ensures.items c.close.ensures.blank
-    (c.into_items-marks.ensures ∙ ap (λ v. v.items) c.replace.ensures.value)
+    let f = c.draft.inside in
+    let before = f.journal.value.items in
+    let new = c.of.result.value.items in
+    let e = entry_of c.args.event c.args.verdict c.args.answer c.into_items-marks.result in
+    let behind = ap (λ (d : DraftState). d.before) c.draft.view_is ∙ c.requires.begun.before in
+    let b : ClosesBehind before m.journal.items new e f.marks c.close.result = record {
+      behind = behind;
+      entry = ap (λ j. j.items) c.of.ensures ∙ c.journal.ensures ∙ c.close.ensures.items;
+      marks_are = c.into_items-marks.ensures ∙ ap (λ v. v.items) c.replace.ensures.value;
+      blank_is = c.close.ensures.blank;
+    } in
+    let n = ap (λ (d : DraftState). length d.before) c.draft.view_is in
+    let r = ap (λ (d : DraftState). d.reach) c.draft.view_is in
+    let longer = so_far-longer before f.marks.items in
+    let same = ap length (closed-trail before m.journal.items new e f.marks c.close.result b) in
+    let last = ap length (ap (so_far new) c.close.ensures.blank ∙ so_far-none new) in
+    let room = c.close.ensures.room in
+    let fit = c.requires.begun.blanks_fit in
+    record {
+      before = ap trail_of (ap (λ j. j.items) c.of.ensures ∙ c.journal.ensures);
+      blanks_fit = omega arith;
+    }

@@ -7,7 +7,6 @@ use Rattle.login_model.specs.declared.rule.Verdict.{Verdict}
 use Rattle.login_model.specs.declared.rule.Verdict.TheVariants.{Granted, Denied}
 use Rattle.login_model.specs.declared.setup.Setup.{Setup}
 use Rattle.login_core.specs.State.{CoreState}
-use Rattle.login_core.proofs.Entries.{trail-is}
 use Rattle.login_core.proofs.state.Core.answer_to.Goals as goal
 
 -- the answer from the entries so far
@@ -21,7 +20,7 @@ returns-in-Granted c =
     let v = c.args.verdict in
     let P : Answer → Type 0 = λ a. IfOk c.answer_of.result (λ b. b ≡ a) in
     subst P (same c.self.inside.setup e v Granted m.journal.items c.in-Granted.is
-    ∙ ap (λ (s : CoreState). answered s.setup v e s.journal) c.self.view_is) (c.answer_of.ensures m.journal.items (sym (trail-is m c.self.invariant.no_marks)))
+    ∙ ap (λ (s : CoreState). answered s.setup v e s.journal) c.self.view_is) (c.answer_of.ensures m.journal.items (sym c.self.invariant.no_marks))
 
 pub returns-in-Denied : goal.returns-in-Denied
 returns-in-Denied c =

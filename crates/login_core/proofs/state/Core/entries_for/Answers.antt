@@ -5,7 +5,6 @@ use Rattle.login_model.specs.Trail.{Trail}
 use Rattle.login_core.specs.Counts.{AreCounted}
 use Rattle.login_core.specs.State.{CoreState}
 use Rattle.login_core.specs.Fullness.{connected_by}
-use Rattle.login_core.proofs.Entries.{trail-is}
 use Rattle.login_core.proofs.Filling.{connected-is}
 use Rattle.login_core.proofs.state.Core.entries_for.Goals as goal
 
@@ -14,7 +13,7 @@ returns-clause-value c =
     let m = c.self.inside.board in
     let e = c.args.event.now in
     let P : Trail → Type 0 = AreCounted c.counts.result in
-    let counted = subst P (trail-is m c.self.invariant.no_marks) c.counts.ensures in
+    let counted = subst P c.self.invariant.no_marks c.counts.ensures in
     ap (λ (n : ℕ). n + 2) (c.connected_after.ensures.value (trail_of m.journal.items) counted
     ∙ ap (λ (s : CoreState). connected_by c.args.verdict (trail_of s.journal) e) c.self.view_is
     ∙ ap (λ (v : Verdict). connected_by v (trail_of c.args.self.now.journal) e) c.requires

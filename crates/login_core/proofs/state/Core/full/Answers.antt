@@ -6,7 +6,7 @@ use Rattle.login_model.specs.Trail.{Trail}
 use Rattle.login_core.specs.Counts.{AreCounted}
 use Rattle.login_core.specs.State.{CoreState}
 use Rattle.login_core.proofs.CountedLaws.{legal-holders}
-use Rattle.login_core.proofs.Entries.{trail-is, marks-counted}
+use Rattle.login_core.proofs.Entries.{marks-counted}
 use Rattle.login_core.proofs.state.Core.full.Goals as goal
 
 pub returns : goal.returns
@@ -15,10 +15,10 @@ returns c =
     let U = c.self.inside.setup in
     let es = m.journal.items in
     let e = c.args.event.now in
-    let t = trail-is m c.self.invariant.no_marks in
+    let t = c.self.invariant.no_marks in
     let P : Trail → Type 0 = AreCounted c.counts.result in
     let judged = c.requires ∙ ap (λ (s : CoreState). verdict s.setup (trail_of s.journal) e) (sym c.self.view_is) in
-    let counted = m.counted in
+    let counted = c.made.ensures.count in
     let n = ap length t in
     let marks = marks-counted es in
     let few = c.self.invariant.few_entries in

@@ -18,12 +18,15 @@ overflow_cast-reach c =
     let e = c.reach_for-reach.ensures in
     omega arith
 
-pub reserve-requires : goal.reserve-requires
-reserve-requires c =
+pub reserve-requires-clause-numbered : goal.reserve-requires-clause-numbered
+reserve-requires-clause-numbered c =
     let s = small c.args.self.now.setup c.args.self.now.journal c.args.event.now c.requires.other c.requires.small in
     let marks = s.marks in
     let e = c.reach_for-reach.ensures in
     omega arith
+
+pub reserve-requires-clause-no_marks : goal.reserve-requires-clause-no_marks
+reserve-requires-clause-no_marks c = c.self.invariant.no_marks ∙ sym c.self.invariant.begun.before
 
 pub returns-clause-ready : goal.returns-clause-ready
 returns-clause-ready c =

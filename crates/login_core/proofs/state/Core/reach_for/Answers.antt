@@ -5,16 +5,15 @@ use Rattle.login_model.specs.Trail.{Trail}
 use Rattle.login_core.specs.Counts.{AreCounted}
 use Rattle.login_core.specs.State.{CoreState}
 use Rattle.login_core.proofs.CountedLaws.{legal-holders}
-use Rattle.login_core.proofs.Entries.{marks-counted, trail-is}
+use Rattle.login_core.proofs.Entries.{marks-counted}
 use Rattle.login_core.proofs.state.Core.reach_for.Goals as goal
 
 pub returns : goal.returns
 returns c =
-    let m = c.self.inside.board in
-    let es = m.journal.items in
-    let t = trail-is m c.self.invariant.no_marks in
+    let es = c.self.inside.board.journal.items in
+    let t = c.self.invariant.no_marks in
     let P : Trail → Type 0 = AreCounted c.counts.result in
-    let n = m.counted ∙ ap length t ∙ sym (marks-counted es) in
+    let n = c.made.ensures.count ∙ ap length t ∙ sym (marks-counted es) in
     c.marks_needed.ensures (trail_of es) (subst P t c.counts.ensures) (legal-holders c.self.inside.setup es c.self.invariant.legal)
     ∙ ap (marks_needed (trail_of es)) n
     ∙ ap (λ (s : CoreState). marks_needed (trail_of s.journal) (mark_count s.journal)) c.self.view_is

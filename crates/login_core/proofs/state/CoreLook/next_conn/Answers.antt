@@ -4,10 +4,9 @@ use Rattle.login_model.specs.Names.{IsNext, conn_lt}
 use Rattle.login_model.specs.Where.{is_connected}
 use Rattle.login_model.specs.Legal.{trail_of}
 use Rattle.login_core.specs.State.{CoreState}
-use Rattle.login_core.proofs.Entries.{trail-is}
 use Rattle.login_core.proofs.state.CoreLook.next_conn.Goals as goal
 
 pub returns : goal.returns
 returns c =
     let P : Trail → Type 0 = λ t. IsNext conn_lt (is_connected t) c.args.after c.next_conn.result in
-    subst P (trail-is c.self.inside.board c.self.invariant.no_marks ∙ ap (λ (s : CoreState). trail_of s.journal) c.self.view_is) c.next_conn.ensures
+    subst P (c.self.invariant.no_marks ∙ ap (λ (s : CoreState). trail_of s.journal) c.self.view_is) c.next_conn.ensures

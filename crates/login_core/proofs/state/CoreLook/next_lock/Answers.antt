@@ -4,10 +4,9 @@ use Rattle.login_model.specs.Names.{IsNext, lock_lt}
 use Rattle.login_model.specs.Where.{is_lock}
 use Rattle.login_model.specs.Legal.{trail_of}
 use Rattle.login_core.specs.State.{CoreState}
-use Rattle.login_core.proofs.Entries.{trail-is}
 use Rattle.login_core.proofs.state.CoreLook.next_lock.Goals as goal
 
 pub returns : goal.returns
 returns c =
     let P : Trail → Type 0 = λ t. IsNext lock_lt (is_lock t) c.args.after c.next_lock.result in
-    subst P (trail-is c.self.inside.board c.self.invariant.no_marks ∙ ap (λ (s : CoreState). trail_of s.journal) c.self.view_is) c.next_lock.ensures
+    subst P (c.self.invariant.no_marks ∙ ap (λ (s : CoreState). trail_of s.journal) c.self.view_is) c.next_lock.ensures

@@ -4,10 +4,9 @@ use Rattle.login_model.specs.Names.{IsNext, seat_lt}
 use Rattle.login_model.specs.Where.{is_seat}
 use Rattle.login_model.specs.Legal.{trail_of}
 use Rattle.login_core.specs.State.{CoreState}
-use Rattle.login_core.proofs.Entries.{trail-is}
 use Rattle.login_core.proofs.state.CoreLook.next_seat.Goals as goal
 
 pub returns : goal.returns
 returns c =
     let P : Trail → Type 0 = λ t. IsNext seat_lt (is_seat t) c.args.after c.next_seat.result in
-    subst P (trail-is c.self.inside.board c.self.invariant.no_marks ∙ ap (λ (s : CoreState). trail_of s.journal) c.self.view_is) c.next_seat.ensures
+    subst P (c.self.invariant.no_marks ∙ ap (λ (s : CoreState). trail_of s.journal) c.self.view_is) c.next_seat.ensures

@@ -6,7 +6,7 @@ use Rattle.login_model.specs.Trail.{value}
 use Rattle.login_core.specs.declared.board.home.Home.TheVariants.{Users, Sessions, Seats, Takes, Connections, Controls, Owners, Lives, Others}
 use Rattle.login_core.specs.declared.room.counts.Counts.{Counts}
 use Rattle.login_core.specs.Counts.{Fit, Follow, counts_of}
-use Rattle.login_core.specs.Facts.{Tables, StandFor, opens, gives}
+use Rattle.login_core.specs.Facts.{Tables, StandFor}
 use Rattle.login_core.proofs.CountedLaws.{counted-fit}
 use Rattle.login_core.proofs.Counting.{opens-bound, gives-bound, sessions-bound, handles-bound}
 use Rattle.login_core.proofs.Placed.{Moves, Places, stands-placed, but-users, but-sessions, but-seats, but-takes, but-connections, but-controls, but-owners, but-lives, but-others}

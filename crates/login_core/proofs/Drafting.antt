@@ -1,0 +1,104 @@
+-- A draft with one mark more.
+use Rattle.std.proofs.Common.{◌≡◌, ℕ, ◌+◌, ◌≤◌, ◌∙◌, [], ◌∷◌, ◌++◌, List, false, sym, ap, subst, length, add-one, arith}
+use Rattle.login_base.specs.Room.{Room}
+use Rattle.login_model.specs.Same.{same_fact}
+use Rattle.login_model.specs.Trail.{Trail, value, put, after}
+use Rattle.login_model.specs.Legal.{trail_of}
+use Rattle.login_model.specs.declared.fact.Key.{Key}
+use Rattle.login_model.specs.declared.fact.Fact.{Fact}
+use Rattle.login_model.specs.declared.mark.Mark.{Mark}
+use Rattle.login_model.specs.declared.mark.Mark.TheVariants.{Set, Say}
+use Rattle.login_model.specs.declared.mark.Whom.{Whom}
+use Rattle.login_model.specs.declared.mark.Notice.{Notice}
+use Rattle.login_model.specs.declared.mark.Entry.{Entry}
+use Rattle.login_core.specs.Facts.{Tables, StandFor}
+use Rattle.login_core.specs.UnderWay.{so_far}
+use Rattle.login_core.specs.Draft.{DraftState, Fits, IsDraft, tell, with_trail}
+use Rattle.login_laws.proofs.JournalLaws.{length-after}
+use Rattle.login_core.proofs.Standing.{so_far-more, so_far-start, so_far-closed, put-other}
+
+-- what a draft of these parts is seen as
+abbrev pub seen : List Entry → List Mark → ℕ → DraftState
+seen es ms reach = record { before = trail_of es; trail = so_far es ms; reach = reach }
+
+pub more : (es : List Entry) (ms ns : List Mark) (x : Mark) → ns ≡ ms ++ x ∷ [] → so_far es ns ≡ x ∷ so_far es ms
+more es ms ns x e = ap (so_far es) e ∙ so_far-more es ms x
+
+pub seen-more : (es : List Entry) (ms ns : List Mark) (reach : ℕ) (x : Mark) (d : DraftState) → seen es ms reach ≡ d → ns ≡ ms ++ x ∷ [] → seen es ns reach ≡ with_trail d (x ∷ d.trail)
+seen-more es ms ns reach x d v e = ap (with_trail (seen es ms reach)) (more es ms ns x e) ∙ ap (λ (w : DraftState). with_trail w (x ∷ w.trail)) v
+
+-- a setting that is made wants one mark
+pub one-more : (k : Key) (x : Fact) (d : DraftState) → same_fact (value d.trail k) x ≡ false → Fits (put k x) d → length d.trail + 1 ≤ d.reach
+one-more k x d other room = let e = ap length (put-other k x d.trail other) in let f : length (Set k x ∷ d.trail) ≡ length d.trail + 1 = sym (add-one (length d.trail)) in omega arith
+
+-- and so does a notice
+pub said-room : (w : Whom) (n : Notice) (d : DraftState) → Fits (tell w n) d → length d.trail + 1 ≤ d.reach
+said-room w n d room = let f : length (Say w n ∷ d.trail) ≡ length d.trail + 1 = sym (add-one (length d.trail)) in omega arith
+
+-- there is room for one mark more
+pub room-inside : (es : List Entry) (ms : List Mark) (reach : ℕ) (d : DraftState) → seen es ms reach ≡ d → length d.trail + 1 ≤ d.reach → length (so_far es ms) + 1 ≤ reach
+room-inside es ms reach d v h =
+    let n = ap (λ (w : DraftState). length w.trail) v in
+    let r = ap (λ (w : DraftState). w.reach) v in
+    omega arith
+
+pub draft-more : (es : List Entry) (marks new : Room Mark) (facts tables : Tables) (made reach : ℕ) (x : Mark) → IsDraft (so_far es marks.items) marks facts made reach → length (so_far es marks.items) + 1 ≤ reach
+    → new.items ≡ marks.items ++ x ∷ [] → marks.spare ≤ new.spare + 1 → facts.spare ≤ tables.spare + 1 → StandFor tables (x ∷ so_far es marks.items)
+    → IsDraft (so_far es new.items) new tables (made + 1) reach
+draft-more es marks new facts tables made reach x d room e m f s =
+    let u = more es marks.items new.items x e in
+    let n : length (so_far es new.items) ≡ length (so_far es marks.items) + 1 = ap length u ∙ sym (add-one (length (so_far es marks.items))) in
+    let counted = d.counted in
+    let marks_fit = d.marks_fit in
+    let facts_fit = d.facts_fit in
+    record {
+      stands = subst (StandFor tables) (sym u) s;
+      counted = omega arith;
+      marks_fit = omega arith;
+      facts_fit = omega arith;
+      within = omega arith;
+      numbered = d.numbered;
+    }
+
+-- ---- a draft goes on behind its entry
+
+pub nothing-marked : (es : List Entry) (ms : List Mark) → es ≡ [] → ms ≡ [] → so_far es ms ≡ []
+nothing-marked es ms b c = ap (λ (xs : List Entry). so_far xs ms) b ∙ ap (so_far []) c ∙ so_far-start
+
+pub so_far-same : (es fs : List Entry) (ms : List Mark) → trail_of es ≡ trail_of fs → so_far es ms ≡ so_far fs ms
+unfolding so_far
+so_far-same es fs ms e = ap (λ (t : Trail). after t ms) e
+
+pub so_far-longer : (es : List Entry) (ms : List Mark) → length (trail_of es) ≤ length (so_far es ms)
+unfolding so_far
+so_far-longer es ms = let n = length-after (trail_of es) ms in omega arith
+
+-- what an entry's marks were is among the journal's now
+pub closed : (old new : List Entry) (e : Entry) (ms none : List Mark) → new ≡ old ++ e ∷ [] → none ≡ [] → e.marks ≡ ms → so_far new none ≡ so_far old ms
+closed old new e ms none p q r = ap (so_far new) q ∙ ap (λ (es : List Entry). so_far es []) p ∙ so_far-closed old e ∙ ap (so_far old) r
+
+-- the entry that is closed has the marks of the draft, which goes on behind the journal that has it
+pub record ClosesBehind (before old new : List Entry) (e : Entry) (marks blank : Room Mark) : Type 0 where
+  pub behind : trail_of before ≡ trail_of old
+  pub entry : new ≡ old ++ e ∷ []
+  pub marks_are : e.marks ≡ marks.items
+  pub blank_is : blank.items ≡ []
+
+pub closed-trail : (before old new : List Entry) (e : Entry) (marks blank : Room Mark) → ClosesBehind before old new e marks blank → so_far new blank.items ≡ so_far before marks.items
+closed-trail before old new e marks blank b = closed old new e marks.items blank.items b.entry b.blank_is b.marks_are ∙ sym (so_far-same before old marks.items b.behind)
+
+pub draft-closed : (before old new : List Entry) (e : Entry) (marks blank : Room Mark) (facts : Tables) (made reach room : ℕ) → IsDraft (so_far before marks.items) marks facts made reach → ClosesBehind before old new e marks blank
+    → reach ≤ length (trail_of before) + room → room ≤ blank.spare → IsDraft (so_far new blank.items) blank facts made reach
+draft-closed before old new e marks blank facts made reach room d b fit spare =
+    let t = closed-trail before old new e marks blank b in
+    let n = ap length t in
+    let longer = so_far-longer before marks.items in
+    let counted = d.counted in
+    record {
+      stands = subst (StandFor facts) (sym t) d.stands;
+      counted = omega arith;
+      marks_fit = omega arith;
+      facts_fit = d.facts_fit;
+      within = d.within;
+      numbered = d.numbered;
+    }

@@ -1,5 +1,0 @@
-use Rattle.login_core.proofs.Locks.{drop-above}
-use Rattle.login_core.proofs.board.Board.drop_locks.Goals as goal
-
-pub for_each_that-requires-clause-spares : goal.for_each_that-requires-clause-spares
-for_each_that-requires-clause-spares c = drop-above c.args.who

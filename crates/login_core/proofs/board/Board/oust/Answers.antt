@@ -1,5 +1,0 @@
-use Rattle.login_core.proofs.Devices.{revoke-above}
-use Rattle.login_core.proofs.board.Board.oust.Goals as goal
-
-pub for_each-requires-clause-spares : goal.for_each-requires-clause-spares
-for_each-requires-clause-spares c = revoke-above c.args.session

@@ -1,5 +1,0 @@
-use Rattle.login_core.proofs.Sessions.{unlock-above}
-use Rattle.login_core.proofs.board.Board.unlock_all.Goals as goal
-
-pub for_each_that-requires-clause-spares : goal.for_each_that-requires-clause-spares
-for_each_that-requires-clause-spares c = unlock-above

@@ -1,5 +1,0 @@
-use Rattle.login_core.specs.Board.{trail}
-use Rattle.login_core.proofs.board.BoardLook.next_lock.Goals as goal
-
-pub returns : goal.returns
-returns c = c.next_lock.ensures (trail c.args.self.now) c.args.self.now.stands

@@ -1,0 +1,121 @@
+use Rattle.std.proofs.Common.{◌≡◌, ◌∙◌, ap, sym, refl, subst, length, arith}
+use Rattle.login_model.specs.declared.fact.Key.TheVariants.{Conn, Lock, Sess}
+use Rattle.login_model.specs.declared.fact.Fact.TheVariants.{Absent}
+use Rattle.login_model.specs.Trail.{Trail, value, put}
+use Rattle.login_model.specs.Procedure.{each, release, shut}
+use Rattle.login_model.specs.Direct.{controlled_by, kept_open_by, locks_of, end_sessions, unlock, disconnect}
+use Rattle.login_laws.proofs.Grows.{Grows, each-grows, shut-grows, put-grows, grows-trans}
+use Rattle.login_laws.proofs.Carried.{each-carried, release-carried}
+use Rattle.login_laws.proofs.Tame.{Tame, tame, later-along, other, tame-unlocks}
+use Rattle.login_base.specs.declared.ids.ConnId.{ConnId}
+use Rattle.login_core.specs.Draft.{DraftState, marked_by, with_trail}
+use Rattle.login_core.proofs.Growing.{fits, trails}
+use Rattle.login_core.proofs.TextsKept.{AllLater, closing-later}
+use Rattle.login_core.proofs.board.Draft.disconnect.Goals as goal
+
+-- the end of a connection, of which the first part is done, and then the second
+after-release : ConnId → Trail → Trail
+after-release who t = put (Conn who) Absent (unlock who (end_sessions who t))
+
+after-end : ConnId → Trail → Trail
+after-end who t = put (Conn who) Absent (unlock who t)
+
+end-grows : (who : ConnId) (t : Trail) → Grows t (end_sessions who t)
+end-grows who t = each-grows shut shut-grows (kept_open_by t who) t
+
+unlock-grows : (who : ConnId) (t : Trail) → Grows t (unlock who t)
+unlock-grows who t = each-grows (λ l u. put (Lock l) Absent u) (λ l u. put-grows (Lock l) Absent u) (locks_of t who) t
+
+absent-grows : (who : ConnId) (t : Trail) → Grows t (put (Conn who) Absent t)
+absent-grows who t = put-grows (Conn who) Absent t
+
+after-end-grows : (who : ConnId) (t : Trail) → Grows (unlock who t) (after-end who t)
+unfolding after-end
+after-end-grows who t = absent-grows who (unlock who t)
+
+after-release-grows : (who : ConnId) (t : Trail) → Grows (end_sessions who t) (after-release who t)
+unfolding after-release
+after-release-grows who t =
+    let e = end_sessions who t in
+    let u = unlock who e in
+    grows-trans e u (put (Conn who) Absent u) (unlock-grows who e) (absent-grows who u)
+
+disconnect-is : (who : ConnId) (t : Trail) → disconnect who t ≡ after-release who (each release (controlled_by t who) t)
+unfolding disconnect after-release
+disconnect-is who t = refl
+
+release-is : (who : ConnId) (t : Trail) → after-release who t ≡ after-end who (end_sessions who t)
+unfolding after-release after-end
+release-is who t = refl
+
+end-is : (who : ConnId) (t : Trail) → after-end who t ≡ put (Conn who) Absent (unlock who t)
+unfolding after-end
+end-is who t = refl
+
+ended : (who : ConnId) (d e f : DraftState) → e ≡ marked_by (λ t. each release (controlled_by t who) t) d → f ≡ marked_by (end_sessions who) e → marked_by (after-end who) f ≡ marked_by (disconnect who) d
+ended who d e f p q =
+    ap (marked_by (after-end who)) q ∙ ap (with_trail e) (sym (release-is who e.trail))
+    ∙ ap (marked_by (after-release who)) p ∙ ap (with_trail d) (sym (disconnect-is who d.trail))
+
+pub release_controlled-requires : goal.release_controlled-requires
+release_controlled-requires c =
+    let who = c.args.who in
+    let t = c.args.self.now.trail in
+    let a = each release (controlled_by t who) t in
+    let g = end-grows who a in
+    let h = after-release-grows who a in
+    let n = ap length (disconnect-is who t) in
+    record { room = omega (arith, c.requires.room) }
+
+unlock-tame : (who : ConnId) (t : Trail) → Tame t (unlock who t)
+unlock-tame who t = each-carried tame (λ l u. put (Lock l) Absent u) tame-unlocks (locks_of t who) t
+
+pub end_sessions-requires-clause-copies : goal.end_sessions-requires-clause-copies
+end_sessions-requires-clause-copies c =
+    let t = c.args.self.now.trail in
+    let P : Trail → Type 0 = Tame t in
+    let p = subst P (sym (trails c.release_controlled.ensures.marked)) (each-carried tame release (release-carried tame) (controlled_by t c.args.who) t) in
+    closing-later c.args.closing.now.items t c.release_controlled.new.self.trail p.sessions c.requires.copies
+
+pub returns-clause-copies : goal.returns-clause-copies
+returns-clause-copies c =
+    let who = c.args.who in
+    let t = c.end_sessions.new.self.trail in
+    let u = c.drop_locks.new.self.trail in
+    let v = c.put_absent.new.self.trail in
+    let rows = c.end_sessions.new.closing.items in
+    let P : Trail → Type 0 = Tame t in
+    let p = subst P (sym (trails c.drop_locks.ensures.marked)) (unlock-tame who t) in
+    let Q : Trail → Type 0 = AllLater u in
+    let q = subst Q (sym (trails c.put_absent.ensures.marked)) (λ s. later-along (value u (Sess s)) (value (put (Conn who) Absent u) (Sess s)) (other (Conn who) (Sess s) Absent u refl)) in
+    closing-later rows u v q (closing-later rows t u p.sessions c.end_sessions.ensures.copies)
+
+pub end_sessions-requires-clause-room : goal.end_sessions-requires-clause-room
+end_sessions-requires-clause-room c =
+    let who = c.args.who in
+    let u = c.release_controlled.new.self.trail in
+    let e = ap (marked_by (after-release who)) c.release_controlled.ensures.marked ∙ ap (with_trail c.args.self.now) (sym (disconnect-is who c.args.self.now.trail)) in
+    let r = fits _ _ c.args.self.now c.release_controlled.new.self e c.requires.room in
+    let h = after-release-grows who u in
+    omega arith
+
+pub drop_locks-requires : goal.drop_locks-requires
+drop_locks-requires c =
+    let who = c.args.who in
+    let u = c.end_sessions.new.self.trail in
+    let r = fits _ _ c.args.self.now c.end_sessions.new.self (ended c.args.who c.args.self.now c.release_controlled.new.self c.end_sessions.new.self c.release_controlled.ensures.marked c.end_sessions.ensures.marked) c.requires.room in
+    let h = after-end-grows who u in
+    record { room = omega arith }
+
+-- what the end of a connection is, once its locks are gone
+gone : (c : goal.After-put_absent-arg-1) → marked_by (put (Conn c.args.who) Absent) c.drop_locks.new.self ≡ marked_by (disconnect c.args.who) c.args.self.now
+gone c =
+    let who = c.args.who in
+    ap (marked_by (put (Conn who) Absent)) c.drop_locks.ensures.marked ∙ ap (with_trail c.end_sessions.new.self) (sym (end-is who c.end_sessions.new.self.trail))
+    ∙ ended who c.args.self.now c.release_controlled.new.self c.end_sessions.new.self c.release_controlled.ensures.marked c.end_sessions.ensures.marked
+
+pub put_absent-requires : goal.put_absent-requires
+put_absent-requires c = record { room = fits _ _ c.args.self.now c.drop_locks.new.self (gone c) c.requires.room }
+
+pub returns-clause-marked : goal.returns-clause-marked
+returns-clause-marked c = c.put_absent.ensures.marked ∙ gone c.before

@@ -1,0 +1,22 @@
+use Rattle.std.proofs.Common.{◌∙◌, ap, Option}
+use Rattle.login_model.specs.declared.fact.Key.TheVariants as key
+use Rattle.login_model.specs.Trail.{value}
+use Rattle.login_model.specs.declared.hardware.DevKind.{DevKind}
+use Rattle.login_model.specs.Procedure.{revive}
+use Rattle.login_core.specs.Told.{kind_fact}
+use Rattle.login_model.specs.Facts.{kind_in}
+use Rattle.login_core.specs.Draft.{with_trail}
+use Rattle.login_core.proofs.Told.{revived}
+use Rattle.login_core.proofs.board.Draft.revive_device.Goals as goal
+
+pub returns : goal.returns
+returns c =
+    let s = c.args.session in
+    let d = c.args.device in
+    let h = c.args.handle in
+    let t = c.args.self.now.trail in
+    record {
+      marked = c.revive.ensures.marked
+          ∙ ap (with_trail c.args.self.now) (ap (λ (o : Option DevKind). revive s d h (kind_fact o) t) (c.device_kind-kind.ensures ∙ ap kind_in c.fact.ensures)
+          ∙ revived s d h (value t (key.Dev d)) t);
+    }

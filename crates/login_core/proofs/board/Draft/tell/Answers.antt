@@ -1,0 +1,28 @@
+use Rattle.std.proofs.Common.{arith}
+use Rattle.login_model.specs.declared.mark.Mark.TheVariants.{Say}
+use Rattle.login_core.specs.UnderWay.{so_far}
+use Rattle.login_core.proofs.Standing.{stand-say}
+use Rattle.login_core.proofs.Drafting.{draft-more, room-inside, said-room, seen-more}
+use Rattle.login_core.proofs.board.Draft.tell.Goals as goal
+
+pub push-requires : goal.push-requires
+push-requires c =
+    let f = c.self.inside in
+    let room = room-inside f.journal.value.items f.marks.items f.reach c.args.self.now c.self.view_is (said-room c.args.whom c.args.notice c.args.self.now c.requires.room) in
+    let counted = c.self.invariant.counted in
+    let fit = c.self.invariant.marks_fit in
+    omega arith
+
+pub invariant_of-self : goal.invariant_of-self
+invariant_of-self c =
+    let f = c.self.inside in
+    let es = f.journal.value.items in
+    let ms = f.marks.items in
+    let room = room-inside es ms f.reach c.args.self.now c.self.view_is (said-room c.args.whom c.args.notice c.args.self.now c.requires.room) in
+    draft-more es f.marks c.push.new.self f.facts f.facts f.made f.reach (Say c.args.whom c.args.notice) c.self.invariant room
+    c.push.ensures.items c.push.ensures.spare (omega arith) (stand-say f.facts (so_far es ms) c.args.whom c.args.notice c.self.invariant.stands)
+
+pub returns : goal.returns
+returns c =
+    let f = c.self.inside in
+    record { marked = seen-more f.journal.value.items f.marks.items c.push.new.self.items f.reach (Say c.args.whom c.args.notice) c.args.self.now c.self.view_is c.push.ensures.items }
