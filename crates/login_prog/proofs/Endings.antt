@@ -10,7 +10,7 @@ use Rattle.recording.specs.declared.line.LineFault.{LineFault}
 use Rattle.recording.specs.declared.line.LineFault.TheVariants as fault
 use Rattle.recording.specs.Causes.{line_fault}
 use Rattle.recording.specs.Cut.{first_line, cut}
-use Rattle.recording.specs.Cuts.{cut_head}
+use Rattle.recording.proofs.Cuts.{cut_head}
 use Rattle.recording.specs.Meaning.{IsReadAs}
 use Rattle.recording.proofs.Grammar.{reads_one, built_faultless, built_or_not}
 use Rattle.replay.specs.Written.{AreReadAs, joined}

@@ -3,14 +3,12 @@ use Rattle.std.specs.Prelude.{ℕ, ◌≡◌, ◌⊎◌, List, [], ◌∷◌, co
 use Rattle.login_model.specs.declared.count.Count.{Count}
 use Rattle.replay.specs.Outcome.{RefusedAt, FullAt, IsRecordingText}
 use Rattle.replay.specs.declared.cause.Cause.{Cause}
-use Rattle.replay.specs.Reporting.{Reported, refusal, full_line, error_line}
+use Rattle.replay.specs.Reporting.{Reported, refusal, full_line, status_line}
+use Rattle.replay.specs.declared.reporting.StatusLine.TheVariants as line
 
 -- the words are `replay` alone
 abbrev pub AreReplay : List (List ℕ) → Type 0
 AreReplay words = words ≡ codes "replay" ∷ []
-
-abbrev pub usage : List ℕ
-usage = error_line (codes "usage: login replay or login serve --dir DIR or login load N")
 
 -- a line is refused for a cause, and the errors say which and why; the transcript of the lines before it was written
 pub record RefusedSo (all before after old new : Option (List ℕ)) (fault now : ℕ) : Type 0 where
@@ -28,10 +26,10 @@ pub record FullSo (all before after old new : Option (List ℕ)) (fault now : �
 
 -- the line of a status on the errors; that of a refusal names its line, and that of a full journal its count
 pub record Says (status : ℕ) (old new : Option (List ℕ)) (before now : ℕ) : Type 0 where
-  pub wrong_words : status ≡ 1 → Reported old new before now usage
-  pub read_fault : status ≡ 3 → Reported old new before now (error_line (codes "read fault"))
-  pub write_fault : status ≡ 4 → Reported old new before now (error_line (codes "write fault"))
-  pub no_memory : status ≡ 5 → Reported old new before now (error_line (codes "no memory"))
+  pub wrong_words : status ≡ 1 → Reported old new before now (status_line line.Usage)
+  pub read_fault : status ≡ 3 → Reported old new before now (status_line line.ReadFault)
+  pub write_fault : status ≡ 4 → Reported old new before now (status_line line.WriteFault)
+  pub no_memory : status ≡ 5 → Reported old new before now (status_line line.NoMemory)
 
 -- a text and its count of faults stay as they were
 pub record Stays (old new : Option (List ℕ)) (before now : ℕ) : Type 0 where

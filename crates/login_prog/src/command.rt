@@ -7,11 +7,8 @@ ghost use Rattle.login_prog.specs.Statuses.{AreReplay, RefusedSo, FullSo, Says, 
 
 use login_base::{Items, Word};
 use login_edge::{Sink, Source};
-use replay::{ReplayEnd, replay_all, report};
+use replay::{ReplayEnd, StatusLine, replay_all, report};
 use std::alloc::Global;
-
-/// The line of the errors where the words are no command.
-const USAGE: &[u8] = b"usage: login replay or login serve --dir DIR or login load N\n";
 
 /// Whether a word is this text.
 fn is_word(word: &[u8], text: &[u8]) -> bool
@@ -67,7 +64,7 @@ pub fn run<S: Source, K: Sink, E: Sink>(
         (Rose (S.faults input.old) (S.faults input.new)) (Rose (K.faults output.old) (K.faults output.new)) }
 {
     if !are_replay(words) {
-        report(errors, USAGE);
+        report(errors, StatusLine::Usage.text());
         return 1;
     }
     match replay_all(alloc, input, output, errors) {

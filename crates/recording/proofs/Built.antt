@@ -1,23 +1,17 @@
--- What written events mean, and that what means something built is built by its words.
-use Rattle.std.proofs.Common.{◌≡◌, ℕ, ◌≤◌, List, [], ◌∷◌, length, refl, sym, subst, arith, Bool, true, false, not, leb}
-use Rattle.std.specs.Fmt.{decimal}
+-- What written events mean.
+use Rattle.std.proofs.Common.{◌≡◌, ℕ, ◌≤◌, List, [], ◌∷◌, length, refl, sym, subst, arith, Bool, true, false, leb}
 use Rattle.std.specs.List.{AllByRecursion, list_all}
 use Rattle.std.proofs.lemmas.Bool.Decides.{nat_tests}
 use Rattle.login_model.specs.declared.call.Call.{Call}
 use Rattle.login_model.specs.declared.call.Call.TheVariants as call
-use Rattle.login_model.specs.declared.hardware.Hardware.{Hardware}
-use Rattle.login_model.specs.declared.hardware.Hardware.TheVariants.{Add}
 use Rattle.login_model.specs.declared.event.Event.{Event}
 use Rattle.login_model.specs.declared.event.Event.TheVariants.{Connect, Call as Calls, Hardware as Happens}
-use Rattle.login_model.specs.Built.{is_built_call, is_built_hardware, is_built}
+use Rattle.login_model.specs.Built.{is_built_call, is_built}
 use Rattle.login_model.specs.Texts.{IsText, texts, has_object}
-use Rattle.recording.specs.declared.line.Line.{Line}
-use Rattle.recording.specs.declared.line.Line.TheVariants.{Conf, Event as EventLine}
-use Rattle.recording.specs.Calls.{call_words, FitsCall}
-use Rattle.recording.specs.EventSpelling.{request_word, hardware_words, event_words, Fits, IsWrittenEvent}
-use Rattle.recording.specs.Lines.{fields, IsEventLine}
-use Rattle.recording.specs.Unbuilt.{is_unbuilt_call, has_unbuilt_word}
-use Rattle.recording.specs.Meaning.{are_short, meant_call, meant_event, is_built_line}
+use Rattle.recording.specs.Calls.{FitsCall}
+use Rattle.recording.specs.EventSpelling.{Fits, IsWrittenEvent}
+use Rattle.recording.specs.Lines.{IsEventLine}
+use Rattle.recording.specs.Meaning.{are_short, meant_call, meant_event}
 use Rattle.recording.proofs.Texts.{both}
 
 -- a call that is built names no object with properties
@@ -89,33 +83,3 @@ pub means_itself : (e : Event) → Fits e → meant_event e ≡ e
 means_itself (Calls r) f = rw (f.6, tested_short (texts r.call) f.5) refl
 means_itself (Connect c u) f = refl
 means_itself _ f = refl
-
--- the word of a call tells whether it is built
-call_word : (who serial : List ℕ) (c : Call) → is_unbuilt_call (who ∷ serial ∷ call_words c) ≡ not (is_built_call c)
-unfolding call_words
-call_word who serial (call.Create x) = refl
-call_word who serial _ = refl
-
-request_words : (quiet : Bool) (who serial : List ℕ) (c : Call) → has_unbuilt_word (request_word quiet ∷ who ∷ serial ∷ call_words c) ≡ not (is_built_call c)
-unfolding has_unbuilt_word
-request_words true who serial c = call_word who serial c
-request_words false who serial c = call_word who serial c
-
-hardware_word : (x : Hardware) → has_unbuilt_word (hardware_words x) ≡ not (is_built_hardware x)
-unfolding has_unbuilt_word hardware_words
-hardware_word (Add d kind seat) = refl
-hardware_word _ = refl
-
-event_word : (e : Event) → has_unbuilt_word (event_words e) ≡ not (is_built e)
-unfolding has_unbuilt_word event_words
-event_word (Calls r) = request_words r.quiet (decimal r.who.0) (decimal r.serial) r.call
-event_word (Happens x) = hardware_word x
-event_word _ = refl
-
--- the words of a line tell whether it is built
-pub line_word : (line : Line) → has_unbuilt_word (fields line) ≡ not (is_built_line line)
-unfolding has_unbuilt_word
-line_word (EventLine e) = event_word e
-line_word (Conf []) = refl
-line_word (Conf (b ∷ bs)) = refl
-line_word _ = refl

@@ -9,14 +9,14 @@ use Rattle.recording.specs.declared.line.LineFault.TheVariants.{TooLong, Ended, 
 use Rattle.recording.specs.Bytes.{AreBytes}
 use Rattle.recording.specs.Cut.{NoLineFeed}
 use Rattle.recording.specs.Lines.{fields, IsWritten, Spells}
-use Rattle.recording.specs.Unbuilt.{has_unbuilt_word, IsUnbuilt}
+use Rattle.recording.specs.Unbuilt.{IsUnbuilt}
 use Rattle.recording.specs.Causes.{line_fault}
 use Rattle.recording.specs.Grammar.{InGrammar, OneGrammar}
-use Rattle.recording.specs.Meaning.{meant, built, IsReadAs}
+use Rattle.recording.specs.Meaning.{meant, is_built_line, built, IsReadAs}
 use Rattle.recording.specs.inner.LineReadings.{line_of}
 use Rattle.recording.proofs.Causes.{refused, fault_of, faultless, more_than_line, fault_of_words, too_long_before, too_long_whole, has_ended, nothing_ended}
 use Rattle.recording.proofs.ReadBytes.{IsRead, text_bytes, no_feed, no_feed_test}
-use Rattle.recording.proofs.Spellings.{line_of-text, text_spells, text_written, written_no_feed, built_by_words, unbuilt_by_words}
+use Rattle.recording.proofs.Spellings.{line_of-text, text_spells, text_written, written_no_feed}
 
 -- a text that is a line of the grammar, with its line feed
 pub record IsText (bytes : List ℕ) (line : Line) : Type 0 where
@@ -146,7 +146,7 @@ pub read_again : (bytes text : List ℕ) (read : Line) (r : Result Line LineFaul
 read_again bytes text read r whole found e line h =
     let both : Some read ≡ Some h.written = sym found ∙ read_as bytes text h.written whole h.spells h.fits in
     let same : read ≡ h.written = cc in
-    let ok : built h.written ≡ Ok (meant h.written) = rw (built_by_words h.written h.built) refl in
+    let ok : built h.written ≡ Ok (meant h.written) = rw h.built refl in
     inl (e ∙ (ap built same ∙ (ok ∙ ap Ok (sym h.means))))
 
 -- and to a line of the grammar that is not built
@@ -155,7 +155,7 @@ pub unbuilt_again : (bytes text : List ℕ) (read : Line) (r : Result Line LineF
 unbuilt_again bytes text read r whole found e u =
     let both : Some read ≡ Some u.line = sym found ∙ read_as bytes text u.line whole u.spells u.written in
     let same : read ≡ u.line = cc in
-    let none : built u.line ≡ Err NotBuilt = rw (unbuilt_by_words u.line u.unbuilt) refl in
+    let none : built u.line ≡ Err NotBuilt = rw u.unbuilt refl in
     inl (e ∙ (ap built same ∙ none))
 
 -- bytes spell one line
@@ -173,7 +173,7 @@ reads_one bytes l m a b = a.means ∙ (ap meant (spells_one bytes a.written b.wr
 pub built_or_not : (bytes : List ℕ) (line : Line) → IsReadAs bytes line → IsUnbuilt bytes → ⊥
 built_or_not bytes line r u =
     let same = spells_one bytes r.written u.line r.spells r.fits u.spells u.written in
-    let wrong : false ≡ true = sym r.built ∙ (ap (λ (l : Line). has_unbuilt_word (fields l)) same ∙ u.unbuilt) in
+    let wrong : true ≡ false = sym r.built ∙ (ap is_built_line same ∙ u.unbuilt) in
     cc
 
 -- the bytes are a text without a line feed, and a line feed

@@ -4,7 +4,7 @@ use Rattle.std.specs.List.{flat_map, list_all}
 use Rattle.std.specs.Str.{bytes_eq}
 use Rattle.std.proofs.lemmas.Bool.Decides.{nat_tests}
 use Rattle.std.proofs.lemmas.Slice.Eq.{bytes_eq-Decides}
-use Rattle.recording.specs.Text.{hex_digit}
+use Rattle.login_base.specs.Labels.{hex_digit}
 use Rattle.recording.specs.Bytes.{AreBytes}
 use Rattle.recording.specs.Hex.{spell_pair, spell_hex, is_hex_digit}
 use Rattle.recording.specs.Words.{hex_value, unhexed, hex_of}

@@ -3,8 +3,8 @@ use Rattle.std.proofs.Common.{◌≡◌, ℕ, ◌+◌, ◌-◌, ◌<◌, ◌≤�
 use Rattle.std.specs.Option.{option_map, IfSome}
 use Rattle.std.proofs.lemmas.List.{take_all, take-append-drop, drop-drop, drop-take, drop_all}
 use Rattle.recording.specs.Cut.{NoLineFeed, first_line}
-use Rattle.recording.specs.Reading.{IsFirst}
-use Rattle.recording.specs.Cuts.{first_line_whole}
+use Rattle.recording.specs.inner.Filling.{IsFirst}
+use Rattle.recording.proofs.Cuts.{first_line_whole}
 
 -- a line, then what is held, then what is left
 abbrev pub joined : List ℕ → List ℕ → Option (List ℕ) → Option (List ℕ)

@@ -1,3 +1,4 @@
+pub mod Cuts
 pub mod Arguments
 pub mod Built
 pub mod Calls
@@ -18,3 +19,4 @@ pub mod Spellings
 pub mod Texts
 pub mod MarkParts
 pub mod Paths
+pub mod Decimals

@@ -6,7 +6,7 @@ use Rattle.std.specs.List.{join_with_byte}
 use Rattle.recording.specs.declared.line.Line.{Line}
 use Rattle.recording.specs.declared.line.LineFault.TheVariants.{TooLong}
 use Rattle.recording.specs.Cut.{NoLineFeed, first_line}
-use Rattle.recording.specs.Cuts.{FirstLineCases, first_line_cases}
+use Rattle.recording.proofs.Cuts.{FirstLineCases, first_line_cases}
 use Rattle.recording.specs.Lines.{fields, Spells}
 use Rattle.recording.specs.Lines.Spells.{plain, empty}
 use Rattle.recording.specs.Causes.{line_fault}

@@ -1,6 +1,6 @@
 -- Texts that are printed in parts.
 use Rattle.std.proofs.Common.{◌≡◌, ℕ, List, [], ◌∷◌, ◌++◌, Result, Ok, Err, OnOk, ap, sym, ◌∙◌, append_assoc, append-nil}
-use Rattle.recording.specs.Spaced.{spaced}
+use Rattle.recording.specs.inner.Spaced.{spaced}
 
 flat : (old a b c d : List ℕ) → (((old ++ a) ++ b) ++ c) ++ d ≡ old ++ (a ++ (b ++ (c ++ d)))
 flat old a b c d = simp append_assoc

@@ -1,5 +1,5 @@
 -- What the bytes of a line, with its line feed, are read as.
-use Rattle.std.proofs.Common.{◌≡◌, ◌≢◌, ℕ, suc, ◌≤◌, List, [], ◌∷◌, ◌++◌, length, get_or, refl, arith, ap, sym, ◌∙◌, subst, Bool, true, false, not, eqb, Some, Result, Ok, Err, IfOk, Fits, w8}
+use Rattle.std.proofs.Common.{◌≡◌, ◌≢◌, ℕ, suc, ◌≤◌, List, [], ◌∷◌, ◌++◌, length, get_or, refl, arith, sym, ◌∙◌, subst, Bool, true, false, eqb, Some, Result, Ok, Err, IfOk, Fits, w8}
 use Rattle.std.specs.List.{slice_split, list_any}
 use Rattle.std.proofs.lemmas.Bool.Decides.{nat_tests}
 use Rattle.recording.specs.declared.line.Line.{Line}
@@ -7,11 +7,10 @@ use Rattle.recording.specs.declared.line.LineFault.{LineFault}
 use Rattle.recording.specs.declared.line.LineFault.TheVariants.{NotBuilt}
 use Rattle.recording.specs.Bytes.{AreBytes, AreRaw}
 use Rattle.recording.specs.Cut.{NoLineFeed}
-use Rattle.recording.specs.Lines.{fields, IsLine, IsWritten, Spells}
-use Rattle.recording.specs.Unbuilt.{has_unbuilt_word, IsUnbuilt}
+use Rattle.recording.specs.Lines.{IsLine, IsWritten, Spells}
+use Rattle.recording.specs.Unbuilt.{IsUnbuilt}
 use Rattle.recording.specs.Meaning.{meant, is_built_line, built, IsReadAs}
 use Rattle.recording.specs.inner.LineReadings.{line_of}
-use Rattle.recording.proofs.Built.{line_word}
 use Rattle.recording.proofs.Spellings.{text_spells, text_written, line_meant}
 
 -- elements that are each a byte
@@ -72,8 +71,7 @@ read_found bytes line r is e = by (is_built_line line) refl
     by : (b : Bool) → is_built_line line ≡ b → IfOk r (λ l. IsReadAs bytes l)
     by true b =
         let ok : built line ≡ Ok (meant line) = rw b refl in
-        let words : has_unbuilt_word (fields line) ≡ false = line_word line ∙ ap not b in
-        subst Good (sym (e ∙ ok)) (record { written = line; spells = is.spells; fits = is.written; built = words; means = refl })
+        subst Good (sym (e ∙ ok)) (record { written = line; spells = is.spells; fits = is.written; built = b; means = refl })
     by false b =
         let none : built line ≡ Err NotBuilt = rw b refl in
         subst Good (sym (e ∙ none)) tt
@@ -92,7 +90,7 @@ read_fits bytes line r is e = by (is_built_line line) refl
         let none : built line ≡ Err NotBuilt = rw b refl in
         subst Good (sym (e ∙ none)) tt
 
--- what is read and not built is a line of the grammar whose word is not built
+-- what is read and not built is a line of the grammar that is not built
 pub read_unbuilt : (bytes : List ℕ) (line : Line) (r : Result Line LineFault) → IsRead bytes line → r ≡ built line → r ≡ Err NotBuilt → IsUnbuilt bytes
 read_unbuilt bytes line r is e refused = by (is_built_line line) refl
   where
@@ -101,4 +99,4 @@ read_unbuilt bytes line r is e refused = by (is_built_line line) refl
         let ok : built line ≡ Ok (meant line) = rw b refl in
         let same : Ok (meant line) ≡ Err NotBuilt = sym ok ∙ (sym e ∙ refused) in
         cc
-    by false b = record { line = line; spells = is.spells; written = is.written; unbuilt = line_word line ∙ ap not b }
+    by false b = record { line = line; spells = is.spells; written = is.written; unbuilt = b }

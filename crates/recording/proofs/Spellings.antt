@@ -1,5 +1,5 @@
 -- The spellings of lines: where their words part, that no line feed stands in them, and how long they are.
-use Rattle.std.proofs.Common.{◌≡◌, ℕ, subst, ◌<◌, ◌≤◌, ◌^◌, List, [], ◌∷◌, ◌++◌, length, refl, arith, rules, codes, ap, sym, ◌∙◌, Bool, true, false, not, eqb, Some, length-append}
+use Rattle.std.proofs.Common.{◌≡◌, ℕ, subst, ◌<◌, ◌≤◌, ◌^◌, List, [], ◌∷◌, ◌++◌, length, refl, arith, rules, codes, ap, sym, ◌∙◌, Bool, true, false, eqb, Some, length-append}
 use Rattle.std.specs.Fmt.{decimal}
 use Rattle.std.specs.List.{slice_split, join_with_byte, AllByRecursion}
 use Rattle.std.proofs.lemmas.Fmt.{length-decimal-le}
@@ -19,7 +19,6 @@ use Rattle.recording.specs.Calls.{device_words, call_words, FitsDevice}
 use Rattle.recording.specs.EventSpelling.{request_word, hardware_words, event_words, FitsHardware, Fits, IsWrittenEvent}
 use Rattle.recording.specs.Bytes.{AreRaw}
 use Rattle.recording.specs.Lines.{fields, spell, IsLine, IsWritten, Spells}
-use Rattle.recording.specs.Unbuilt.{has_unbuilt_word}
 use Rattle.recording.specs.Meaning.{meant, is_built_line, IsReadAs}
 use Rattle.recording.specs.Cut.{NoLineFeed}
 use Rattle.recording.specs.inner.LineReadings.{line_of}
@@ -27,7 +26,7 @@ use Rattle.recording.proofs.Texts.{both}
 use Rattle.recording.proofs.Arguments.{IsWord, AreWords, decimal_IsWord, number_IsWord, spell_text_IsWord, spell_flag_IsWord, signed_IsWord, device_kind_IsWord, key_IsWord, seat_IsWord, guid_IsWord, hex_IsWord}
 use Rattle.recording.proofs.Calls.{call_of_is, call_of-words, call_short}
 use Rattle.recording.proofs.Lengths.{size, join_short, decimal_short, spell_text_short, request_word_short}
-use Rattle.recording.proofs.Built.{meant_line, event_written, means_itself, line_word}
+use Rattle.recording.proofs.Built.{meant_line, event_written, means_itself}
 use Rattle.recording.proofs.ReadLines.{LineIs, line_of_is, parts, line_of-parts, behind_conf, behind_action}
 
 request_word_IsWord : (quiet : Bool) → IsWord (request_word quiet)
@@ -267,31 +266,16 @@ line_built (EventLine e) h = h.built
 line_built End h = refl
 line_built _ h = absurd h
 
-not_not : (b : Bool) → not b ≡ false → b ≡ true
-not_not true e = refl
-not_not false e = cc
-
-is_not : (b : Bool) → not b ≡ true → b ≡ false
-is_not false e = refl
-is_not true e = cc
-
--- a line whose words are built is built, and one of whose words one is not is not
-pub built_by_words : (line : Line) → has_unbuilt_word (fields line) ≡ false → is_built_line line ≡ true
-built_by_words line e = not_not (is_built_line line) (sym (line_word line) ∙ e)
-
-pub unbuilt_by_words : (line : Line) → has_unbuilt_word (fields line) ≡ true → is_built_line line ≡ false
-unbuilt_by_words line e = is_not (is_built_line line) (sym (line_word line) ∙ e)
-
 -- the spelling of a line of a recording is read as it
 pub line_reads : (line : Line) → IsLine line → IsReadAs (spell line) line
 line_reads line h = record {
   written = line;
   spells = Spells.plain line (spell_short line h);
   fits = line_written line h;
-  built = line_word line ∙ ap not (line_built line h);
+  built = line_built line h;
   means = sym (line_means line h);
 }
 
 -- what is read is a line of a recording
 pub read_IsLine : (bytes : List ℕ) (line : Line) → IsReadAs bytes line → IsLine line
-read_IsLine bytes line r = subst IsLine (sym r.means) (line_meant r.written r.fits (built_by_words r.written r.built))
+read_IsLine bytes line r = subst IsLine (sym r.means) (line_meant r.written r.fits r.built)

@@ -9,7 +9,8 @@ use Rattle.std.proofs.lemmas.Slice.Eq.{bytes_eq-Decides}
 use Rattle.std.proofs.Math.Utf8.{encode, encodes, scalar, scalars}
 use borrow.Author.Tests.{ltb-true}
 use Rattle.login_model.specs.Texts.{IsText}
-use Rattle.recording.specs.Text.{stands, hex_digit, spell_byte, spell_text}
+use Rattle.login_base.specs.Labels.{hex_digit}
+use Rattle.recording.specs.Text.{stands, spell_byte, spell_text}
 use Rattle.recording.specs.Bytes.{AreBytes}
 use Rattle.recording.specs.declared.word.Misread.{Misread}
 use Rattle.recording.specs.declared.word.Misread.TheVariants.{Misfit, NoMemory}

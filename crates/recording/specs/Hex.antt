@@ -1,7 +1,7 @@
 -- How bytes are spelled in hex.
 use Rattle.std.specs.Prelude.{ℕ, ◌/◌, ◌%◌, ◌==◌, ◌&&◌, ◌||◌, nat_le, Bool, List, [], ◌∷◌, length}
 use Rattle.std.specs.List.{flat_map, list_all}
-use Rattle.recording.specs.Text.{hex_digit}
+use Rattle.login_base.specs.Labels.{hex_digit}
 
 -- a byte as two digits, in lower case
 abbrev pub spell_pair : ℕ → List ℕ

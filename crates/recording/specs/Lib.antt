@@ -1,9 +1,7 @@
 pub mod Limits
 pub mod Cut
-pub mod Cuts
 pub mod Reading
 pub mod Next
-pub mod Filling
 pub mod Text
 pub mod Bytes
 pub mod Hex
@@ -21,4 +19,3 @@ pub mod MarkWords
 pub mod RuleWords
 pub mod AnswerWords
 pub mod Print
-pub mod Spaced

@@ -11,8 +11,7 @@ use Rattle.recording.specs.declared.line.Line.{Line}
 use Rattle.recording.specs.declared.line.LineFault.{LineFault}
 use Rattle.recording.specs.declared.line.LineFault.TheVariants.{NotBuilt}
 use Rattle.recording.specs.declared.line.Line.TheVariants as line
-use Rattle.recording.specs.Lines.{fields, Spells, IsWritten}
-use Rattle.recording.specs.Unbuilt.{has_unbuilt_word}
+use Rattle.recording.specs.Lines.{Spells, IsWritten}
 use Rattle.login_model.specs.Limits.{text_limit}
 
 -- whether each text of a call is within the limit
@@ -40,7 +39,7 @@ abbrev pub meant : Line → Line
 meant (line.Event e) = line.Event (meant_event e)
 meant l = l
 
--- whether a line is built, by its kind; that this goes by its words is proved
+-- whether a line is built, by its kind or as its event is
 abbrev pub is_built_line : Line → Bool
 is_built_line (line.Conf text) = false
 is_built_line (line.Action text) = false
@@ -54,10 +53,10 @@ is_built_line _ = true
 abbrev pub built : Line → Result Line LineFault
 built l = if is_built_line l then Ok (meant l) else Err NotBuilt
 
--- the bytes are a line of the grammar whose words are built, and this is what it means
+-- the bytes are a line of the grammar that is built, and this is what it means
 pub record IsReadAs (bytes : List ℕ) (line : Line) : Type 0 where
   pub written : Line
   pub spells : Spells written bytes
   pub fits : IsWritten written
-  pub built : has_unbuilt_word (fields written) ≡ false
+  pub built : is_built_line written ≡ true
   pub means : line ≡ meant written

@@ -1,7 +1,6 @@
 -- A reader of lines, and what is left to it.
-use Rattle.std.specs.Prelude.{ℕ, ◌≡◌, ◌+◌, List, ◌++◌, length, take, Option}
+use Rattle.std.specs.Prelude.{ℕ, ◌+◌, List, ◌++◌, length, Option}
 use Rattle.std.specs.Option.{option_map}
-use Rattle.recording.specs.Cut.{first_line}
 
 -- the last line, and what was read from the source behind it
 pub record Reading : Type 0 where
@@ -15,7 +14,3 @@ left_to reader left = option_map (λ rest. reader.held ++ rest) left
 -- at most so many bytes still come to a reader of a source from which at most so many still come
 abbrev pub remaining_to : Reading → ℕ → ℕ
 remaining_to reader remaining = length reader.held + remaining
-
--- whatever follows, this is the first line, or its first 16385 bytes
-abbrev pub IsFirst : List ℕ → Type 0
-IsFirst line = (rest : List ℕ) → take 16385 (first_line (line ++ rest)) ≡ line

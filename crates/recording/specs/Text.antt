@@ -1,14 +1,11 @@
 -- How a text is spelled as one word.
-use Rattle.std.specs.Prelude.{ℕ, ◌+◌, ◌/◌, ◌%◌, ◌==◌, ◌&&◌, not, nat_le, nat_lt, Bool, true, false, if◌then◌else◌, List, [], ◌∷◌, codes}
+use Rattle.std.specs.Prelude.{ℕ, ◌/◌, ◌%◌, ◌==◌, ◌&&◌, not, nat_le, Bool, true, false, if◌then◌else◌, List, [], ◌∷◌, codes}
 use Rattle.std.specs.List.{flat_map}
+use Rattle.login_base.specs.Labels.{hex_digit}
 
 -- a byte that stands for itself: printable ASCII but for the space and `%`
 abbrev pub stands : ℕ → Bool
 stands b = nat_le 33 b && nat_le b 126 && not (b == 37)
-
--- a hex digit in lower case
-abbrev pub hex_digit : ℕ → ℕ
-hex_digit n = if nat_lt n 10 then 48 + n else 87 + n
 
 -- a byte: itself, or `%` and two hex digits
 abbrev pub spell_byte : ℕ → List ℕ

@@ -1,5 +1,7 @@
 -- What serves private functions: how the readers go over the words of a line.
 pub mod CallWords
+pub mod Filling
+pub mod Spaced
 pub mod Arguments
 pub mod CallReadings
 pub mod LineReadings

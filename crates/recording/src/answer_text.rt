@@ -6,7 +6,7 @@ ghost use Rattle.login_model.specs.Paths.{session_path, seat_path, user_path, ru
 ghost use Rattle.recording.specs.AnswerWords.{array, seat_text, found_words, value_words, row_words, session_value, user_value, seat_value, lock_value, why_words, input_value, say_word, answer_words};
 ghost use Rattle.recording.specs.Text.{spell_flag};
 ghost use Rattle.std.specs.Fmt.{decimal};
-ghost use Rattle.recording.specs.Spaced.{spaced};
+ghost use Rattle.recording.specs.inner.Spaced.{spaced};
 
 use crate::fact_text::{push_mode, push_what};
 use crate::line_text::LineText;
@@ -243,6 +243,3 @@ pub(crate) fn push_answer(text: &mut LineText, answer: &Answer) -> Result<(), No
         Answer::Taken(handle, inactive) => push_taken(text, *handle, *inactive),
     }
 }
-
-#[cfg(test)]
-mod tests;

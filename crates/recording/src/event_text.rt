@@ -3,7 +3,7 @@
 ghost use Rattle.std.specs.Prelude.{◌≡◌, ◌++◌, ◌∷◌, OnOk};
 ghost use Rattle.login_model.specs.Words.{device_kind_word, key_word};
 ghost use Rattle.recording.specs.EventSpelling.{request_word, hardware_words, event_words};
-ghost use Rattle.recording.specs.Spaced.{spaced};
+ghost use Rattle.recording.specs.inner.Spaced.{spaced};
 
 use crate::call::{push_call, push_device, push_numbered};
 use crate::line_text::LineText;

@@ -4,6 +4,7 @@
 mod answer_text;
 mod argument;
 mod call;
+mod decimal;
 mod entry;
 mod event;
 mod event_text;
@@ -19,6 +20,7 @@ mod notice_text;
 mod verdict_text;
 mod word;
 
+pub use decimal::push_decimal;
 pub use entry::{WriteEnd, entry_text, write_entry};
 pub use law::{one_grammar, spelled_again};
 pub use line::{Line, LineFault, read_line};

@@ -219,8 +219,3 @@ pub fn read_line(alloc: Global, bytes: &[u8]) -> Result<Line, LineFault>
         Err(fault) => Err(fault),
     }
 }
-
-#[cfg(test)]
-mod causes;
-#[cfg(test)]
-mod tests;

@@ -4,8 +4,9 @@ ghost use Rattle.std.specs.Prelude.{◌≡◌, ◌+◌, ◌<◌, ◌≤◌, [], 
 ghost use Rattle.std.specs.Option.{option_map};
 ghost use Rattle.std.specs.Bool.{OnTrue, OnFalse};
 ghost use Rattle.recording.specs.Cut.{NoLineFeed};
-ghost use Rattle.recording.specs.Reading.{left_to, remaining_to, IsFirst};
-ghost use Rattle.recording.specs.Filling.{Fills, FillCause, FillFalls};
+ghost use Rattle.recording.specs.Limits.{line_room};
+ghost use Rattle.recording.specs.Reading.{left_to, remaining_to};
+ghost use Rattle.recording.specs.inner.Filling.{IsFirst, Fills, FillCause, FillFalls};
 ghost use Rattle.recording.specs.Next.{NextIs, NextCause};
 
 use login_base::NoMemory;
@@ -40,15 +41,15 @@ struct Taken {
 /// Puts bytes behind the front of a line, through its end. It takes no memory.
 fn take_piece(line: &mut Vec<u8>, piece: &[u8]) -> Taken
     requires front { NoLineFeed line.old.items }
-    requires short { vec_len line.old < 16385 }
-    requires room { 16385 ≤ vec_capacity line.old }
+    requires short { vec_len line.old < line_room }
+    requires room { line_room ≤ vec_capacity line.old }
     requires bytes { 0 < length piece.now }
     ensures count { (0 < result.count) × (result.count ≤ length piece.now) }
     ensures line { line.new.items ≡ line.old.items ++ take result.count piece.now }
-    ensures room { (16385 ≤ vec_capacity line.new) × (vec_len line.new ≤ 16385) }
+    ensures room { (line_room ≤ vec_capacity line.new) × (vec_len line.new ≤ line_room) }
     ensures whole { OnTrue result.whole (IsFirst line.new.items) }
     ensures front { OnFalse result.whole
-        (NoLineFeed line.new.items × (vec_len line.new < 16385) × (result.count ≡ length piece.now)) }
+        (NoLineFeed line.new.items × (vec_len line.new < line_room) × (result.count ≡ length piece.now)) }
 {
     for (i, b) in piece.iter().enumerate() {
         line.push_reserved(*b);
@@ -103,6 +104,7 @@ pub struct LineReader {
 
 impl Model for LineReader {
     ghost use Rattle.std.specs.Prelude.{◌≤◌, ◌<◌, take, drop, vec_len, vec_capacity};
+    ghost use Rattle.recording.specs.Limits.{line_room};
     ghost use Rattle.recording.specs.Reading.{Reading};
 
     ghost Value = { Reading };
@@ -110,7 +112,7 @@ impl Model for LineReader {
     ghost view = { λ r. record { line = r.line.items; held = drop r.at (take r.end r.chunk.items) } };
 
     ghost invariant = { λ r. (r.at ≤ r.end) × (r.end ≤ vec_len r.chunk) × (0 < vec_len r.chunk)
-        × (16385 ≤ vec_capacity r.line) × (vec_len r.line ≤ 16385) };
+        × (line_room ≤ vec_capacity r.line) × (vec_len r.line ≤ line_room) };
 }
 
 impl LineReader {
@@ -134,7 +136,7 @@ impl LineReader {
     /// before the end.
     pub fn line(&self) -> &[u8]
         ensures value { result.now ≡ self.now.line }
-        ensures bound { length result.now ≤ 16385 }
+        ensures bound { length result.now ≤ line_room }
     {
         self.line.as_slice()
     }
@@ -173,6 +175,3 @@ impl LineReader {
         }
     }
 }
-
-#[cfg(test)]
-mod tests;

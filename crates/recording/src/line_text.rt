@@ -4,12 +4,17 @@ ghost use Rattle.std.specs.Prelude.{◌≡◌, ◌<◌, ◌++◌, ◌∷◌, [],
 ghost use Rattle.std.specs.Fmt.{decimal, signed_decimal};
 ghost use Rattle.std.specs.List.{flat_map};
 ghost use Rattle.login_base.specs.SessionId.{session_text};
-ghost use Rattle.recording.specs.Text.{hex_digit, spell_byte, spell_text, spell_flag};
+ghost use Rattle.login_base.specs.Labels.{hex_digit};
+ghost use Rattle.recording.specs.Text.{spell_byte, spell_text, spell_flag};
 
+use crate::decimal::push_decimal;
 use crate::word::stands_for_itself;
 use login_base::{NoMemory, SessId, Word};
 use std::alloc::Global;
 use std::marker::Model;
+
+/// A number of 64 bits has at most so many digits in decimal.
+const MOST_DIGITS: usize = 20;
 
 /// The bytes so far. After want of memory it may hold a part of what was to be added.
 #[derive(Debug, Drop)]
@@ -77,11 +82,19 @@ impl LineText {
     }
 
     /// Adds a number in decimal.
+    fn decimal(&mut self, n: u64) -> Result<(), NoMemory>
+        ensures { OnOk result (self.new ≡ self.old ++ decimal n) }
+    {
+        self.bytes.reserve(MOST_DIGITS)?;
+        push_decimal(&mut self.bytes, n);
+        Ok(())
+    }
+
+    /// Adds a number of 32 bits in decimal.
     pub(crate) fn digits(&mut self, n: u32) -> Result<(), NoMemory>
         ensures { OnOk result (self.new ≡ self.old ++ decimal n) }
     {
-        let text = format!(in self.alloc; "{n}")?;
-        self.push(text.as_bytes())
+        self.decimal(u64::from(n))
     }
 
     /// Adds a space and a number in decimal.
@@ -97,17 +110,19 @@ impl LineText {
         ensures { OnOk result (self.new ≡ self.old ++ 32 ∷ decimal n) }
     {
         self.push(b" ")?;
-        let text = format!(in self.alloc; "{n}")?;
-        self.push(text.as_bytes())
+        self.decimal(n)
     }
 
     /// Adds a space and a signed number in decimal.
     pub(crate) fn signed(&mut self, n: i32) -> Result<(), NoMemory>
         ensures { OnOk result (self.new ≡ self.old ++ 32 ∷ signed_decimal n) }
     {
-        self.push(b" ")?;
-        let text = format!(in self.alloc; "{n}")?;
-        self.push(text.as_bytes())
+        if n < 0 {
+            self.push(b" -")?;
+        } else {
+            self.push(b" ")?;
+        }
+        self.digits(n.unsigned_abs())
     }
 
     /// Adds a space and a session's id.

@@ -7,7 +7,7 @@ ghost use Rattle.login_model.specs.Limits.{text_limit};
 
 use crate::word::LONGEST_ID;
 use login_base::Word;
-use login_model::{Call, Event, Request};
+use login_model::{Call, Creation, Event, PropertyName, Request};
 
 fn is_short(text: &Word) -> bool
     ensures { result ≡ nat_le (length text.now) text_limit }
@@ -15,28 +15,38 @@ fn is_short(text: &Word) -> bool
     text.len() <= LONGEST_ID
 }
 
+/// Whether each text of a creation has at most 512 bytes.
+fn is_short_creation(x: &Creation) -> bool
+    ensures { result ≡ are_short (Call.Create x.now) }
+{
+    is_short(&x.service)
+        && is_short(&x.session_type)
+        && is_short(&x.class)
+        && is_short(&x.desktop)
+        && is_short(&x.seat)
+        && is_short(&x.tty)
+        && is_short(&x.display)
+        && is_short(&x.remote_user)
+        && is_short(&x.remote_host)
+}
+
+/// Whether each text of a property's name has at most 512 bytes.
+fn is_short_property(x: &PropertyName) -> bool
+    ensures { result ≡ are_short (Call.GetProperty x.now) }
+{
+    is_short(&x.path) && is_short(&x.interface) && is_short(&x.name)
+}
+
 /// Whether each text of a call has at most 512 bytes.
 fn are_short(call: &Call) -> bool
     ensures { result ≡ are_short call.now }
 {
     match call {
-        Call::Create(x) => {
-            is_short(&x.service)
-                && is_short(&x.session_type)
-                && is_short(&x.class)
-                && is_short(&x.desktop)
-                && is_short(&x.seat)
-                && is_short(&x.tty)
-                && is_short(&x.display)
-                && is_short(&x.remote_user)
-                && is_short(&x.remote_host)
-        }
+        Call::Create(x) => is_short_creation(x),
         Call::Inhibit(x) => {
             is_short(&x.what) && is_short(&x.who) && is_short(&x.why) && is_short(&x.mode)
         }
-        Call::GetProperty(x) | Call::SetProperty(x) => {
-            is_short(&x.path) && is_short(&x.interface) && is_short(&x.name)
-        }
+        Call::GetProperty(x) | Call::SetProperty(x) => is_short_property(x),
         Call::ActivateOnSeat(first, second)
         | Call::Kill(first, second, _)
         | Call::GetAllProperties(first, second) => is_short(first) && is_short(second),

@@ -2,7 +2,7 @@
 
 ghost use Rattle.std.specs.Prelude.{◌≡◌, ◌++◌, ◌∷◌, OnOk};
 ghost use Rattle.recording.specs.MarkWords.{session_or_dash, pause_word, notice_words};
-ghost use Rattle.recording.specs.Spaced.{spaced};
+ghost use Rattle.recording.specs.inner.Spaced.{spaced};
 
 use crate::key_text::{push_device_word, push_number, push_seat, push_session};
 use crate::line_text::LineText;

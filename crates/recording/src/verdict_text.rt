@@ -3,7 +3,7 @@
 ghost use Rattle.std.specs.Prelude.{◌≡◌, ◌++◌, OnOk};
 ghost use Rattle.recording.specs.Print.{verdict_words};
 ghost use Rattle.recording.specs.RuleWords.{rule_label, limit_words, detail_words, rule_words};
-ghost use Rattle.recording.specs.Spaced.{spaced};
+ghost use Rattle.recording.specs.inner.Spaced.{spaced};
 
 use crate::answer_text::push_answer;
 use crate::call::{push_numbered, push_operation};
@@ -111,6 +111,3 @@ pub(crate) fn push_verdict(
         }
     }
 }
-
-#[cfg(test)]
-mod tests;

@@ -1,8 +1,9 @@
 -- The setup that a preamble says meets the conditions of one.
-use Rattle.std.proofs.Common.{◌≡◌, ◌≢◌, ◌≤◌, ◌<◌, ◌+◌, ◌&&◌, ◌==◌, Bool, true, false, ℕ, List, [], ◌∷◌, ◌++◌, length, length-append, refl, arith, ap, sym, ◌∙◌, subst, append_assoc, append-nil, Option, Some, None}
+use Rattle.std.proofs.Common.{◌≡◌, ◌≢◌, ◌≤◌, ◌<◌, ◌+◌, ◌&&◌, ◌==◌, Bool, true, false, ℕ, List, [], ◌∷◌, ◌++◌, length, length-append, refl, arith, sym, subst, append_assoc, append-nil, Option, None, Result, Ok, Err, IfOk}
 use Rattle.std.proofs.lemmas.Bool.Decides.{nat_tests}
 use Rattle.std.specs.List.{AllByRecursion, list_all}
-use Rattle.login_model.specs.Setups.{IsSetup, IsGuid, IsUserRow, IsNewUser, AreDistinct, default_guid, is_hex_byte}
+use Rattle.login_model.specs.Limits.{users_limit}
+use Rattle.login_model.specs.Setups.{IsSetup, IsGuid, IsUserRow, IsNewUser, AreDistinct, is_hex_byte}
 use Rattle.login_model.specs.declared.setup.Setup.{Setup}
 use Rattle.login_model.specs.declared.setup.UserRow.{UserRow}
 use Rattle.recording.specs.Hex.{is_guid}
@@ -10,9 +11,10 @@ use Rattle.recording.specs.Lines.{IsLine}
 use Rattle.recording.specs.declared.line.Line.{Line}
 use Rattle.recording.specs.declared.line.Line.TheVariants.{Header, Guid, User, Conf, Action, Go, Event, Link, In, Hangup, End}
 use Rattle.replay.specs.PreambleLines.{guid_in, users_in, guid_or_default, setup_of, MayFollow, IsPreambleAfter, IsPreamble}
-use Rattle.replay.specs.Preamble.{WasSetUp, SetupGives, SetsUp}
-use Rattle.replay.specs.declared.preamble.SetupEnd.{SetupEnd}
-use Rattle.replay.specs.declared.preamble.SetupEnd.TheVariants as setup
+use Rattle.replay.specs.Preamble.{WasSetUp}
+use Rattle.replay.specs.inner.Opening.{Opens}
+use Rattle.replay.specs.declared.early.Early.{Early}
+use Rattle.replay.specs.declared.preamble.Opening.{Opening}
 use Rattle.replay.proofs.Preambles.{guid_guid, users_guid, guid_user, users_user}
 
 both : (a b : Bool) → (a && b) ≡ true → (a ≡ true) × (b ≡ true)
@@ -24,7 +26,7 @@ both false b e = cc
 record AreUsers (rows : List UserRow) : Type 0 where
   pub users : AllByRecursion IsUserRow rows
   pub distinct : AreDistinct rows
-  pub most : length rows ≤ 1024
+  pub most : length rows ≤ users_limit
 
 rows_more : (rows : List UserRow) (row : UserRow) → AllByRecursion IsUserRow rows → IsUserRow row → AllByRecursion IsUserRow (rows ++ row ∷ [])
 rows_more [] row h r = (r, tt)
@@ -38,7 +40,7 @@ distinct_more : (rows : List UserRow) (row : UserRow) → AreDistinct rows → I
 distinct_more [] row h n = (tt, tt)
 distinct_more (x ∷ rows) row h n = (new_more x.uid.0 rows row h.0 (λ e. n.0 (sym e)), distinct_more rows row h.1 n.1)
 
-users_more : (rows : List UserRow) (row : UserRow) → AreUsers rows → IsUserRow row → IsNewUser row.uid.0 rows → length rows < 1024 → AreUsers (rows ++ row ∷ [])
+users_more : (rows : List UserRow) (row : UserRow) → AreUsers rows → IsUserRow row → IsNewUser row.uid.0 rows → length rows < users_limit → AreUsers (rows ++ row ∷ [])
 users_more rows row h r n few = record {
   users = rows_more rows row h.users r;
   distinct = distinct_more rows row h.distinct n;
@@ -64,7 +66,7 @@ guid_fits before guid h g none = record {
   users = subst AreUsers (sym (users_guid before guid)) h.users;
 }
 
-user_fits : (before : List Line) (row : UserRow) → AreFit before → IsUserRow row → IsNewUser row.uid.0 (users_in before) → length (users_in before) < 1024 → AreFit (before ++ User row ∷ [])
+user_fits : (before : List Line) (row : UserRow) → AreFit before → IsUserRow row → IsNewUser row.uid.0 (users_in before) → length (users_in before) < users_limit → AreFit (before ++ User row ∷ [])
 user_fits before row h r n few = record {
   guid = subst (λ (o : Option (List ℕ)). IsGuid (guid_or_default o)) (sym (guid_user before row)) h.guid;
   users = subst AreUsers (sym (users_user before row)) (users_more (users_in before) row h.users r n few);
@@ -100,8 +102,6 @@ was_setup : (before : Option (List ℕ)) (s : Setup) (count : ℕ) (left : Optio
 was_setup before s count left h = subst IsSetup (sym h.setup_is) (preamble_is_setup h.preamble h.is_preamble)
 
 -- a setup that was read meets the conditions of one
-pub sets_up : (before after left : Option (List ℕ)) (r : SetupEnd) → SetupGives before after left r → SetsUp r
-sets_up before after left (setup.Ready s count) h = was_setup before s count after h
-sets_up before after left (setup.Script number cause) h = tt
-sets_up before after left setup.ReadFault h = tt
-sets_up before after left setup.NoMemory h = tt
+pub opens_set_up : (before after left : Option (List ℕ)) (r : Result Opening Early) → Opens before after left r → IfOk r (λ opening. IsSetup opening.setup)
+opens_set_up before after left (Ok opening) h = was_setup before opening.setup opening.count after h
+opens_set_up before after left (Err e) h = tt

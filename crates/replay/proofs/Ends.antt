@@ -1,7 +1,8 @@
 -- How a replay goes on and ends.
-use Rattle.std.proofs.Common.{◌<◌, ◌≤◌, ◌≡◌, ℕ, ◌+◌, List, [], ◌∷◌, ◌++◌, length, refl, arith, ap, sym, ◌∙◌, subst, append_assoc, append-nil, Option, Some, None}
+use Rattle.std.proofs.Common.{◌<◌, ◌≤◌, ◌≡◌, ℕ, ◌+◌, List, [], ◌∷◌, ◌++◌, length, refl, arith, ap, sym, ◌∙◌, subst, append_assoc, append-nil, Option, Some, None, Err}
 use Rattle.std.specs.Option.{IfSome}
 use Rattle.login_edge.specs.Texts.{Gains, GainsFront}
+use Rattle.login_edge.specs.Gained.{Gains-nothing, Gains-whole, Gains-front-more}
 use Rattle.login_model.specs.declared.count.Count.{Count}
 use Rattle.login_model.specs.declared.mark.Entry.{Entry}
 use Rattle.recording.specs.declared.line.Line.{Line}
@@ -14,7 +15,11 @@ use Rattle.replay.specs.Written.{Splits, WereRead}
 use Rattle.replay.specs.PreambleLines.{IsPreamble}
 use Rattle.replay.specs.Recording.{most_lines}
 use Rattle.replay.specs.Front.{Front, fresh, headed, going, ended, lines_of, text_of, Takes, IsFront}
-use Rattle.replay.specs.Ahead.{IsNoLine, Torn, Partly}
+use Rattle.replay.specs.inner.Ahead.{IsNoLine, Torn, Partly, BreaksOff, EndsBehind, EndsPast}
+use Rattle.replay.specs.inner.Running.{EndsEarly}
+use Rattle.replay.specs.inner.Writing.{Writes}
+use Rattle.replay.specs.declared.early.Early.{Early}
+use Rattle.replay.specs.declared.early.Early.TheVariants as early
 use Rattle.replay.specs.Causes.{IsOwnCause, IsCause}
 use Rattle.replay.specs.Outcome.{RefusedAt, FullAt, Broken, Fronted, IsPast, IsRefusal, IsFull}
 use Rattle.replay.specs.declared.cause.Cause.{Cause}
@@ -97,6 +102,11 @@ pub left_partly : (reader : Reading) (left : Option (List ℕ)) → IfSome (left
 left_partly reader None = tt
 left_partly reader (Some rest) = record { part = reader.held; rest = rest; split = refl; left_is = refl }
 
+-- to a reader that holds nothing all is left that the source has
+pub nothing_held : (reader : Reading) (left : Option (List ℕ)) → reader.held ≡ [] → left_to reader left ≡ left
+nothing_held reader None h = refl
+nothing_held reader (Some rest) h = ap (λ (held : List ℕ). Some (held ++ rest)) h
+
 -- a line that was read, and what follows it
 pub line_partly : (l : Line) (left after now : Option (List ℕ)) → WereRead left (l ∷ []) after → IfSome after (λ text. Partly text now) → IfSome left (λ text. Partly text now)
 line_partly l None after now e h = tt
@@ -111,7 +121,7 @@ line_partly l (Some text) (Some r) now e h =
     }
 
 -- a line that may not come next
-pub stops_wrong : (f : Front) (l : Line) (left after : Option (List ℕ)) → WereRead left (l ∷ []) after → (Takes f l → ⊥) → IfSome left (Stops f)
+stops_wrong : (f : Front) (l : Line) (left after : Option (List ℕ)) → WereRead left (l ∷ []) after → (Takes f l → ⊥) → IfSome left (Stops f)
 stops_wrong f l None after e not_next = tt
 stops_wrong f l (Some text) None e not_next = absurd (nothing_left text e.split)
 stops_wrong f l (Some text) (Some r) e not_next =
@@ -122,20 +132,19 @@ stops_wrong f l (Some text) (Some r) e not_next =
     }
 
 -- a line that is none
-pub stops_none : (f : Front) (left : Option (List ℕ)) (cause : Cause) → IfSome left (λ text. IsNoLine cause text) → IfSome left (Stops f)
-stops_none f None cause h = tt
-stops_none f (Some rest) cause h = record { none = λ m k t. h.none m k; early = λ s k. h.some k }
+stops_none : (f : Front) (left : Option (List ℕ)) (cause : Cause) → (f.stage ≡ ended → IfSome left (λ text. text ≡ [] → ⊥)) → IfSome left (λ text. IsNoLine cause text) → IfSome left (Stops f)
+stops_none f None cause some h = tt
+stops_none f (Some rest) cause some h = record { none = λ m k t. h.none m k; early = λ s. some s }
 
 -- the end of the text, before the end of the recording
-pub stops_early : (f : Front) (left now : Option (List ℕ)) → IfSome left (λ text. (text ≡ []) × (now ≡ Some [])) → (f.stage ≡ ended → ⊥) → IfSome left (Stops f)
-stops_early f None now h not_ended = tt
-stops_early f (Some rest) now h not_ended = record {
-  none = λ m k t. read_some (first_line rest) m [] k (append-nil (first_line rest) ∙ ap first_line h.0);
+stops_early : (f : Front) (rest : List ℕ) → rest ≡ [] → (f.stage ≡ ended → ⊥) → Stops f rest
+stops_early f rest h not_ended = record {
+  none = λ m k t. read_some (first_line rest) m [] k (append-nil (first_line rest) ∙ ap first_line h);
   early = λ s k. not_ended s;
 }
 
 -- why a line is refused that may not come next
-pub cause_wrong : (f : Front) (l : Line) (left after : Option (List ℕ)) → length (lines_of f) < most_lines → WereRead left (l ∷ []) after → (Takes f l → ⊥)
+cause_wrong : (f : Front) (l : Line) (left after : Option (List ℕ)) → length (lines_of f) < most_lines → WereRead left (l ∷ []) after → (Takes f l → ⊥)
     → IfSome left (IsRefusal WrongPlace f)
 cause_wrong f l None after within e not_next = tt
 cause_wrong f l (Some text) None within e not_next = absurd (nothing_left text e.split)
@@ -161,7 +170,7 @@ own_is_cause Ended f rest h = h
 own_is_cause NotBuilt f rest h = h
 
 -- why a line is refused that is none
-pub cause_none : (f : Front) (left : Option (List ℕ)) (cause : Cause) → length (lines_of f) < most_lines → IfSome left (λ text. IsNoLine cause text) → IfSome left (IsRefusal cause f)
+cause_none : (f : Front) (left : Option (List ℕ)) (cause : Cause) → length (lines_of f) < most_lines → IfSome left (λ text. IsNoLine cause text) → IfSome left (IsRefusal cause f)
 cause_none f None cause within h = tt
 cause_none f (Some rest) cause within h = record { own = λ k. own_is_cause cause f rest h.own; past = λ k. absurd (omega (arith, k, within)) }
 
@@ -169,18 +178,30 @@ ended_fault : line_fault [] ≡ Some fault.Ended
 unfolding line_fault
 ended_fault = refl
 
--- why the end of the text is refused
-pub cause_early : (f : Front) (left now : Option (List ℕ)) → IfSome left (λ text. (text ≡ []) × (now ≡ Some [])) → IfSome left (IsRefusal Ended f)
-cause_early f None now h = tt
-cause_early f (Some rest) now h = record { own = λ k. rw h.0 ended_fault; past = λ k. h.0 }
+-- where nothing is left, no line follows
+pub ended_no_line : (left now : Option (List ℕ)) → IfSome left (λ text. (text ≡ []) × (now ≡ Some [])) → IfSome left (λ text. IsNoLine Ended text)
+ended_no_line None now h = tt
+ended_no_line (Some rest) now h = record {
+  none = λ m k. read_some (first_line rest) m [] k (append-nil (first_line rest) ∙ ap first_line h.0);
+  own = rw h.0 ended_fault;
+}
 
--- a line behind as many as there may be
-pub cause_past : (f : Front) (left : Option (List ℕ)) → length (lines_of f) ≡ most_lines → IfSome left (λ text. text ≡ [] → ⊥) → IfSome left (IsRefusal TooLong f)
-cause_past f None full h = tt
-cause_past f (Some rest) full h = record { own = λ k. absurd (omega (arith, k, full)); past = λ k. h }
+-- a line that is none is one, where something is left
+pub refused_no_line : (left : Option (List ℕ)) (cause : Cause) → IfSome left (λ text. (text ≡ [] → ⊥) × IsNoLine cause text) → IfSome left (λ text. IsNoLine cause text)
+refused_no_line None cause h = tt
+refused_no_line (Some rest) cause h = h.1
+
+pub refused_some : (left : Option (List ℕ)) (cause : Cause) → IfSome left (λ text. (text ≡ [] → ⊥) × IsNoLine cause text) → IfSome left (λ text. text ≡ [] → ⊥)
+refused_some None cause h = tt
+refused_some (Some rest) cause h = h.0
+
+-- what is left is nothing
+pub ended_past : (left now : Option (List ℕ)) → IfSome left (λ text. (text ≡ []) × (now ≡ Some [])) → IfSome left (λ text. text ≡ [])
+ended_past None now h = tt
+ended_past (Some rest) now h = h.0
 
 -- the cause of a line behind so many
-pub cause_by : (f : Front) (left : Option (List ℕ)) (number : ℕ) (own cause : Cause) → number ≡ length (lines_of f) → number ≤ most_lines → (number < most_lines → cause ≡ own) → (number ≡ most_lines → cause ≡ TooLong)
+cause_by : (f : Front) (left : Option (List ℕ)) (number : ℕ) (own cause : Cause) → number ≡ length (lines_of f) → number ≤ most_lines → (number < most_lines → cause ≡ own) → (number ≡ most_lines → cause ≡ TooLong)
     → (number < most_lines → IfSome left (IsRefusal own f)) → IfSome left (λ text. text ≡ [] → ⊥) → IfSome left (IsRefusal cause f)
 cause_by f None number own cause count most below past why some = tt
 cause_by f (Some rest) number own cause count most below past why some = record {
@@ -194,12 +215,8 @@ some_line l None after e = tt
 some_line l (Some text) None e = absurd (nothing_left text e.split)
 some_line l (Some text) (Some r) e = text_is_some text l r (told_split text (l ∷ []) r e)
 
-pub some_none : (left : Option (List ℕ)) (cause : Cause) → IfSome left (λ text. IsNoLine cause text) → IfSome left (λ text. text ≡ [] → ⊥)
-some_none None cause h = tt
-some_none (Some rest) cause h = h.some
-
 -- as many lines as there may be were read, and no end
-pub ends_full : (f : Front) (all left before after : Option (List ℕ)) (cause : Cause) → IsFront f → Reached all f left → length (lines_of f) ≡ most_lines → (f.stage ≡ ended → ⊥)
+ends_full : (f : Front) (all left before after : Option (List ℕ)) (cause : Cause) → IsFront f → Reached all f left → length (lines_of f) ≡ most_lines → (f.stage ≡ ended → ⊥)
     → IfSome left (IsRefusal cause f) → Gains before after (text_of f) → IfSome all (λ text. RefusedAt (most_lines + 1) cause text before after)
 ends_full f None left before after cause h a full not_ended why w = tt
 ends_full f (Some text) None before after cause h a full not_ended why w = absurd (nothing_left text a.split)
@@ -211,10 +228,14 @@ ends_full f (Some text) (Some rest) before after cause h a full not_ended why w 
       is_front = h;
       read = s;
       count = omega (arith, full);
-      refused = refused_full f text rest h s full (λ e. stops_early f (Some rest) (Some []) (e, refl) not_ended);
+      refused = refused_full f text rest h s full (λ e. stops_early f rest e not_ended);
       caused = why;
       wrote = w;
     }
+
+cause_past : (f : Front) (left : Option (List ℕ)) (cause : Cause) → length (lines_of f) ≡ most_lines → IfSome left (IsPast cause) → IfSome left (IsRefusal cause f)
+cause_past f None cause full h = tt
+cause_past f (Some rest) cause full h = record { own = λ k. absurd (omega (arith, k, full)); past = λ k. h }
 
 -- the front before the first line
 abbrev pub fresh_front : Front
@@ -233,3 +254,84 @@ headed_is_front ls h = record { play = nothing_played ls h; stage_fits = refl; r
 -- the front behind it
 abbrev pub going_front : List Line → List Entry → Front
 going_front ls es = record { stage = going; preamble = ls; journal = es }
+
+-- a text was read to this front and its transcript written: so it ends where the source fails or memory lacks
+pub breaks_here : (f : Front) (all left now start held : Option (List ℕ)) (e : Early) → IsFront f → Reached all f left → Gains start held (text_of f) → BreaksOff left now e
+    → EndsEarly all now start held e
+breaks_here f all left now start held early.ReadFault h a w e = ends_broken f all left now start held h a e w
+breaks_here f all left now start held early.NoMemory h a w e = ends_front f all left now start held h a e (Gains-whole start held (text_of f) w)
+breaks_here f all left now start held early.WriteFault h a w e = absurd e
+breaks_here f all left now start held (early.Full count) h a w e = absurd e
+breaks_here f all left now start held (early.Script line cause) h a w e = absurd e
+
+-- where no line follows
+pub behind_here : (f : Front) (number : ℕ) (all left now start held : Option (List ℕ)) (e : Early) → IsFront f → Reached all f left → number ≡ length (lines_of f) → number < most_lines
+    → (f.stage ≡ ended → ⊥) → Gains start held (text_of f) → EndsBehind number left now e → EndsEarly all now start held e
+behind_here f number all left now start held (early.Script line cause) h a count within not_ended w e =
+    subst (λ (n : ℕ). IfSome all (λ text. RefusedAt n cause text start held)) (sym e.0)
+    (ends_refused f all left start held (number + 1) cause h a (omega (arith, within)) (stops_none f left cause (λ s. absurd (not_ended s)) e.1)
+    (cause_none f left cause (omega (arith, count, within)) e.1) (ap (λ (n : ℕ). n + 1) count) w)
+behind_here f number all left now start held early.ReadFault h a count within not_ended w e = breaks_here f all left now start held early.ReadFault h a w e
+behind_here f number all left now start held early.NoMemory h a count within not_ended w e = breaks_here f all left now start held early.NoMemory h a w e
+behind_here f number all left now start held early.WriteFault h a count within not_ended w e = absurd e
+behind_here f number all left now start held (early.Full full) h a count within not_ended w e = absurd e
+
+-- where as many lines as there may be were read
+pub past_here : (f : Front) (all left now start held : Option (List ℕ)) (e : Early) → IsFront f → Reached all f left → length (lines_of f) ≡ most_lines
+    → (f.stage ≡ ended → ⊥) → Gains start held (text_of f) → EndsPast left now e → EndsEarly all now start held e
+past_here f all left now start held (early.Script line cause) h a full not_ended w e =
+    subst (λ (n : ℕ). IfSome all (λ text. RefusedAt n cause text start held)) (sym e.0)
+    (ends_full f all left start held cause h a full not_ended (cause_past f left cause full e.1) w)
+past_here f all left now start held early.ReadFault h a full not_ended w e = breaks_here f all left now start held early.ReadFault h a w e
+past_here f all left now start held early.NoMemory h a full not_ended w e = breaks_here f all left now start held early.NoMemory h a w e
+past_here f all left now start held early.WriteFault h a full not_ended w e = absurd e
+past_here f all left now start held (early.Full count) h a full not_ended w e = absurd e
+
+-- where a line follows that may not come next
+pub misplaced_here : (f : Front) (number : ℕ) (all left after start held : Option (List ℕ)) (l : Line) → IsFront f → Reached all f left → number ≡ length (lines_of f) → number < most_lines
+    → Gains start held (text_of f) → WereRead left (l ∷ []) after → (Takes f l → ⊥) → IfSome all (λ text. RefusedAt (number + 1) WrongPlace text start held)
+misplaced_here f number all left after start held l h a count within w r bars =
+    ends_refused f all left start held (number + 1) WrongPlace h a (omega (arith, within)) (stops_wrong f l left after r bars)
+    (cause_wrong f l left after (omega (arith, count, within)) r bars) (ap (λ (n : ℕ). n + 1) count) w
+
+-- where a line follows behind the end, whatever it is
+pub line_behind : (f : Front) (number : ℕ) (all left after start held : Option (List ℕ)) (l : Line) (cause : Cause) → IsFront f → Reached all f left → number ≡ length (lines_of f) → number ≤ most_lines
+    → Gains start held (text_of f) → WereRead left (l ∷ []) after → (Takes f l → ⊥) → (number < most_lines → cause ≡ WrongPlace) → (number ≡ most_lines → cause ≡ TooLong)
+    → IfSome all (λ text. RefusedAt (number + 1) cause text start held)
+line_behind f number all left after start held l cause h a count within w r bars below past =
+    ends_refused f all left start held (number + 1) cause h a (omega (arith, within)) (stops_wrong f l left after r bars)
+    (cause_by f left number WrongPlace cause count within below past (λ b. cause_wrong f l left after (omega (arith, b, count)) r bars) (some_line l left after r))
+    (ap (λ (n : ℕ). n + 1) count) w
+
+pub none_behind : (f : Front) (number : ℕ) (all left start held : Option (List ℕ)) (own cause : Cause) → IsFront f → Reached all f left → number ≡ length (lines_of f) → number ≤ most_lines
+    → Gains start held (text_of f) → IfSome left (λ text. (text ≡ [] → ⊥) × IsNoLine own text) → (number < most_lines → cause ≡ own) → (number ≡ most_lines → cause ≡ TooLong)
+    → IfSome all (λ text. RefusedAt (number + 1) cause text start held)
+none_behind f number all left start held own cause h a count within w none below past =
+    let is = refused_no_line left own none in
+    let some = refused_some left own none in
+    ends_refused f all left start held (number + 1) cause h a (omega (arith, within)) (stops_none f left own (λ s. some) is)
+    (cause_by f left number own cause count within below past (λ b. cause_none f left own (omega (arith, b, count)) is) some)
+    (ap (λ (n : ℕ). n + 1) count) w
+
+-- nothing was written
+stays_front : (held after : Option (List ℕ)) (text : List ℕ) → after ≡ held → GainsFront held after text
+stays_front held after text e = record { count = 0; gained = subst (λ (o : Option (List ℕ)). Gains held o []) (sym e) (Gains-nothing held) }
+
+-- where the last part of its transcript is not written whole
+pub writes_here : (f : Front) (all left now start held after : Option (List ℕ)) (done more : List ℕ) (e : Early) → IsFront f → Reached all f left → IfSome left (λ text. Partly text now)
+    → text_of f ≡ done ++ more → Gains start held done → Writes held after more (Err e) → EndsEarly all now start after e
+writes_here f all left now start held after done more early.WriteFault h a part is w k =
+    ends_front f all left now start after h a part (subst (λ (t : List ℕ). GainsFront start after t) (sym is) (Gains-front-more start held after done more w k))
+writes_here f all left now start held after done more early.NoMemory h a part is w k =
+    ends_front f all left now start after h a part (subst (λ (t : List ℕ). GainsFront start after t) (sym is) (Gains-front-more start held after done more w (stays_front held after more k)))
+writes_here f all left now start held after done more early.ReadFault h a part is w k = absurd k
+writes_here f all left now start held after done more (early.Full count) h a part is w k = absurd k
+writes_here f all left now start held after done more (early.Script line cause) h a part is w k = absurd k
+
+-- the source fails, or memory lacks, behind the most lines
+pub breaks_past : (left now : Option (List ℕ)) (e : Early) → BreaksOff left now e → EndsPast left now e
+breaks_past left now early.ReadFault h = h
+breaks_past left now early.NoMemory h = h
+breaks_past left now early.WriteFault h = absurd h
+breaks_past left now (early.Full count) h = absurd h
+breaks_past left now (early.Script line cause) h = absurd h

@@ -1,9 +1,9 @@
 -- How a replay goes on behind `go`.
-use Rattle.std.proofs.Common.{◌≡◌, ◌<◌, ◌≤◌, ℕ, ◌+◌, List, [], ◌∷◌, ◌++◌, length, refl, arith, ap, sym, ◌∙◌, subst, append_assoc, append-nil, length-append, Option, Some, None}
+use Rattle.std.proofs.Common.{◌≡◌, ◌<◌, ℕ, ◌+◌, List, [], ◌∷◌, ◌++◌, length, refl, arith, ap, sym, ◌∙◌, subst, append_assoc, append-nil, length-append, Option, Some, None, Result, Ok, Err}
 use Rattle.std.specs.Option.{IfSome}
 use Rattle.std.proofs.lemmas.List.{map-append}
 use Rattle.login_edge.specs.Texts.{Gains, GainsFront}
-use Rattle.login_edge.specs.Gained.{Gains-more, Gains-front-more, Gains-whole}
+use Rattle.login_edge.specs.Gained.{Gains-nothing, Gains-more, Gains-front-more}
 use Rattle.login_model.specs.declared.count.Count.{Count}
 use Rattle.login_model.specs.declared.event.Event.{Event as AnEvent}
 use Rattle.login_model.specs.declared.mark.Entry.{Entry}
@@ -14,28 +14,26 @@ use Rattle.login_core.specs.State.{CoreState}
 use Rattle.recording.specs.declared.line.Line.{Line}
 use Rattle.recording.specs.declared.line.Line.TheVariants.{Event, End}
 use Rattle.recording.specs.Lines.{IsLine, IsEventLine}
-use Rattle.recording.specs.Print.{transcript_head, block, blocks}
+use Rattle.recording.specs.Print.{transcript_start, block, blocks}
 use Rattle.replay.specs.Written.{WereRead, Splits}
 use Rattle.replay.specs.PreambleLines.{setup_of}
 use Rattle.replay.specs.Recording.{most_lines, IsPlay}
 use Rattle.replay.specs.Front.{going, ended, lines_at, text_at, Takes, IsFront}
-use Rattle.replay.specs.Ahead.{Torn, Partly}
-use Rattle.replay.specs.Outcome.{RefusedAt, FullAt, Broken, Fronted, IsRefusal, IsFull}
+use Rattle.replay.specs.Outcome.{RefusedAt, FullAt, Fronted, IsFull}
 use Rattle.replay.specs.Preamble.{WasSetUp}
-use Rattle.replay.specs.Playing.{Makes, Stepped, StepBroken}
-use Rattle.replay.specs.Replaying.{SoFar, WriteRises}
-use Rattle.replay.specs.Turns.{ReadTurns, IsReadless, IsReadEnd}
-use Rattle.replay.specs.declared.replaying.Turn.{Turn}
-use Rattle.replay.specs.declared.replaying.Turn.TheVariants.{Next, Closed, Over}
-use Rattle.replay.specs.declared.replaying.ReplayEnd.{ReplayEnd}
-use Rattle.replay.specs.declared.replaying.ReplayEnd.TheVariants as replay
-use Rattle.replay.specs.declared.cause.Cause.{Cause}
+use Rattle.replay.specs.inner.Ahead.{Partly, EndsBehind, EndsPast}
+use Rattle.replay.specs.inner.Playing.{Makes, Stepped, StepBroken, MakesRoom, Plays}
+use Rattle.replay.specs.Replaying.{ReplayGives}
+use Rattle.replay.specs.inner.Running.{EndsEarly, RunGives, end_of, SoFar}
+use Rattle.replay.specs.inner.Turns.{PlaysTurn}
+use Rattle.replay.specs.inner.Writing.{Writes}
+use Rattle.replay.specs.declared.early.Early.{Early}
+use Rattle.replay.specs.declared.early.Early.TheVariants as early
 use Rattle.replay.specs.declared.cause.Cause.TheVariants.{WrongPlace}
 use Rattle.replay.proofs.Written.{read_on, told_split, is_line}
 use Rattle.replay.proofs.Journals.{room_more}
 use Rattle.replay.proofs.Recordings.{all_push, nothing_played}
-use Rattle.replay.proofs.Ends.{ends_refused, ends_filled, ends_broken, ends_front, ends_full, stops_wrong, cause_wrong, going_front}
-use Rattle.replay.proofs.Refusals.{Stops}
+use Rattle.replay.proofs.Ends.{ends_filled, ends_front, breaks_here, behind_here, past_here, misplaced_here, writes_here, line_partly, going_front}
 
 abbrev Told : Type 0
 Told = Option (List ℕ)
@@ -54,17 +52,18 @@ blocks-push n (x ∷ es) e =
     ∙ (sym (append_assoc (block n x) (blocks (n + 1) es) (block (n + 1 + length es) e))
     ∙ ap (λ (k : ℕ). (block n x ++ blocks (n + 1) es) ++ block k e) (omega arith))
 
-text_more : (es : List Entry) (e : Entry) → text_at going (es ++ e ∷ []) ≡ text_at going es ++ block (length es + 1) e
-text_more es e =
+text_more : (ls : List Line) (es : List Entry) (e : Entry) → text_at going ls (es ++ e ∷ []) ≡ text_at going ls es ++ block (length es + 1) e
+text_more ls es e =
+    let start = transcript_start ls in
     let same : block (1 + length es) e ≡ block (length es + 1) e = ap (λ (n : ℕ). block n e) (omega arith) in
-    ap (λ (t : List ℕ). transcript_head ++ t) (blocks-push 1 es e)
-    ∙ (sym (append_assoc transcript_head (blocks 1 es) (block (1 + length es) e)) ∙ ap (λ (t : List ℕ). (transcript_head ++ blocks 1 es) ++ t) same)
+    ap (λ (t : List ℕ). start ++ t) (blocks-push 1 es e)
+    ∙ (sym (append_assoc start (blocks 1 es) (block (1 + length es) e)) ∙ ap (λ (t : List ℕ). (start ++ blocks 1 es) ++ t) same)
 
-wrote_more : (es : List Entry) (e : Entry) (a b c : Told) → Gains a b (text_at going es) → Gains b c (block (length es + 1) e) → Gains a c (text_at going (es ++ e ∷ []))
-wrote_more es e a b c h k = subst (λ (t : List ℕ). Gains a c t) (sym (text_more es e)) (Gains-more a b c (text_at going es) (block (length es + 1) e) h k)
+wrote_more : (ls : List Line) (es : List Entry) (e : Entry) (a b c : Told) → Gains a b (text_at going ls es) → Gains b c (block (length es + 1) e) → Gains a c (text_at going ls (es ++ e ∷ []))
+wrote_more ls es e a b c h k = subst (λ (t : List ℕ). Gains a c t) (sym (text_more ls es e)) (Gains-more a b c (text_at going ls es) (block (length es + 1) e) h k)
 
-wrote_front_more : (es : List Entry) (e : Entry) (a b c : Told) → Gains a b (text_at going es) → GainsFront b c (block (length es + 1) e) → GainsFront a c (text_at going (es ++ e ∷ []))
-wrote_front_more es e a b c h k = subst (λ (t : List ℕ). GainsFront a c t) (sym (text_more es e)) (Gains-front-more a b c (text_at going es) (block (length es + 1) e) h k)
+wrote_front_more : (ls : List Line) (es : List Entry) (e : Entry) (a b c : Told) → Gains a b (text_at going ls es) → GainsFront b c (block (length es + 1) e) → GainsFront a c (text_at going ls (es ++ e ∷ []))
+wrote_front_more ls es e a b c h k = subst (λ (t : List ℕ). GainsFront a c t) (sym (text_more ls es e)) (Gains-front-more a b c (text_at going ls es) (block (length es + 1) e) h k)
 
 -- one more entry of a play
 play_more : (ls : List Line) (es : List Entry) (entry : Entry) (e : AnEvent) → IsPlay ls es → IsLegal (setup_of ls) (es ++ entry ∷ []) → IsEventLine e → entry.event ≡ e → IsPlay ls (es ++ entry ∷ [])
@@ -100,20 +99,21 @@ count_end : (ls : List Line) (es : List Entry) (n : ℕ) → n ≡ length (lines
 count_end ls es n c = omega (arith, c, ap length (lines_ended ls es), length-append (lines_at going ls es) (End ∷ []))
 
 -- the first line of the transcript is all that a setup without events has
-head_alone : transcript_head ≡ text_at going []
+start_alone : (ls : List Line) → transcript_start ls ≡ text_at going ls []
 unfolding blocks
-head_alone = sym (append-nil transcript_head)
+start_alone ls = sym (append-nil (transcript_start ls))
 
--- a setup was read, and a front of the first line of the transcript was written
-pub setup_front : (setup : Setup) (first : ℕ) (all left now held after : Told) → WasSetUp all setup first left → IfSome left (λ text. Partly text now) → GainsFront held after transcript_head
-    → IfSome all (λ text. Fronted text now held after)
-setup_front setup first all left now held after s part w =
-    ends_front (going_front s.preamble []) all left now held after (record { play = nothing_played s.preamble s.is_preamble; stage_fits = tt; room = tt }) s.read part
-    (subst (λ (t : List ℕ). GainsFront held after t) head_alone w)
+-- a setup was read, and the first line of the transcript is not written whole
+pub setup_ends : (setup : Setup) (first : ℕ) (all left now held after : Told) (e : Early) → (s : WasSetUp all setup first left) → IfSome left (λ text. Partly text now)
+    → Writes held after (transcript_start s.preamble) (Err e) → EndsEarly all now held after e
+setup_ends setup first all left now held after e s part w =
+    let ls = s.preamble in
+    writes_here (going_front ls []) all left now held held after [] (transcript_start ls) e (record { play = nothing_played ls s.is_preamble; stage_fits = tt; room = tt }) s.read part
+    (sym (start_alone ls)) (Gains-nothing held) w
 
 -- a text whose setup was read
-pub set_up : (core : CoreState) (setup : Setup) (first : ℕ) (all left start held : Told) → core.setup ≡ setup → core.journal ≡ [] → WasSetUp all setup first left
-    → Gains start held transcript_head → SoFar going core first all left start held
+pub set_up : (core : CoreState) (setup : Setup) (first : ℕ) (all left start held : Told) → core.setup ≡ setup → core.journal ≡ [] → (s : WasSetUp all setup first left)
+    → Gains start held (transcript_start s.preamble) → SoFar going core first all left start held
 set_up core setup first all left start held is none s w =
     let j : [] ≡ core.journal = sym none in
     record {
@@ -122,7 +122,8 @@ set_up core setup first all left start held is none s w =
       is_front = subst (λ (es : List Entry). IsFront (going_front s.preamble es)) j (record { play = nothing_played s.preamble s.is_preamble; stage_fits = tt; room = tt });
       count = subst (λ (es : List Entry). first ≡ length (lines_at going s.preamble es)) j s.count_is;
       read = subst (λ (es : List Entry). WereRead all (lines_at going s.preamble es) left) j s.read;
-      wrote = subst (λ (es : List Entry). Gains start held (text_at going es)) j (subst (λ (t : List ℕ). Gains start held t) head_alone w);
+      wrote = subst (λ (es : List Entry). Gains start held (text_at going s.preamble es)) j
+          (subst (λ (t : List ℕ). Gains start held t) (start_alone s.preamble) w);
     }
 
 -- one more event was played
@@ -138,7 +139,7 @@ so_far_more core new number all left after start held now l e s r is step =
       is_front = subst (λ (j : List Entry). IsFront (going_front ls j)) journal (front_more ls core entry l e left after s.setup_is s.is_front step.makes r is);
       count = subst (λ (j : List Entry). number + 1 ≡ length (lines_at going ls j)) journal (count_more ls core.journal entry number s.count);
       read = subst (λ (j : List Entry). WereRead all (lines_at going ls j) after) journal (read_event ls core.journal entry l e all left after s.read r is step.makes.event_is);
-      wrote = subst (λ (j : List Entry). Gains start now (text_at going j)) journal (wrote_more core.journal entry start held now s.wrote step.wrote);
+      wrote = subst (λ (j : List Entry). Gains start now (text_at going ls j)) journal (wrote_more ls core.journal entry start held now s.wrote step.wrote);
     }
 
 -- the line `end` was read
@@ -157,34 +158,20 @@ so_far_ended core number all left after start held l s r is =
       wrote = s.wrote;
     }
 
--- how it ends there
-pub events_refused : (core : CoreState) (number : ℕ) (all left start held : Told) (cause : Cause) → (s : SoFar going core number all left start held) → number ≤ most_lines
-    → IfSome left (Stops (going_front s.preamble core.journal)) → IfSome left (IsRefusal cause (going_front s.preamble core.journal)) → IfSome all (λ text. RefusedAt (number + 1) cause text start held)
-events_refused core number all left start held cause s within stop why =
-    ends_refused (going_front s.preamble core.journal) all left start held (number + 1) cause s.is_front s.read (omega (arith, within)) stop why (ap (λ (n : ℕ). n + 1) s.count) s.wrote
+-- how it ends where no line follows, or more lines than there may be
+pub events_behind : (core : CoreState) (number : ℕ) (all left now start held : Told) (e : Early) → SoFar going core number all left start held → number < most_lines → EndsBehind number left now e → EndsEarly all now start held e
+events_behind core number all left now start held e s within b =
+    behind_here (going_front s.preamble core.journal) number all left now start held e s.is_front s.read s.count within (λ k. cc) s.wrote b
 
-pub events_broken : (core : CoreState) (number : ℕ) (all left now start held : Told) → SoFar going core number all left start held → IfSome left (λ text. Torn text now) → IfSome all (λ text. Broken text now start held)
-events_broken core number all left now start held s torn = ends_broken (going_front s.preamble core.journal) all left now start held s.is_front s.read torn s.wrote
+pub events_past : (core : CoreState) (number : ℕ) (all left now start held : Told) (e : Early) → SoFar going core number all left start held → number ≡ most_lines → EndsPast left now e → EndsEarly all now start held e
+events_past core number all left now start held e s full b =
+    past_here (going_front s.preamble core.journal) all left now start held e s.is_front s.read (sym s.count ∙ full) (λ k. cc) s.wrote b
 
-pub events_front : (core : CoreState) (number : ℕ) (all left now start held : Told) → SoFar going core number all left start held → IfSome left (λ text. Partly text now) → IfSome all (λ text. Fronted text now start held)
-events_front core number all left now start held s part =
-    ends_front (going_front s.preamble core.journal) all left now start held s.is_front s.read part (Gains-whole start held (text_at going core.journal) s.wrote)
-
-pub events_past : (core : CoreState) (number : ℕ) (all left start held : Told) (cause : Cause) → (s : SoFar going core number all left start held) → number ≡ most_lines
-    → IfSome left (IsRefusal cause (going_front s.preamble core.journal)) → IfSome all (λ text. RefusedAt (most_lines + 1) cause text start held)
-events_past core number all left start held cause s full why =
-    ends_full (going_front s.preamble core.journal) all left start held cause s.is_front s.read (sym s.count ∙ full) (λ e. cc) why s.wrote
-
--- an event that may not come next
-event_misplaced : (ls : List Line) (es : List Entry) (l : Line) (e : AnEvent) → l ≡ Event e → (IsPlaced es e → ⊥) → Takes (going_front ls es) l → ⊥
-event_misplaced ls es l e is unplaced t = unplaced (subst (λ (x : Line). Takes (going_front ls es) x) is t)
-
-pub event_refused : (core : CoreState) (number : ℕ) (all left after start held : Told) (l : Line) (e : AnEvent) → SoFar going core number all left start held → number < most_lines
-    → WereRead left (l ∷ []) after → l ≡ Event e → (IsPlaced core.journal e → ⊥) → IfSome all (λ text. RefusedAt (number + 1) WrongPlace text start held)
-event_refused core number all left after start held l e s within r is unplaced =
-    let no = event_misplaced s.preamble core.journal l e is unplaced in
-    let f = going_front s.preamble core.journal in
-    events_refused core number all left start held WrongPlace s (omega (arith, within)) (stops_wrong f l left after r no) (cause_wrong f l left after (omega (arith, within, s.count)) r no)
+-- where a line follows that may not stand there
+pub events_misplaced : (core : CoreState) (number : ℕ) (all left after start held : Told) (l : Line) → (s : SoFar going core number all left start held) → number < most_lines
+    → WereRead left (l ∷ []) after → ((ls : List Line) → Takes (going_front ls core.journal) l → ⊥) → IfSome all (λ text. RefusedAt (number + 1) WrongPlace text start held)
+events_misplaced core number all left after start held l s within r bars =
+    misplaced_here (going_front s.preamble core.journal) number all left after start held l s.is_front s.read s.count within s.wrote r (bars s.preamble)
 
 -- an event that finds the journal full
 full_here : (ls : List Line) (core : CoreState) (left after : Told) (l : Line) (e : AnEvent) (count : Count) → core.setup ≡ setup_of ls → WereRead left (l ∷ []) after → l ≡ Event e → IsPlaced core.journal e
@@ -213,19 +200,40 @@ event_broken core number all left after source start held now l e s r is step pa
     let ls = s.preamble in
     let entry = step.entry in
     ends_front (going_front ls (core.journal ++ entry ∷ [])) all after source start now (front_more ls core entry l e left after s.setup_is s.is_front step.makes r is)
-    (read_event ls core.journal entry l e all left after s.read r is step.makes.event_is) part (wrote_front_more core.journal entry start held now s.wrote step.wrote)
+    (read_event ls core.journal entry l e all left after s.read r is step.makes.event_is) part (wrote_front_more ls core.journal entry start held now s.wrote step.wrote)
 
--- the counts of faults
-pub read_turns : (turn : Turn) (before now : ℕ) → IsReadless turn → now ≡ before → ReadTurns before now turn
-read_turns Next before now h e = e
-read_turns Closed before now h e = e
-read_turns (Over replay.Done) before now h e = e
-read_turns (Over (replay.Script number cause)) before now h e = e
-read_turns (Over (replay.Full count)) before now h e = e
-read_turns (Over replay.ReadFault) before now h e = absurd h
-read_turns (Over replay.WriteFault) before now h e = e
-read_turns (Over replay.NoMemory) before now h e = e
+-- an event that may come next, and was not played whole
+pub plays_early : (core new : CoreState) (number : ℕ) (x : AnEvent) (held now : Told) (e : Early) → number < most_lines → Plays core x new held now (Err e)
+    → PlaysTurn core new x number held now (Err e)
+plays_early core new number x held now (early.Full count) within h = λ before after source r part all start s.
+    subst (λ (o : Told). IfSome all (λ text. FullAt count text start o)) (sym h.2) (event_full core number all before after start held (Event x) x count s within r refl h.0 h.1)
+plays_early core new number x held now early.WriteFault within h = λ before after source r part all start s.
+    event_broken core number all before after source start held now (Event x) x s r refl h part
+plays_early core new number x held now early.NoMemory within h = λ before after source r part all start s.
+    subst (λ (o : Told). IfSome all (λ text. Fronted text source start o)) (sym h)
+    (breaks_here (going_front s.preamble core.journal) all before source start held early.NoMemory s.is_front s.read s.wrote (line_partly (Event x) before after source r part))
+plays_early core new number x held now early.ReadFault within h = absurd h
+plays_early core new number x held now (early.Script line cause) within h = absurd h
 
-pub write_rises : (end : ReplayEnd) (before now : ℕ) → IsReadEnd end → now ≡ before → WriteRises before now end
-write_rises replay.WriteFault before now h e = absurd h
-write_rises _ before now h e = e
+-- an event that may not come next
+pub plays_not : (core new : CoreState) (number : ℕ) (x : AnEvent) (held : Told) → number < most_lines → (IsPlaced core.journal x → ⊥)
+    → PlaysTurn core new x number held held (Err (early.Script (number + 1) WrongPlace))
+plays_not core new number x held within bars = λ before after source r part all start s.
+    events_misplaced core number all before after start held (Event x) s within r (λ ls t. bars t)
+
+-- no room for an event that may come next
+pub room_plays : (core new : CoreState) (x : AnEvent) (held : Told) (e : Early) → IsPlaced core.journal x → MakesRoom core new x (Err e) → Plays core x new held held (Err e)
+room_plays core new x held (early.Full count) placed h = (placed, h, refl)
+room_plays core new x held early.NoMemory placed h = refl
+room_plays core new x held early.WriteFault placed h = absurd h
+room_plays core new x held early.ReadFault placed h = absurd h
+room_plays core new x held (early.Script line cause) placed h = absurd h
+
+-- the end that is answered
+pub gives_end : (all left before after : Told) (r : Result (Unit {0}) Early) → RunGives all left before after r → ReplayGives all left before after (end_of r)
+gives_end all left before after (Ok u) h = h
+gives_end all left before after (Err (early.Script line cause)) h = h
+gives_end all left before after (Err (early.Full count)) h = h
+gives_end all left before after (Err early.ReadFault) h = h
+gives_end all left before after (Err early.WriteFault) h = h
+gives_end all left before after (Err early.NoMemory) h = h

@@ -7,11 +7,10 @@ pub mod Reading
 pub mod Reasons
 pub mod Ends
 pub mod Setups
+pub mod Rising
 pub mod Finishes
 pub mod Placed
-pub mod Numbers
 pub mod Events
-pub mod Decimals
 pub mod SpelledLines
 pub mod Laws
 pub mod Conditions

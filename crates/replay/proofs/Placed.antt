@@ -1,5 +1,5 @@
 -- Which events may come next.
-use Rattle.std.proofs.Common.{◌≡◌, List, [], ◌∷◌, true, None}
+use Rattle.std.proofs.Common.{◌≡◌, List, None}
 use Rattle.std.specs.List.{AllByRecursion}
 use Rattle.login_model.specs.declared.hardware.Hardware.{Hardware}
 use Rattle.login_model.specs.declared.hardware.Hardware.TheVariants.{Exit}
@@ -11,7 +11,7 @@ use Rattle.login_model.specs.Stopping.{stopped}
 use Rattle.login_model.specs.Texts.{IsText, hardware_texts}
 use Rattle.recording.specs.EventSpelling.{FitsHardware, Fits as FitsLine}
 use Rattle.recording.specs.Lines.{IsEventLine}
-use Rattle.replay.specs.Placing.{IsNamed}
+use Rattle.replay.specs.inner.Placing.{IsNamed}
 
 hardware_fits : (x : Hardware) → FitsHardware x → AllByRecursion (IsText 512) (hardware_texts x)
 hardware_fits (Exit id) f = (f, tt)

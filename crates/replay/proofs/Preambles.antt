@@ -1,5 +1,5 @@
 -- Laws of the lines of a preamble.
-use Rattle.std.proofs.Common.{◌≡◌, ◌≤◌, ◌+◌, ℕ, List, [], ◌∷◌, ◌++◌, length, length-append, refl, arith, ap, ◌∙◌, subst, append_assoc, append-nil, Option, Some, None}
+use Rattle.std.proofs.Common.{◌≡◌, ◌+◌, ℕ, List, [], ◌∷◌, ◌++◌, refl, ap, ◌∙◌, subst, append_assoc, append-nil, Some, None}
 use Rattle.login_model.specs.declared.setup.UserRow.{UserRow}
 use Rattle.recording.specs.declared.line.Line.{Line}
 use Rattle.recording.specs.declared.line.Line.TheVariants.{Header, Guid, User, Conf, Action, Go, Event, Link, In, Hangup, End}
@@ -117,36 +117,3 @@ pub users_user : (ls : List Line) (row : UserRow) → users_in (ls ++ User row �
 users_user [] row = refl
 users_user (User other ∷ ls) row = ap (λ (rows : List UserRow). other ∷ rows) (users_user ls row)
 users_user (_ ∷ ls) row = users_user ls row
-
-abbrev given : Option (List ℕ) → ℕ
-given None = 0
-given (Some guid) = 1
-
-given_one : (o : Option (List ℕ)) → given o ≤ 1
-given_one None = omega arith
-given_one (Some guid) = omega arith
-
-few_after : (before ls : List Line) → IsPreambleAfter before ls → length (users_in before) ≤ 1024 → length ls + length (users_in before) + given (guid_in before) ≤ 1025
-few_after before [] h few = omega (arith, few, given_one (guid_in before))
-few_after before (Guid guid ∷ ls) h few =
-    let users : length (users_in (before ++ Guid guid ∷ [])) ≡ length (users_in before) = ap length (users_guid before guid) in
-    let one : given (guid_in (before ++ Guid guid ∷ [])) ≡ 1 = ap given (guid_guid before guid h.1) in
-    let none : given (guid_in before) ≡ 0 = ap given h.1 in
-    omega (arith, users, one, none, few_after (before ++ Guid guid ∷ []) ls h.2 (omega (arith, users, few)))
-few_after before (User row ∷ ls) h few =
-    let users : length (users_in (before ++ User row ∷ [])) ≡ length (users_in before) + 1 = ap length (users_user before row) ∙ length-append (users_in before) (row ∷ []) in
-    let same : given (guid_in (before ++ User row ∷ [])) ≡ given (guid_in before) = ap given (guid_user before row) in
-    omega (arith, users, same, few_after (before ++ User row ∷ []) ls h.2 (omega (arith, users, h.1.1)))
-few_after before (Header version ∷ ls) h few = absurd h.1
-few_after before (Conf text ∷ ls) h few = absurd h.1
-few_after before (Action text ∷ ls) h few = absurd h.1
-few_after before (Go ∷ ls) h few = absurd h.1
-few_after before (Event e ∷ ls) h few = absurd h.1
-few_after before (Link c u ∷ ls) h few = absurd h.1
-few_after before (In c bytes ∷ ls) h few = absurd h.1
-few_after before (Hangup c ∷ ls) h few = absurd h.1
-few_after before (End ∷ ls) h few = absurd h.1
-
--- a preamble has at most one identity and 1024 users
-pub few_lines : (ls : List Line) → IsPreamble ls → length ls ≤ 1025
-few_lines ls h = omega (arith, few_after [] ls h (omega arith))

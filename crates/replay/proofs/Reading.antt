@@ -6,9 +6,10 @@ use Rattle.recording.specs.declared.line.Line.{Line}
 use Rattle.recording.specs.declared.line_reader.Next.TheVariants as next
 use Rattle.recording.specs.Cut.{first_line}
 use Rattle.recording.specs.Meaning.{IsReadAs}
+use Rattle.recording.specs.Limits.{line_room}
 use Rattle.recording.specs.Reading.{Reading, left_to}
 use Rattle.recording.specs.Next.{NextIs}
-use Rattle.replay.specs.Ahead.{IsNoLine, Torn, Partly}
+use Rattle.replay.specs.inner.Ahead.{IsNoLine, Partly}
 use Rattle.replay.specs.Causes.{IsOwnCause, own_fault}
 use Rattle.replay.specs.declared.cause.Cause.{Cause}
 use Rattle.replay.specs.declared.cause.Cause.TheVariants.{UnknownWord, BadNumber, BadHex, MissingWord, ExtraWord, TooLong, WrongPlace, BadName, Ended, NotBuilt}
@@ -24,19 +25,6 @@ use Rattle.replay.proofs.Written.{read_feed}
 abbrev pub Came : Option (List ℕ) → Reading → Option (List ℕ) → Type 0
 Came before new left = before ≡ option_map (λ rest. new.line ++ rest) (left_to new left)
 
-pub nothing_came : (before left : Option (List ℕ)) (new : Reading) → Came before new left → NextIs before new next.End → IfSome before (λ text. (text ≡ []) × (left ≡ Some []))
-nothing_came before None new came is = rw came tt
-nothing_came before (Some r) new came is =
-    let gone : before ≡ Some r = came ∙ rw (is.0, is.1) refl in
-    let none : r ≡ [] = rw gone at is.2 in
-    rw (gone, none) (refl, refl)
-
-pub part_came : (before left : Option (List ℕ)) (new : Reading) → Came before new left → NextIs before new next.ReadFault → IfSome before (λ text. Torn text left)
-part_came before None new came is = rw came tt
-part_came before (Some r) new came is =
-    let gone : before ≡ Some (new.line ++ r) = came ∙ rw is.1 refl in
-    rw gone (record { part = new.line; rest = r; feedless = is.0; split = refl; left_is = refl })
-
 pub line_came : (before left : Option (List ℕ)) (new : Reading) → Came before new left → IfSome before (λ text. Partly text left)
 line_came before None new came = rw came tt
 line_came before (Some r) new came = rw came (record { part = new.line ++ new.held; rest = r; split = sym (append_assoc new.line new.held r); left_is = refl })
@@ -50,21 +38,20 @@ read_came before left new l came is = record {
 }
 
 -- a first line that is read as something is read whole
-whole_read : (text line : List ℕ) (l : Line) → line ≡ take 16385 (first_line text) → IsReadAs (first_line text) l → IsReadAs line l
+whole_read : (text line : List ℕ) (l : Line) → line ≡ take line_room (first_line text) → IsReadAs (first_line text) l → IsReadAs line l
 whole_read text line l is r =
     let short = (read_feed (first_line text) l r).short in
-    subst (λ (t : List ℕ). IsReadAs t l) (sym (is ∙ take_all 16385 (first_line text) short)) r
+    subst (λ (t : List ℕ). IsReadAs t l) (sym (is ∙ take_all line_room (first_line text) short)) r
 
-pub no_line_came : (before : Option (List ℕ)) (new : Reading) (cause : Cause) → NextIs before new next.Line → ((l : Line) → IsReadAs new.line l → ⊥) → IfSome before (IsOwnCause cause) → IfSome before (λ text. IsNoLine cause text)
+pub no_line_came : (before : Option (List ℕ)) (new : Reading) (cause : Cause) → NextIs before new next.Line → ((l : Line) → IsReadAs new.line l → ⊥) → IfSome before (IsOwnCause cause) → IfSome before (λ text. (text ≡ [] → ⊥) × IsNoLine cause text)
 no_line_came None new cause is none own = tt
-no_line_came (Some text) new cause is none own = record {
-  some = λ e. let k : new.line ≡ [] = is.1 ∙ ap (λ (x : List ℕ). take 16385 (first_line x)) e in omega (arith, is.0, ap length k);
-  none = λ l r. none l (whole_read text new.line l is.1 r);
-  own = own;
-}
+no_line_came (Some text) new cause is none own = (
+  λ e. let k : new.line ≡ [] = is.1 ∙ ap (λ (x : List ℕ). take line_room (first_line x)) e in omega (arith, is.0, ap length k),
+  record { none = λ l r. none l (whole_read text new.line l is.1 r); own = own },
+)
 
 -- the cause that a fault of the line gives
-own_line : (text : List ℕ) (new : Reading) (cause : Cause) (f : LineFault) → new.line ≡ take 16385 (first_line text) → own_fault cause ≡ Some f → line_fault new.line ≡ Some f → line_fault (first_line text) ≡ own_fault cause
+own_line : (text : List ℕ) (new : Reading) (cause : Cause) (f : LineFault) → new.line ≡ take line_room (first_line text) → own_fault cause ≡ Some f → line_fault new.line ≡ Some f → line_fault (first_line text) ≡ own_fault cause
 own_line text new cause f is own at = sym (fault_of_front text) ∙ (ap line_fault (sym is) ∙ (at ∙ sym own))
 
 pub own_came : (before : Option (List ℕ)) (new : Reading) (cause : Cause) (f : LineFault) → NextIs before new next.Line → own_fault cause ≡ Some f

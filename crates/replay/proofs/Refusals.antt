@@ -4,7 +4,7 @@ use Rattle.std.proofs.Math.Seq.{take-append-add}
 use Rattle.std.proofs.lemmas.List.{take_at}
 use Rattle.recording.specs.declared.line.Line.{Line}
 use Rattle.recording.specs.Cut.{cut, first_line}
-use Rattle.recording.specs.Cuts.{cut_head}
+use Rattle.recording.proofs.Cuts.{cut_head}
 use Rattle.recording.specs.Meaning.{IsReadAs}
 use Rattle.replay.specs.Written.{AreReadAs, Splits}
 use Rattle.replay.specs.Recording.{recording, IsPlay, IsRecording, most_lines}

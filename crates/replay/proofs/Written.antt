@@ -5,7 +5,8 @@ use Rattle.std.specs.List.{join_with_byte}
 use Rattle.std.proofs.lemmas.Grind.{flat_map-append}
 use Rattle.recording.specs.declared.line.Line.{Line}
 use Rattle.recording.specs.Cut.{NoLineFeed, first_line, cut}
-use Rattle.recording.specs.Cuts.{cut_line, first_through_feed}
+use Rattle.recording.proofs.Cuts.{cut_line, first_through_feed}
+use Rattle.recording.specs.Limits.{line_room}
 use Rattle.recording.specs.Lines.{Spells, IsWritten, IsLine, fields}
 use Rattle.recording.specs.Meaning.{IsReadAs}
 use Rattle.recording.proofs.Grammar.{reads_one}
@@ -20,7 +21,7 @@ pub record Fed (bytes : List ℕ) : Type 0 where
   pub text : List ℕ
   pub whole : bytes ≡ text ++ 10 ∷ []
   pub feedless : NoLineFeed text
-  pub short : length bytes ≤ 16385
+  pub short : length bytes ≤ line_room
 
 fed_spelled : (line : Line) (bytes : List ℕ) → Spells line bytes → IsWritten line → Fed bytes
 fed_spelled line bytes (Spells.plain l short) w = record { text = join_with_byte 32 (fields l); whole = refl; feedless = written_no_feed l w; short = short }

@@ -4,7 +4,7 @@ use Rattle.login_model.specs.declared.mark.Entry.{Entry}
 use Rattle.login_model.specs.Legal.{IsPlaced}
 use Rattle.recording.specs.declared.line.Line.{Line}
 use Rattle.recording.specs.declared.line.Line.TheVariants.{Header, Guid, User, Go, Event, End}
-use Rattle.recording.specs.Print.{transcript_head, transcript, blocks}
+use Rattle.recording.specs.Print.{transcript_front, transcript}
 use Rattle.replay.specs.PreambleLines.{setup_of, MayFollow}
 use Rattle.replay.specs.Recording.{recording, event_line, IsPlay, HasRoom}
 
@@ -29,15 +29,15 @@ lines_at ended preamble journal = recording preamble journal
 abbrev pub lines_of : Front → List Line
 lines_of f = lines_at f.stage f.preamble f.journal
 
-abbrev pub text_at : Stage → List Entry → List ℕ
-text_at fresh journal = []
-text_at headed journal = []
-text_at going journal = transcript_head ++ blocks 1 journal
-text_at ended journal = transcript journal
+abbrev pub text_at : Stage → List Line → List Entry → List ℕ
+text_at fresh preamble journal = []
+text_at headed preamble journal = []
+text_at going preamble journal = transcript_front preamble journal
+text_at ended preamble journal = transcript preamble journal
 
 -- the transcript of the lines so far
 abbrev pub text_of : Front → List ℕ
-text_of f = text_at f.stage f.journal
+text_of f = text_at f.stage f.preamble f.journal
 
 abbrev pub StageFits : Stage → List Line → List Entry → Type 0
 StageFits fresh preamble journal = (preamble ≡ []) × (journal ≡ [])

@@ -7,12 +7,8 @@ pub mod Causes
 pub mod Outcome
 pub mod Spelled
 pub mod Stopping
-pub mod Ahead
+pub mod Rising
 pub mod Preamble
-pub mod Placing
-pub mod Playing
 pub mod Replaying
-pub mod Turns
-pub mod Behind
-pub mod Writing
 pub mod Reporting
+pub mod inner

@@ -20,7 +20,7 @@ use Rattle.replay.specs.Causes.{IsCause}
 use Rattle.replay.specs.declared.cause.Cause.{Cause}
 use Rattle.replay.specs.declared.cause.Cause.TheVariants.{TooLong, Ended}
 
--- the text is a recording of at most 4000000000 lines, and no event of it finds the journal full
+-- the text is a recording with no more lines than one may have, and no event of it finds the journal full
 pub record IsRecordingText (text : List ℕ) : Type 0 where
   pub preamble : List Line
   pub journal : List Entry
@@ -34,9 +34,9 @@ pub record Replayed (text : List ℕ) (left before after : Option (List ℕ)) : 
   pub recorded : IsRecordingText text
   pub lawful : IsLawful (setup_of recorded.preamble) recorded.journal
   pub read_to_end : left ≡ Some []
-  pub wrote : Gains before after (transcript recorded.journal)
+  pub wrote : Gains before after (transcript recorded.preamble recorded.journal)
 
--- behind 4000000000 lines each line is too long a recording, and `end` may be missing
+-- behind the most lines each line is too long a recording, and `end` may be missing
 abbrev pub IsPast : Cause → List ℕ → Type 0
 IsPast TooLong rest = rest ≡ [] → ⊥
 IsPast Ended rest = rest ≡ []

@@ -3,6 +3,7 @@ use Rattle.std.specs.Prelude.{ℕ, ◌≡◌, ◌<◌, List, [], ◌∷◌, ◌+
 use Rattle.login_model.specs.declared.setup.UserRow.{UserRow}
 use Rattle.login_model.specs.declared.setup.Setup.{Setup}
 use Rattle.login_model.specs.Conf.{default_conf}
+use Rattle.login_model.specs.Limits.{users_limit}
 use Rattle.login_model.specs.Table.{default_table}
 use Rattle.login_model.specs.Setups.{default_guid, IsNewUser}
 use Rattle.recording.specs.declared.line.Line.{Line}
@@ -30,10 +31,10 @@ unfoldable pub setup_of : List Line → Setup
 setup_of lines = record { guid = guid_or_default (guid_in lines); users = users_in lines; conf = default_conf; table = default_table }
 
 -- a line may stand in a preamble behind these: the first identity, or a user that none of them gives, of
--- at most 1024
+-- so many as a setup may have
 abbrev pub MayFollow : List Line → Line → Type 0
 MayFollow before (Guid guid) = guid_in before ≡ None
-MayFollow before (User row) = IsNewUser row.uid.0 (users_in before) × (length (users_in before) < 1024)
+MayFollow before (User row) = IsNewUser row.uid.0 (users_in before) × (length (users_in before) < users_limit)
 MayFollow before _ = ⊥
 
 abbrev pub IsPreambleAfter : List Line → List Line → Type 0

@@ -5,7 +5,7 @@ use Rattle.recording.specs.Cut.{cut}
 use Rattle.replay.specs.Written.{AreReadAs}
 use Rattle.replay.specs.Recording.{IsRecording, most_lines}
 
--- the first so many lines of a text are read as those of some recording, and are at most 4000000000
+-- the first so many lines of a text are read as those of some recording, and are no more than one may have
 pub record Begins (text : List ℕ) (count : ℕ) : Type 0 where
   pub lines : List Line
   pub recorded : IsRecording lines

@@ -3,6 +3,7 @@
 
 mod ahead;
 mod cause;
+mod early;
 mod law;
 mod placing;
 mod play;
@@ -10,9 +11,10 @@ mod player;
 mod preamble;
 mod replaying;
 mod reporting;
+mod run;
 
 pub use cause::Cause;
 pub use law::{one_cause, one_recording, one_refusal, one_stop, spelled_recording};
 pub use preamble::{SetupEnd, read_setup};
 pub use replaying::{ReplayEnd, replay_all};
-pub use reporting::report;
+pub use reporting::{StatusLine, report};

@@ -4,7 +4,7 @@ ghost use Rattle.std.specs.Prelude.{◌≡◌, ◌↔◌, IsTrue};
 ghost use Rattle.login_model.specs.Legal.{IsPlaced, trail_of};
 ghost use Rattle.login_model.specs.Where.{is_connected};
 ghost use Rattle.recording.specs.Lines.{IsEventLine};
-ghost use Rattle.replay.specs.Placing.{IsNamed};
+ghost use Rattle.replay.specs.inner.Placing.{IsNamed};
 
 use crate::player::Player;
 use login_base::ConnId;

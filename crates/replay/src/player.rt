@@ -7,7 +7,7 @@ ghost use Rattle.login_model.specs.Legal.{IsAsked, IsUnused};
 ghost use Rattle.login_model.specs.Setups.{IsSetup};
 ghost use Rattle.login_core.specs.Fullness.{always_fits};
 ghost use Rattle.login_core.specs.State.{IsSame, RoomGives};
-ghost use Rattle.replay.specs.Placing.{Uses};
+ghost use Rattle.replay.specs.inner.Placing.{Uses};
 
 use login_base::{ConnId, NoMemory};
 use login_core::{Core, Refused};
@@ -26,7 +26,7 @@ pub struct Player {
 
 impl Model for Player {
     ghost use Rattle.login_core.specs.State.{CoreState};
-    ghost use Rattle.replay.specs.Placing.{AreUsed};
+    ghost use Rattle.replay.specs.inner.Placing.{AreUsed};
 
     ghost Value = { CoreState };
 

@@ -1,17 +1,22 @@
 // The preamble of a recording: its header, and the lines that say the setup.
 
 ghost use Rattle.std.specs.Prelude.{[], ◌≡◌, ◌<◌, ◌↔◌, IsTrue, IfOk, length, None};
-ghost use Rattle.login_model.specs.Setups.{IsNewUser};
+ghost use Rattle.login_model.specs.Setups.{IsNewUser, IsSetup};
 ghost use Rattle.login_model.specs.Conf.{default_conf};
+ghost use Rattle.login_model.specs.Limits.{users_limit};
 ghost use Rattle.login_model.specs.Table.{default_table};
 ghost use Rattle.recording.specs.Reading.{left_to};
 ghost use Rattle.recording.specs.declared.line.Line.TheVariants.{Guid, User};
 ghost use Rattle.replay.specs.PreambleLines.{guid_or_default};
 ghost use Rattle.replay.specs.Front.{fresh, takes_at};
-ghost use Rattle.replay.specs.Preamble.{Takes, TakesLine, SetupGives, BehindHeader, SetupCause, SetsUp};
+ghost use Rattle.replay.specs.Preamble.{SetupGives, SetsUp, is_failed_setup};
+ghost use Rattle.replay.specs.Rising.{Rises};
+ghost use Rattle.replay.specs.inner.Early.{failed, of_reading};
+ghost use Rattle.replay.specs.inner.Opening.{Takes, TakesLine, Opens, BehindHeader};
 
-use crate::ahead::{Ahead, read_ahead};
+use crate::ahead::{MOST_LINES, next_line, read_past};
 use crate::cause::Cause;
+use crate::early::Early;
 use login_base::{Items, NoMemory, Uid, Word};
 use login_edge::Source;
 use login_model::{Conf, Setup, Table, UserRow};
@@ -34,8 +39,16 @@ pub enum SetupEnd {
     NoMemory,
 }
 
-/// How many users a setup may have. Beside them a preamble has one guid at most, and go.
+/// How many users a setup may have.
 const MOST_USERS: u32 = 1024;
+
+/// What the lines through `go` said.
+#[derive(Drop)]
+pub struct Opening {
+    pub setup: Setup,
+    /// How many lines were read.
+    pub count: u32,
+}
 
 /// What the lines of a preamble said so far.
 #[derive(Drop)]
@@ -62,7 +75,7 @@ fn is_new_user(users: &Items<UserRow>, uid: Uid) -> bool
 
 /// Whether a user may come behind these.
 fn is_next_user(users: &Items<UserRow>, uid: Uid) -> bool
-    ensures { IsTrue result ↔ (IsNewUser uid.0 users.now × (length users.now < 1024)) }
+    ensures { IsTrue result ↔ (IsNewUser uid.0 users.now × (length users.now < users_limit)) }
 {
     users.len() < MOST_USERS as usize && is_new_user(users, uid)
 }
@@ -135,31 +148,30 @@ impl Preamble {
 }
 
 /// Reads the lines of a recording behind its header, through `go`.
-fn read_lines<S: Source>(alloc: Global, lines: &mut LineReader, source: &mut S) -> SetupEnd
+fn read_lines<S: Source>(
+    alloc: Global,
+    lines: &mut LineReader,
+    source: &mut S,
+) -> Result<Opening, Early>
     ensures gives { BehindHeader (left_to lines.old (S.left source.old)) (left_to lines.new (S.left source.new)) (S.left source.new) result }
-    ensures cause { SetupCause (S.faults source.old) (S.faults source.new) result }
+    ensures cause { Rises (failed of_reading result) (S.faults source.old) (S.faults source.new) }
 {
     let mut preamble = Preamble::new(alloc);
-    for number in 1..=MOST_USERS + 2 {
-        match read_ahead(alloc, lines, source) {
-            Ahead::Line(line) => match preamble.take_line(line) {
-                Ok(Taken::Row) => {}
-                Ok(Taken::Go) => {
-                    return match preamble.setup(alloc) {
-                        Ok(setup) => SetupEnd::Ready(setup, number + 1),
-                        Err(_) => SetupEnd::NoMemory,
-                    };
-                }
-                Ok(Taken::Refused) => return SetupEnd::Script(number + 1, Cause::WrongPlace),
-                Err(_) => return SetupEnd::NoMemory,
-            },
-            Ahead::Refused(cause) => return SetupEnd::Script(number + 1, cause),
-            Ahead::End => return SetupEnd::Script(number + 1, Cause::Ended),
-            Ahead::ReadFault => return SetupEnd::ReadFault,
-            Ahead::NoMemory => return SetupEnd::NoMemory,
+    for number in 1..MOST_LINES {
+        let line = next_line(alloc, lines, source, number)?;
+        match preamble.take_line(line)? {
+            Taken::Row => {}
+            Taken::Go => {
+                let setup = preamble.setup(alloc)?;
+                return Ok(Opening {
+                    setup,
+                    count: number + 1,
+                });
+            }
+            Taken::Refused => return Err(Early::Script(number + 1, Cause::WrongPlace)),
         }
     }
-    unreachable!()
+    Err(read_past(alloc, lines, source))
 }
 
 /// Whether a line is the header.
@@ -173,24 +185,36 @@ fn is_header(line: &Line) -> bool
 }
 
 /// Reads the lines of a recording through `go`.
+pub fn read_opening<S: Source>(
+    alloc: Global,
+    lines: &mut LineReader,
+    source: &mut S,
+) -> Result<Opening, Early>
+    ensures gives { Opens (left_to lines.old (S.left source.old)) (left_to lines.new (S.left source.new)) (S.left source.new) result }
+    ensures set_up { IfOk result (λ opening. IsSetup opening.setup) }
+    ensures cause { Rises (failed of_reading result) (S.faults source.old) (S.faults source.new) }
+{
+    let line = next_line(alloc, lines, source, 0)?;
+    let is_first = is_header(&line);
+    drop(line);
+    if is_first {
+        read_lines(alloc, lines, source)
+    } else {
+        Err(Early::Script(1, Cause::WrongPlace))
+    }
+}
+
+/// Reads the lines of a recording through `go`.
 pub fn read_setup<S: Source>(alloc: Global, lines: &mut LineReader, source: &mut S) -> SetupEnd
     ensures gives { SetupGives (left_to lines.old (S.left source.old)) (left_to lines.new (S.left source.new)) (S.left source.new) result }
     ensures set_up { SetsUp result }
-    ensures cause { SetupCause (S.faults source.old) (S.faults source.new) result }
+    ensures cause { Rises (is_failed_setup result) (S.faults source.old) (S.faults source.new) }
 {
-    match read_ahead(alloc, lines, source) {
-        Ahead::Line(line) => {
-            let is_first = is_header(&line);
-            drop(line);
-            if is_first {
-                read_lines(alloc, lines, source)
-            } else {
-                SetupEnd::Script(1, Cause::WrongPlace)
-            }
-        }
-        Ahead::Refused(cause) => SetupEnd::Script(1, cause),
-        Ahead::End => SetupEnd::Script(1, Cause::Ended),
-        Ahead::ReadFault => SetupEnd::ReadFault,
-        Ahead::NoMemory => SetupEnd::NoMemory,
+    match read_opening(alloc, lines, source) {
+        Ok(opening) => SetupEnd::Ready(opening.setup, opening.count),
+        Err(Early::Script(number, cause)) => SetupEnd::Script(number, cause),
+        Err(Early::ReadFault) => SetupEnd::ReadFault,
+        Err(Early::NoMemory) => SetupEnd::NoMemory,
+        Err(Early::Full(_)) | Err(Early::WriteFault) => unreachable!(),
     }
 }

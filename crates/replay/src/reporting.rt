@@ -1,28 +1,42 @@
-// The line of an end on the errors.
+// The lines of the ends of the program on the errors. No other file spells them.
 
-ghost use Rattle.std.specs.Prelude.{◌≡◌, ◌+◌, ◌<◌, ◌≤◌, ◌++◌, ◌^◌, [], IfOk, length, vec_len, vec_capacity};
+ghost use Rattle.std.specs.Prelude.{◌≡◌, ◌+◌, ◌<◌, ◌≤◌, ◌++◌, [], length, vec_len, vec_capacity};
 ghost use Rattle.std.specs.Fmt.{decimal};
-ghost use Rattle.replay.specs.Reporting.{Reported, refusal, full_line, error_line};
+ghost use Rattle.replay.specs.Reporting.{Reported, status_line, refusal, full_line, error_line};
 
 use crate::cause::Cause;
 use login_edge::{Sink, write_all};
 use login_model::Count;
+use recording::push_decimal;
 use std::alloc::{AllocError, Global};
 
-/// Puts a number in digits at the end, without memory.
-#[tactic(auto, using(crate::proofs::Decimals::of_digits))]
-fn push_decimal(out: &mut Vec<u8>, n: u64)
-    requires { vec_len out.old + length (decimal n) ≤ vec_capacity out.old }
-    ensures items { out.new.items ≡ out.old.items ++ decimal n }
-    ensures len { vec_len out.new ≡ vec_len out.old + length (decimal n) }
-    ensures capacity { vec_capacity out.new ≡ vec_capacity out.old }
-{
-    if n < 10 {
-        out.push_reserved(b'0' + n as u8);
-        return;
+/// A line that is the same whenever it is said.
+#[derive(Clone, Copy, Debug, PartialEq, Eq)]
+pub enum StatusLine {
+    /// The words of the command line are no command.
+    Usage,
+    /// The input failed.
+    ReadFault,
+    /// The output failed.
+    WriteFault,
+    /// There was no memory.
+    NoMemory,
+}
+
+impl StatusLine {
+    /// The text of the line.
+    pub fn text(self) -> &'static [u8]
+        ensures { result.now ≡ status_line self }
+    {
+        match self {
+            StatusLine::Usage => {
+                b"usage: login replay or login serve --dir DIR or login load N\n"
+            }
+            StatusLine::ReadFault => b"read fault\n",
+            StatusLine::WriteFault => b"write fault\n",
+            StatusLine::NoMemory => b"no memory\n",
+        }
     }
-    push_decimal(out, n / 10);
-    out.push_reserved(b'0' + (n % 10) as u8);
 }
 
 /// Puts a text at the end, without memory.

@@ -1,6 +1,6 @@
 use Rattle.std.proofs.Common.{rules, arith, append_assoc, refl}
 use Rattle.std.proofs.lemmas.List.{take_more}
-use Rattle.recording.specs.Cuts.{NoLineFeed-push, IsFirst-feed, IsFirst-full}
+use Rattle.recording.proofs.Cuts.{NoLineFeed-push, IsFirst-feed, IsFirst-full}
 use Rattle.recording.proofs.line_reader.take_piece.Goals as goal
 use Rattle.recording.proofs.line_reader.take_piece.Goals.{then-b-eq10-via-then-b-eq10, then-b-eq10-via-else-b-eq10+then-len-eq-LINE_ROOM}
 

@@ -1,8 +1,8 @@
 use Rattle.std.proofs.Common.{arith, refl, ◌∙◌}
-use Rattle.replay.specs.declared.cause.Cause.TheVariants.{WrongPlace, Ended}
-use Rattle.replay.proofs.Ends.{line_partly, left_partly, stops_wrong, stops_none, stops_early, cause_wrong, cause_none, cause_early, headed_front}
+use Rattle.std.proofs.lemmas.Result.{err_from_is_err_and}
+use Rattle.replay.proofs.Ends.{line_partly, left_partly}
 use Rattle.replay.proofs.Written.{is_line}
-use Rattle.replay.proofs.Setups.{said_nothing, said_more, no_more_said, few_headed, said_refused, said_broken, said_fronted, said_whole}
+use Rattle.replay.proofs.Setups.{said_nothing, said_more, said_behind, said_past, said_misplaced, said_fronted, said_whole}
 use Rattle.replay.proofs.preamble.read_lines.Goals as goal
 
 pub loop-number-init : goal.loop-number-init
@@ -10,53 +10,37 @@ loop-number-init g c = record { said = said_nothing _ _ c.new-preamble.ensures.g
 
 pub loop-number-preserved : goal.loop-number-preserved
 loop-number-preserved g c =
-    let l = c.in-Line.line in
+    let read = c.in_ok-line.ensures.gives in
     record {
-      said = said_more _ _ c.loop-number.number _ _ _ l c.loop-number.invariant.said c.in-Line.ensures.gives (rw c.in-Ok-Row.field-0-is at c.in-Ok-Row.ensures) (is_line _ l _ c.in-Line.ensures.gives);
-      faults = c.in-Line.ensures.cause ∙ c.loop-number.invariant.faults;
+      said = said_more _ _ c.loop-number.number _ _ _ _ c.loop-number.invariant.said read (rw c.in-Row.is at c.in_ok-take_line.ensures) (is_line _ _ _ read);
+      faults = c.in_ok-line.ensures.cause ∙ c.loop-number.invariant.faults;
     }
 
-pub unreachable-requires : goal.unreachable-requires
-unreachable-requires g c = no_more_said _ c.loop-number.number _ _ c.loop-number.invariant.said (omega arith)
-
-pub returns-in-Ok-clause-gives : goal.returns-in-Ok-clause-gives
-returns-in-Ok-clause-gives g c = λ all r.
-    let l = c.in-Line.line in
-    let go = rw c.in-Ok-Go.field-0-is at c.in-Ok-Go.ensures in
-    let e = c.in-Ok.ensures in
-    said_whole c.loop-number.preamble c.in-Ok.setup c.loop-number.number all _ _ _ l r c.loop-number.invariant.said c.in-Line.ensures.gives go.0 (rw go.1 at e.guid) (rw go.1 at e.users) e.conf e.table
-
-pub returns-in-Err-setup-clause-gives : goal.returns-in-Err-setup-clause-gives
-returns-in-Err-setup-clause-gives g c = λ all r.
-    said_fronted _ c.loop-number.number all _ _ _ r c.loop-number.invariant.said (line_partly c.in-Line.line _ _ _ c.in-Line.ensures.gives (left_partly c.read_ahead.new.lines _))
-
-pub returns-in-Ok-Refused-clause-gives : goal.returns-in-Ok-Refused-clause-gives
-returns-in-Ok-Refused-clause-gives g c = λ all r.
-    let l = c.in-Line.line in
-    let s = c.loop-number.invariant.said in
-    let f = headed_front s.lines in
-    let no = (rw c.in-Ok-Refused.field-0-is at c.in-Ok-Refused.ensures) s.lines s.say_so in
-    said_refused _ c.loop-number.number all _ _ WrongPlace r s (stops_wrong f l _ _ c.in-Line.ensures.gives no) (cause_wrong f l _ _ (few_headed _ _ _ _ s) c.in-Line.ensures.gives no)
-
-pub returns-in-Err-clause-gives : goal.returns-in-Err-clause-gives
-returns-in-Err-clause-gives g c = λ all r.
-    said_fronted _ c.loop-number.number all _ _ _ r c.loop-number.invariant.said (line_partly c.in-Line.line _ _ _ c.in-Line.ensures.gives (left_partly c.read_ahead.new.lines _))
+pub returns-in-Go-clause-gives : goal.returns-in-Go-clause-gives
+returns-in-Go-clause-gives g c = λ all r.
+    let go = rw c.in-Go.is at c.in_ok-take_line.ensures in
+    let e = c.in_ok-setup-in-Go.ensures in
+    said_whole c.loop-number.preamble _ c.loop-number.number all _ _ _ _ r c.loop-number.invariant.said (omega arith) c.in_ok-line.ensures.gives go.0 (rw go.1 at e.guid) (rw go.1 at e.users) e.conf e.table
 
 pub returns-in-Refused-clause-gives : goal.returns-in-Refused-clause-gives
 returns-in-Refused-clause-gives g c = λ all r.
-    let s = c.loop-number.invariant.said in
-    let f = headed_front s.lines in
-    said_refused _ c.loop-number.number all _ _ c.in-Refused.cause r s (stops_none f _ c.in-Refused.cause c.in-Refused.ensures.gives)
-    (cause_none f _ c.in-Refused.cause (few_headed _ _ _ _ s) c.in-Refused.ensures.gives)
+    said_misplaced _ c.loop-number.number all _ _ _ _ r c.loop-number.invariant.said (omega arith) c.in_ok-line.ensures.gives (rw c.in-Refused.is at c.in_ok-take_line.ensures)
 
-pub returns-in-End-clause-gives : goal.returns-in-End-clause-gives
-returns-in-End-clause-gives g c = λ all r.
-    let s = c.loop-number.invariant.said in
-    let f = headed_front s.lines in
-    said_refused _ c.loop-number.number all _ _ Ended r s (stops_early f _ _ c.in-End.ensures.gives (λ e. cc)) (cause_early f _ _ c.in-End.ensures.gives)
+pub returns-clause-gives : goal.returns-clause-gives
+returns-clause-gives g c = λ all r. said_past _ c.loop-number.number all _ _ _ c.read_past.result r c.loop-number.invariant.said (omega arith) c.read_past.ensures.gives
 
-pub returns-in-ReadFault-clause-gives : goal.returns-in-ReadFault-clause-gives
-returns-in-ReadFault-clause-gives g c = λ all r. said_broken _ c.loop-number.number all _ _ _ r c.loop-number.invariant.said c.in-ReadFault.ensures.gives
+pub returns-in_err-line-clause-gives : goal.returns-in_err-line-clause-gives
+returns-in_err-line-clause-gives g c = λ all r. let p = err_from_is_err_and c.from_residual.result c.from_residual.ensures.1 in rw (p.1, p.2) (said_behind _ c.loop-number.number all _ _ _ _ r c.loop-number.invariant.said (omega arith) c.in_err-line.ensures.gives)
 
-pub returns-in-NoMemory-clause-gives : goal.returns-in-NoMemory-clause-gives
-returns-in-NoMemory-clause-gives g c = λ all r. said_fronted _ c.loop-number.number all _ _ _ r c.loop-number.invariant.said c.in-NoMemory.ensures.gives
+pub returns-in_err-take_line-clause-gives : goal.returns-in_err-take_line-clause-gives
+returns-in_err-take_line-clause-gives g c = λ all r.
+    let p = err_from_is_err_and c.from_residual-in_err-take_line.result c.from_residual-in_err-take_line.ensures.1 in
+    rw (p.1, p.2) (said_fronted _ c.loop-number.number all _ _ _ r c.loop-number.invariant.said (line_partly _ _ _ _ c.in_ok-line.ensures.gives (left_partly c.next_line.new.lines _)))
+
+pub returns-in_err-setup-in-Go-clause-gives : goal.returns-in_err-setup-in-Go-clause-gives
+returns-in_err-setup-in-Go-clause-gives g c = λ all r.
+    let p = err_from_is_err_and c.from_residual-in_err-setup-in-Go.result c.from_residual-in_err-setup-in-Go.ensures.1 in
+    rw (p.1, p.2) (said_fronted _ c.loop-number.number all _ _ _ r c.loop-number.invariant.said (line_partly _ _ _ _ c.in_ok-line.ensures.gives (left_partly c.next_line.new.lines _)))
+
+pub returns-clause-cause : goal.returns-clause-cause
+returns-clause-cause g c = rw c.loop-number.invariant.faults at c.read_past.ensures.cause

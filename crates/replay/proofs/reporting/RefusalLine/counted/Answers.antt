@@ -1,5 +1,5 @@
 use Rattle.std.proofs.Common.{arith}
-use Rattle.replay.proofs.Decimals.{long_decimal}
+use Rattle.recording.proofs.Decimals.{long_decimal}
 use Rattle.replay.proofs.reporting.RefusalLine.counted.Goals as goal
 
 pub push_decimal-requires : goal.push_decimal-requires

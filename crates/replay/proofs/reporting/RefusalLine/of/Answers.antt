@@ -2,7 +2,7 @@ use Rattle.std.proofs.Common.{◌≤◌, length, ap, arith}
 use Rattle.replay.specs.Causes.{cause_word}
 use Rattle.replay.specs.declared.cause.Cause.{Cause}
 use Rattle.replay.specs.declared.cause.Cause.TheVariants.{UnknownWord, BadNumber, BadHex, MissingWord, ExtraWord, TooLong, WrongPlace, BadName, Ended, NotBuilt}
-use Rattle.replay.proofs.Decimals.{short_decimal}
+use Rattle.recording.proofs.Decimals.{short_decimal}
 use Rattle.replay.proofs.reporting.RefusalLine.of.Goals as goal
 
 short_word : (cause : Cause) → length (cause_word cause) ≤ 12

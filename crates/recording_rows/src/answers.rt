@@ -1,0 +1,169 @@
+// The values of each answer. Lists of sessions and users are printed in whole runs too, in `login_rows`.
+
+use crate::entries::is_printed;
+use login_base::{ConnId, HandleNo, Items, NoMemory, SeatName, SessId, Uid, Word};
+use login_model::{Answer, Inhibited, Input, KnownUser, Lock, LockMode, Say, SessionRow, Verdict};
+use std::alloc::Global;
+use std::process::Abort;
+use std::test::Fail;
+
+/// The answer is printed so behind a granted event.
+fn is_answered(
+    rt: &impl Abort,
+    alloc: Global,
+    answer: Answer,
+    expected: &[u8],
+) -> Result<(), Fail> {
+    is_printed(rt, alloc, Verdict::Granted, answer, expected)
+}
+
+#[test]
+fn paths_of_objects(rt: HostRuntime) -> Result<(), Fail> {
+    let alloc = rt.alloc();
+    let seat = SeatName::read(b"seat-x")?;
+    is_answered(&rt, alloc, Answer::Nothing, b" granted\n")?;
+    is_answered(
+        &rt,
+        alloc,
+        Answer::Session(SessId(3)),
+        b" granted /org/freedesktop/login1/session/c3\n",
+    )?;
+    is_answered(
+        &rt,
+        alloc,
+        Answer::User(Uid(1000)),
+        b" granted /org/freedesktop/login1/user/_1000\n",
+    )?;
+    is_answered(
+        &rt,
+        alloc,
+        Answer::Seat(seat),
+        b" granted /org/freedesktop/login1/seat/seat_2dx\n",
+    )
+}
+
+#[test]
+fn handles_and_what_can_be(rt: HostRuntime) -> Result<(), Fail> {
+    let alloc = rt.alloc();
+    is_answered(&rt, alloc, Answer::Can(Say::No), b" granted no\n")?;
+    is_answered(
+        &rt,
+        alloc,
+        Answer::Can(Say::Challenge),
+        b" granted challenge\n",
+    )?;
+    is_answered(&rt, alloc, Answer::Can(Say::Yes), b" granted yes\n")?;
+    is_answered(&rt, alloc, Answer::Handle(HandleNo(5)), b" granted 5\n")?;
+    is_answered(
+        &rt,
+        alloc,
+        Answer::Taken(HandleNo(5), false),
+        b" granted 5 false\n",
+    )?;
+    is_answered(
+        &rt,
+        alloc,
+        Answer::Taken(HandleNo(6), true),
+        b" granted 6 true\n",
+    )
+}
+
+/// A row of a session.
+fn session_row(
+    alloc: Global,
+    session: u32,
+    uid: u32,
+    name: &[u8],
+    seat: Option<SeatName>,
+) -> Result<SessionRow, NoMemory> {
+    Ok(SessionRow {
+        session: SessId(session),
+        uid: Uid(uid),
+        name: Word::from_slice(alloc, name)?,
+        seat,
+    })
+}
+
+#[test]
+fn a_list_of_sessions(rt: HostRuntime) -> Result<(), Fail> {
+    let seat = SeatName::read(b"seat0")?;
+    let mut rows = Items::new(rt.alloc());
+    rows.push(session_row(rt.alloc(), 1, 1000, b"alice", Some(seat))?)?;
+    rows.push(session_row(rt.alloc(), 12, 7, b"", None)?)?;
+    let expected =
+        b" granted [(c1 1000 alice seat0 /org/freedesktop/login1/session/c1) (c12 7 % % /org/freedesktop/login1/session/c12)]\n";
+    is_answered(&rt, rt.alloc(), Answer::Sessions(rows), expected)
+}
+
+#[test]
+fn a_list_of_users(rt: HostRuntime) -> Result<(), Fail> {
+    let mut rows = Items::new(rt.alloc());
+    for (uid, name) in [(0, b"root".as_slice()), (1000, b"al ice".as_slice())] {
+        rows.push(KnownUser {
+            uid: Uid(uid),
+            name: Word::from_slice(rt.alloc(), name)?,
+        })?;
+    }
+    let expected =
+        b" granted [(0 root /org/freedesktop/login1/user/_0) (1000 al%20ice /org/freedesktop/login1/user/_1000)]\n";
+    is_answered(&rt, rt.alloc(), Answer::Users(rows), expected)
+}
+
+#[test]
+fn a_list_of_seats(rt: HostRuntime) -> Result<(), Fail> {
+    let mut names = Items::new(rt.alloc());
+    for name in [
+        b"seat".as_slice(),
+        b"seat-x".as_slice(),
+        b"seat0".as_slice(),
+    ] {
+        names.push(SeatName::read(name)?)?;
+    }
+    let expected =
+        b" granted [(seat /org/freedesktop/login1/seat/seat) (seat-x /org/freedesktop/login1/seat/seat_2dx) (seat0 /org/freedesktop/login1/seat/seat0)]\n";
+    is_answered(&rt, rt.alloc(), Answer::Seats(names), expected)?;
+    is_answered(
+        &rt,
+        rt.alloc(),
+        Answer::Seats(Items::new(rt.alloc())),
+        b" granted []\n",
+    )
+}
+
+/// A lock on the sleep and the lid.
+fn a_lock(alloc: Global) -> Result<Lock, NoMemory> {
+    Ok(Lock {
+        what: Inhibited {
+            shutdown: false,
+            sleep: true,
+            idle: false,
+            handle_power_key: false,
+            handle_suspend_key: false,
+            handle_hibernate_key: false,
+            handle_lid_switch: true,
+        },
+        mode: LockMode::Block,
+        uid: Uid(1000),
+        who: Word::from_slice(alloc, b"a player")?,
+        why: Word::new(alloc),
+        holder: ConnId(7),
+    })
+}
+
+#[test]
+fn a_list_of_locks(rt: HostRuntime) -> Result<(), Fail> {
+    let mut locks = Items::new(rt.alloc());
+    locks.push(a_lock(rt.alloc())?)?;
+    let expected = b" granted [(sleep:handle-lid-switch a%20player % block 1000 7)]\n";
+    is_answered(&rt, rt.alloc(), Answer::Inhibitors(locks), expected)
+}
+
+#[test]
+fn what_devices_reported(rt: HostRuntime) -> Result<(), Fail> {
+    let mut inputs = Items::new(rt.alloc());
+    for (kind, code, value) in [(1, 30, 1), (3, 65535, -2147483648)] {
+        inputs.push(Input { kind, code, value })?;
+    }
+    let expected = b" granted [(1 30 1) (3 65535 -2147483648)]\n";
+    is_answered(&rt, rt.alloc(), Answer::Inputs(inputs), expected)
+}

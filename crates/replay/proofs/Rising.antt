@@ -1,0 +1,83 @@
+-- Which counts of faults stand still.
+use Rattle.std.proofs.Common.{◌≡◌, ℕ, Bool, true, false, List, Option, Result, Ok, refl, Err}
+use Rattle.login_core.specs.State.{CoreState}
+use Rattle.login_model.specs.declared.event.Event.{Event}
+use Rattle.replay.specs.Rising.{Rises}
+use Rattle.replay.specs.inner.Ahead.{BreaksOff, EndsBehind}
+use Rattle.replay.specs.inner.Early.{failed, of_reading, of_writing}
+use Rattle.replay.specs.inner.Opening.{OpensNot}
+use Rattle.replay.specs.inner.Playing.{MakesRoom, Plays}
+use Rattle.replay.specs.Replaying.{is_read_fault, is_write_fault}
+use Rattle.replay.specs.inner.Running.{end_of}
+use Rattle.replay.specs.inner.Writing.{Writes}
+use Rattle.replay.specs.declared.early.Early.{Early}
+use Rattle.replay.specs.declared.early.Early.TheVariants.{Script, Full, ReadFault, WriteFault, NoMemory}
+
+abbrev Told : Type 0
+Told = Option (List ℕ)
+
+-- where no such fault is answered, and the count stood still
+pub still : (answered : Bool) (before now : ℕ) → answered ≡ false → now ≡ before → Rises answered before now
+still true before now a e = cc
+still false before now a e = e
+
+-- reading is no fault of writing
+pub breaks_unwritten : (before left : Told) (e : Early) → BreaksOff before left e → of_writing e ≡ false
+breaks_unwritten before left WriteFault h = absurd h
+breaks_unwritten before left (Script line cause) h = refl
+breaks_unwritten before left (Full count) h = refl
+breaks_unwritten before left ReadFault h = refl
+breaks_unwritten before left NoMemory h = refl
+
+pub behind_unwritten : (number : ℕ) (before left : Told) (e : Early) → EndsBehind number before left e → of_writing e ≡ false
+behind_unwritten number before left WriteFault h = absurd h
+behind_unwritten number before left (Script line cause) h = refl
+behind_unwritten number before left (Full count) h = refl
+behind_unwritten number before left ReadFault h = refl
+behind_unwritten number before left NoMemory h = refl
+
+pub opens_unwritten : (before left : Told) (e : Early) → OpensNot before left e → of_writing e ≡ false
+opens_unwritten before left WriteFault h = absurd h
+opens_unwritten before left (Script line cause) h = refl
+opens_unwritten before left (Full count) h = refl
+opens_unwritten before left ReadFault h = refl
+opens_unwritten before left NoMemory h = refl
+
+-- writing is no fault of reading
+pub writes_unread : (old new : Told) (text : List ℕ) (e : Early) → Writes old new text (Err e) → of_reading e ≡ false
+writes_unread old new text ReadFault h = absurd h
+writes_unread old new text (Script line cause) h = refl
+writes_unread old new text (Full count) h = refl
+writes_unread old new text WriteFault h = refl
+writes_unread old new text NoMemory h = refl
+
+pub plays_unread : (old new : CoreState) (x : Event) (before after : Told) (e : Early) → Plays old x new before after (Err e) → of_reading e ≡ false
+plays_unread old new x before after ReadFault h = absurd h
+plays_unread old new x before after (Script line cause) h = refl
+plays_unread old new x before after (Full count) h = refl
+plays_unread old new x before after WriteFault h = refl
+plays_unread old new x before after NoMemory h = refl
+
+pub room_unwritten : (old new : CoreState) (x : Event) (e : Early) → MakesRoom old new x (Err e) → of_writing e ≡ false
+room_unwritten old new x WriteFault h = absurd h
+room_unwritten old new x (Script line cause) h = refl
+room_unwritten old new x (Full count) h = refl
+room_unwritten old new x ReadFault h = refl
+room_unwritten old new x NoMemory h = refl
+
+-- the end that is answered tells the same fault
+pub read_end : (r : Result (Unit {0}) Early) (before now : ℕ) → Rises (failed of_reading r) before now → Rises (is_read_fault (end_of r)) before now
+read_end (Ok u) before now h = h
+read_end (Err ReadFault) before now h = h
+read_end (Err (Script line cause)) before now h = h
+read_end (Err (Full count)) before now h = h
+read_end (Err WriteFault) before now h = h
+read_end (Err NoMemory) before now h = h
+
+pub write_end : (r : Result (Unit {0}) Early) (before now : ℕ) → Rises (failed of_writing r) before now → Rises (is_write_fault (end_of r)) before now
+write_end (Ok u) before now h = h
+write_end (Err WriteFault) before now h = h
+write_end (Err (Script line cause)) before now h = h
+write_end (Err (Full count)) before now h = h
+write_end (Err ReadFault) before now h = h
+write_end (Err NoMemory) before now h = h

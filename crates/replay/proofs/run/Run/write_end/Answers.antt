@@ -1,0 +1,9 @@
+use Rattle.std.proofs.Common.{refl}
+use Rattle.std.proofs.lemmas.Result.{err_from_is_err_and}
+use Rattle.replay.proofs.run.Run.write_end.Goals as goal
+
+pub returns-in_err-text-clause-gives : goal.returns-in_err-text-clause-gives
+returns-in_err-text-clause-gives g c = let p = err_from_is_err_and c.from_residual.result c.from_residual.ensures.1 in rw (p.1, p.2) refl
+
+pub returns-in_err-text-clause-cause : goal.returns-in_err-text-clause-cause
+returns-in_err-text-clause-cause g c = let p = err_from_is_err_and c.from_residual.result c.from_residual.ensures.1 in rw (p.1, p.2) refl

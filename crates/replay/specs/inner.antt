@@ -1,0 +1,9 @@
+pub mod Early
+pub mod Ahead
+pub mod Opening
+pub mod Placing
+pub mod Playing
+pub mod Running
+pub mod Turns
+pub mod Behind
+pub mod Writing

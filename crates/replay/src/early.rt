@@ -1,0 +1,37 @@
+// How a replay ends before it is done.
+
+ghost use Rattle.std.specs.Prelude.{◌≡◌};
+ghost use Rattle.replay.specs.declared.early.Early.TheVariants as early;
+
+use crate::cause::Cause;
+use login_base::NoMemory;
+use login_model::Count;
+use std::alloc::AllocError;
+
+/// How a replay ends before its whole transcript is written.
+#[derive(Clone, Copy, Debug)]
+pub enum Early {
+    /// The line with this number is refused for this cause.
+    Script(u32, Cause),
+    /// The journal is full for the event of the next line, by this count.
+    Full(Count),
+    ReadFault,
+    WriteFault,
+    NoMemory,
+}
+
+impl From<NoMemory> for Early {
+    ghost from_gives = { λ _ e. e ≡ early.NoMemory };
+
+    fn from(_: NoMemory) -> Early {
+        Early::NoMemory
+    }
+}
+
+impl From<AllocError> for Early {
+    ghost from_gives = { λ _ e. e ≡ early.NoMemory };
+
+    fn from(_: AllocError) -> Early {
+        Early::NoMemory
+    }
+}

@@ -1,0 +1,228 @@
+// A recording is played behind its preamble, and its transcript written.
+
+ghost use Rattle.std.specs.Prelude.{ℕ, List, Option, ◌≤◌, ◌≡◌, ◌+◌, ◌<◌, [], false, length, IfOk, OnOk, string_bytes};
+ghost use Rattle.recording.specs.Lines.{IsLine, IsEventLine};
+ghost use Rattle.recording.specs.Print.{transcript_end};
+ghost use Rattle.recording.specs.Reading.{left_to};
+ghost use Rattle.replay.specs.Front.{going, ended};
+ghost use Rattle.replay.specs.Preamble.{WasSetUp};
+ghost use Rattle.replay.specs.Recording.{most_lines};
+ghost use Rattle.replay.specs.Rising.{Rises};
+ghost use Rattle.replay.specs.inner.Behind.{SaysBehind};
+ghost use Rattle.replay.specs.inner.Early.{failed, of_reading, of_writing};
+ghost use Rattle.replay.specs.inner.Running.{RunGives, GoesOn};
+ghost use Rattle.replay.specs.inner.Turns.{PlaysTurn, TakesTurn, Turns};
+ghost use Rattle.replay.specs.inner.Writing.{Writes};
+
+use crate::ahead::{Ahead, MOST_LINES, next_line, read_ahead, read_past};
+use crate::cause::Cause;
+use crate::early::Early;
+use crate::placing::is_placed;
+use crate::play::play_placed;
+use crate::player::Player;
+use login_edge::{Sink, Source, WriteEnd, write_all};
+use login_model::Event;
+use recording::{Line, LineReader};
+use std::alloc::{AllocError, Global};
+
+/// The cause of a line behind so many, of which this is its own: behind the most it is too long a
+/// recording.
+fn cause_behind(lines: u32, own: Cause) -> Cause
+    ensures within { lines < most_lines → result ≡ own }
+    ensures past { lines ≡ most_lines → result ≡ Cause.TooLong }
+{
+    if lines == MOST_LINES {
+        Cause::TooLong
+    } else {
+        own
+    }
+}
+
+/// The last line of a transcript, after so many entries.
+fn end_text(alloc: Global, count: usize) -> Result<String, AllocError>
+    ensures { IfOk result (λ text. string_bytes text ≡ transcript_end count) }
+{
+    format!(in alloc; "end {count}\n")
+}
+
+/// Writes a text of the transcript.
+fn write_text<K: Sink>(sink: &mut K, text: &[u8]) -> Result<(), Early>
+    ensures gives { Writes (K.held sink.old) (K.held sink.new) text.now result }
+    ensures cause { Rises (failed of_writing result) (K.faults sink.old) (K.faults sink.new) }
+{
+    match write_all(sink, text) {
+        WriteEnd::Done => Ok(()),
+        WriteEnd::Fault => Err(Early::WriteFault),
+    }
+}
+
+/// A line behind `go`.
+#[derive(Drop)]
+enum Behind {
+    Event(Event),
+    End,
+    /// A line that may not stand there.
+    Other,
+}
+
+/// What a line says that stands behind `go`.
+fn behind_go(line: Line) -> Behind
+    ensures { SaysBehind line result }
+{
+    match line {
+        Line::Event(event) => Behind::Event(event),
+        Line::End => Behind::End,
+        _ => Behind::Other,
+    }
+}
+
+/// What became of a line behind `go`.
+#[derive(Clone, Copy)]
+enum Turn {
+    /// Its event was played, and a further line may come.
+    Next,
+    /// It is the line `end`.
+    Closed,
+}
+
+/// A recording that is played: what was read and played of it so far. The source that it comes from and
+/// the sink that its transcript goes to are lent to each call.
+#[derive(Drop)]
+pub struct Run {
+    alloc: Global,
+    lines: LineReader,
+    /// How many lines were read.
+    number: u32,
+    player: Player,
+}
+
+impl Run {
+    /// A run behind `go`, through which so many lines were read.
+    pub fn new(alloc: Global, lines: LineReader, number: u32, player: Player) -> Run
+        ensures lines { result.lines ≡ lines }
+        ensures number { result.number ≡ number }
+        ensures player { result.player ≡ player }
+    {
+        Run {
+            alloc,
+            lines,
+            number,
+            player,
+        }
+    }
+
+    /// Writes the last line of the transcript.
+    fn write_end<K: Sink>(&self, sink: &mut K) -> Result<(), Early>
+        ensures gives { Writes (K.held sink.old) (K.held sink.new) (transcript_end (length self.now.player.journal)) result }
+        ensures cause { Rises (failed of_writing result) (K.faults sink.old) (K.faults sink.new) }
+    {
+        let text = end_text(self.alloc, self.player.core().journal().len())?;
+        write_text(sink, text.as_bytes())
+    }
+
+    /// Ends the transcript after the line `end`, and sees that no line follows.
+    fn finish<S: Source, K: Sink>(&mut self, source: &mut S, sink: &mut K) -> Result<(), Early>
+        requires within { self.old.number ≤ most_lines }
+        ensures gives { GoesOn ended self.old.player self.old.number (left_to self.old.lines (S.left source.old)) (S.left source.new) (K.held sink.old) (K.held sink.new) result }
+        ensures read { Rises (failed of_reading result) (S.faults source.old) (S.faults source.new) }
+        ensures write { Rises (failed of_writing result) (K.faults sink.old) (K.faults sink.new) }
+    {
+        self.write_end(sink)?;
+        match read_ahead(self.alloc, &mut self.lines, source)? {
+            Ahead::Line(line) => {
+                drop(line);
+                Err(Early::Script(
+                    self.number + 1,
+                    cause_behind(self.number, Cause::WrongPlace),
+                ))
+            }
+            Ahead::Refused(cause) => Err(Early::Script(
+                self.number + 1,
+                cause_behind(self.number, cause),
+            )),
+            Ahead::End => Ok(()),
+        }
+    }
+
+    /// Plays an event, which is the line behind those that were read.
+    fn play_event<K: Sink>(&mut self, event: Event, sink: &mut K) -> Result<Turn, Early>
+        requires line { IsEventLine event }
+        requires within { self.old.number < most_lines }
+        ensures gives { PlaysTurn self.old.player self.new.player event self.old.number (K.held sink.old) (K.held sink.new) result }
+        ensures cause { Rises (failed of_writing result) (K.faults sink.old) (K.faults sink.new) }
+        ensures unread { failed of_reading result ≡ false }
+        ensures lines { self.new.lines ≡ self.old.lines }
+        ensures number { self.new.number ≡ self.old.number }
+    {
+        if !is_placed(&self.player, &event) {
+            drop(event);
+            return Err(Early::Script(self.number + 1, Cause::WrongPlace));
+        }
+        play_placed(self.alloc, &mut self.player, event, sink)?;
+        Ok(Turn::Next)
+    }
+
+    /// Does what a line says that stands behind those that were read.
+    fn take_line<K: Sink>(&mut self, line: Line, sink: &mut K) -> Result<Turn, Early>
+        requires line { IsLine line }
+        requires within { self.old.number < most_lines }
+        ensures gives { TakesTurn self.old.player self.new.player line self.old.number (K.held sink.old) (K.held sink.new) result }
+        ensures cause { Rises (failed of_writing result) (K.faults sink.old) (K.faults sink.new) }
+        ensures unread { failed of_reading result ≡ false }
+        ensures lines { self.new.lines ≡ self.old.lines }
+        ensures number { self.new.number ≡ self.old.number }
+    {
+        match behind_go(line) {
+            Behind::Event(event) => self.play_event(event, sink),
+            Behind::End => Ok(Turn::Closed),
+            Behind::Other => Err(Early::Script(self.number + 1, Cause::WrongPlace)),
+        }
+    }
+
+    /// Reads the next line, and does what it says.
+    fn play_line<S: Source, K: Sink>(&mut self, source: &mut S, sink: &mut K) -> Result<Turn, Early>
+        requires within { self.old.number < most_lines }
+        ensures gives { Turns self.old.player self.new.player self.old.number (left_to self.old.lines (S.left source.old)) (left_to self.new.lines (S.left source.new)) (S.left source.new) (K.held sink.old) (K.held sink.new) result }
+        ensures read { Rises (failed of_reading result) (S.faults source.old) (S.faults source.new) }
+        ensures write { Rises (failed of_writing result) (K.faults sink.old) (K.faults sink.new) }
+        ensures number { OnOk result (self.new.number ≡ self.old.number + 1) }
+    {
+        let line = next_line(self.alloc, &mut self.lines, source, self.number)?;
+        let turn = self.take_line(line, sink)?;
+        self.number += 1;
+        Ok(turn)
+    }
+
+    /// Plays the events of a recording, from behind `go`, through the end of the text.
+    fn play_events<S: Source, K: Sink>(&mut self, source: &mut S, sink: &mut K) -> Result<(), Early>
+        requires few { self.old.number ≤ most_lines }
+        ensures gives { GoesOn going self.old.player self.old.number (left_to self.old.lines (S.left source.old)) (S.left source.new) (K.held sink.old) (K.held sink.new) result }
+        ensures read { Rises (failed of_reading result) (S.faults source.old) (S.faults source.new) }
+        ensures write { Rises (failed of_writing result) (K.faults sink.old) (K.faults sink.new) }
+    {
+        while self.number < MOST_LINES {
+            match self.play_line(source, sink)? {
+                Turn::Next => {}
+                Turn::Closed => return self.finish(source, sink),
+            }
+        }
+        Err(read_past(self.alloc, &mut self.lines, source))
+    }
+
+    /// Writes the first line of the transcript, and plays the events, of which none was played before.
+    pub fn play_all<S: Source, K: Sink>(
+        &mut self,
+        source: &mut S,
+        sink: &mut K,
+    ) -> Result<(), Early>
+        requires few { self.old.number ≤ most_lines }
+        requires nothing { self.old.player.journal ≡ [] }
+        ensures gives { (all : Option (List ℕ)) → WasSetUp all self.old.player.setup self.old.number (left_to self.old.lines (S.left source.old))
+            → RunGives all (S.left source.new) (K.held sink.old) (K.held sink.new) result }
+        ensures read { Rises (failed of_reading result) (S.faults source.old) (S.faults source.new) }
+        ensures write { Rises (failed of_writing result) (K.faults sink.old) (K.faults sink.new) }
+    {
+        write_text(sink, b"login-transcript 1\n")?;
+        self.play_events(source, sink)
+    }
+}
