@@ -30,8 +30,7 @@ is_command() {
 
 # The program's line for words that are no command, as its sources have it.
 usage_line() {
-    local lines
-    lines=$(grep -rhom1 'usage: login [^"\\]*' "$top"/crates/*/src) && echo "${lines%%$'\n'*}"
+    grep -om1 'usage: login [^"\\]*' "$top/crates/replay/src/reporting.rt"
 }
 
 # The crates that the program is made of, lowest first.

@@ -1,14 +1,14 @@
 //! The program `login`: the top call over standard input, standard output and standard error.
 #![tactic(auto)]
 
-mod arguments;
 mod standard;
+mod words;
 
-use arguments::words;
 use login_edge::write_all;
-use login_prog::run;
+use login_prog::{StatusLine, run};
 use standard::{Reading, Writing};
 use std::process::ExitCode;
+use words::words_of;
 
 /// The exit status where there is no memory for the words themselves, as that of `run`.
 const NO_MEMORY: u8 = 5;
@@ -17,8 +17,8 @@ fn main(rt: HostRuntime) -> ExitCode {
     let mut input = Reading::new(rt.stdin());
     let mut output = Writing::new(rt.stdout());
     let mut errors = Writing::new(rt.stderr());
-    let Ok(words) = words(&rt) else {
-        let _end = write_all(&mut errors, b"no memory\n");
+    let Ok(words) = words_of(&rt) else {
+        let _end = write_all(&mut errors, StatusLine::NoMemory.text());
         return ExitCode::from(NO_MEMORY);
     };
     ExitCode::from(run(rt.alloc(), &words, &mut input, &mut output, &mut errors))

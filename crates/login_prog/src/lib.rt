@@ -4,3 +4,4 @@
 mod command;
 
 pub use command::run;
+pub use replay::StatusLine;

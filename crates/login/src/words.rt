@@ -21,7 +21,7 @@ fn argument(rt: &HostRuntime, number: usize) -> Result<Option<Word>, NoMemory> {
 }
 
 /// The words after the program's name. A word need not be text.
-pub fn words(rt: &HostRuntime) -> Result<Items<Word>, NoMemory> {
+pub fn words_of(rt: &HostRuntime) -> Result<Items<Word>, NoMemory> {
     let mut words = Items::new(rt.alloc());
     for number in 1..usize::MAX {
         match argument(rt, number)? {
