@@ -1,6 +1,6 @@
 // A handshake, heard in any pieces.
 
-ghost use Rattle.std.specs.Prelude.{◌≡◌, ◌≢◌, ◌↔◌, ◌++◌, ◌≤◌, List, ℕ, [], drop, length, IsTrue, IsOk, IfOk, OnOk, OnErr, ◌<◌};
+ghost use Rattle.std.specs.Prelude.{◌≡◌, ◌≢◌, ◌↔◌, ◌++◌, List, ℕ, [], IsTrue, IsOk, IfOk, OnOk, OnErr, ◌<◌};
 ghost use Rattle.bus_auth.specs.Greeting.{WaitingForNul, Begun, Ended, greet, run, resume};
 ghost use Rattle.bus_auth.specs.Standing.{kept, state_of, open_line, IsKept};
 ghost use Rattle.bus_auth.specs.Hearing.{HasHeard, Hears, told, Tells, Gives, IsEnded};
@@ -10,7 +10,7 @@ ghost use Rattle.bus_auth.specs.Outcomes.{state_in, IsOpenIn};
 use crate::hearing::{Heard, Outcome, Progress, Talk, hear_lines};
 use crate::step::{AuthState, AuthStep};
 use crate::table::{Ending, Stage};
-use login_base::{Bytes, NoMemory, Uid, Word};
+use login_base::{Bytes, NoMemory, Uid, Word, drop_front};
 use std::alloc::Global;
 use std::marker::Model;
 
@@ -45,18 +45,8 @@ fn quiet(alloc: Global, state: AuthState) -> AuthStep
     }
 }
 
-/// Takes the first bytes away. It takes no memory.
-fn drop_front(bytes: &mut Vec<u8>, count: usize)
-    requires { count ≤ length bytes.old.items }
-    ensures { bytes.new.items ≡ drop count bytes.old.items }
-{
-    bytes.rotate_left(count);
-    let left = bytes.len() - count;
-    bytes.truncate(left);
-}
-
 /// Keeps what is left of the bytes that were heard, and tells the rest.
-fn settle(progress: &mut Progress, line: &mut Vec<u8>, heard: Heard) -> AuthStep
+fn settle(alloc: Global, progress: &mut Progress, line: &mut Vec<u8>, heard: Heard) -> AuthStep
     requires { IsOpenIn line.old.items heard.outcome }
     ensures replies { result.replies ≡ heard.replies }
     ensures state { result.state ≡ told (state_in line.old.items heard.outcome) }
@@ -66,7 +56,7 @@ fn settle(progress: &mut Progress, line: &mut Vec<u8>, heard: Heard) -> AuthStep
     let Heard { replies, outcome } = heard;
     match outcome {
         Outcome::Talking(talk, taken) => {
-            drop_front(line, taken);
+            drop_front(alloc, line, taken);
             *progress = Progress::Talking(talk);
             AuthStep {
                 replies,
@@ -187,7 +177,7 @@ impl Auth {
             self.line.as_slice(),
             kept,
         ) {
-            Ok(heard) => Ok(settle(&mut self.progress, &mut self.line, heard)),
+            Ok(heard) => Ok(settle(alloc, &mut self.progress, &mut self.line, heard)),
             Err(NoMemory) => {
                 self.line.truncate(kept);
                 Err(NoMemory)

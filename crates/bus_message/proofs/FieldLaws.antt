@@ -1,6 +1,5 @@
 -- Fields in a slice.
-use Rattle.std.proofs.Common.{◌≡◌, ℕ, zero, suc, ◌+◌, ◌<◌, ◌≤◌, List, [], ◌∷◌, length, get_or, take, drop, drop-cons, add-one, Bool, true, false, cond, eqb, ltb, not, leb, is_some, Option, Some, None, refl, ap, sym, ◌∙◌, arith}
-use Rattle.std.proofs.Math.ListN.{drop_of_length-le}
+use Rattle.std.proofs.Common.{◌≡◌, ℕ, zero, suc, ◌+◌, ◌<◌, ◌≤◌, List, [], ◌∷◌, length, get_or, take, drop, drop-cons, add-one, Bool, true, false, cond, eqb, not, leb, is_some, Option, Some, None, refl, ap, sym, ◌∙◌, arith}
 use Rattle.std.proofs.lemmas.Bool.Decides.{nat_tests}
 use Rattle.bus_value.specs.declared.basic_value.BasicValue.TheVariants.{Byte}
 use Rattle.bus_value.specs.Values.{Val, basic}
@@ -20,10 +19,6 @@ pub found_here : (n i : ℕ) (fs : List Val) (f : Val) → i < length fs → f �
 found_here n i fs f less is same =
     let test : eqb (number f) n ≡ true = grind (arith, nat_tests) in
     ap (found n) (drop-cons fs i f less ∙ ap (λ (u : Val). u ∷ drop (suc i) fs) (sym is)) ∙ rw test refl
-
--- there is none
-pub found_none : (n i : ℕ) (fs : List Val) → length fs ≤ i → found n (drop i fs) ≡ None
-found_none n i fs h = ap (found n) (drop_of_length-le fs h)
 
 first_by : (t : Bool) (n : ℕ) (g f : Val) (before after : Option Val) → cond t (Some (held g)) before ≡ None → (before ≡ None → after ≡ Some (held f)) → cond t (Some (held g)) after ≡ Some (held f)
 first_by true n g f before after e later = absurd (let k : ⊥ = cc in k)

@@ -1,5 +1,5 @@
 -- What is known of all fields by those that are kept.
-use Rattle.std.proofs.Common.{◌≡◌, ℕ, zero, suc, ◌+◌, ◌<◌, ◌≤◌, List, [], ◌∷◌, ◌++◌, length, map, get_or, take, drop, drop-cons, add-one, Bool, true, false, cond, eqb, leb, not, ◌&&◌, ◌||◌, is_some, Option, Some, None, Result, Ok, Err, refl, ap, sym, ◌∙◌, subst, arith}
+use Rattle.std.proofs.Common.{◌≡◌, ℕ, zero, suc, ◌+◌, ◌<◌, ◌≤◌, List, [], ◌∷◌, ◌++◌, length, get_or, take, drop, drop-cons, add-one, Bool, true, false, cond, eqb, leb, not, ◌&&◌, ◌||◌, is_some, Option, Some, None, Result, Ok, Err, refl, ap, sym, ◌∙◌, arith}
 use Rattle.std.specs.Option.{option_and_then, option_map_or}
 use Rattle.std.proofs.Math.ListN.{drop_of_length-le}
 use Rattle.std.proofs.Math.Seq.{take-suc}
@@ -7,7 +7,6 @@ use Rattle.std.proofs.lemmas.Bool.Decides.{nat_tests}
 use Rattle.bus_names.specs.Reading.{interface_fault, member_fault, bus_name_fault}
 use Rattle.bus_names.specs.Types.{Shape}
 use Rattle.bus_value.specs.declared.basic_value.BasicValue.{BasicValue}
-use Rattle.bus_value.specs.declared.basic_value.BasicValue.TheVariants.{Byte}
 use Rattle.bus_value.specs.declared.fault.ValueFault.{ValueFault}
 use Rattle.bus_value.specs.declared.fields.Field.{Field}
 use Rattle.bus_value.specs.declared.order.Order.{Order}
@@ -27,7 +26,7 @@ use Rattle.bus_message.specs.Kept.{basic_or_none, shown_field, shown, first_bad,
 use Rattle.bus_message.specs.Reading.{fields_read, padding_read, headed, body_read, fields_kept, with_fields, unless_bad, message_of}
 use Rattle.bus_message.specs.Headers.{body_start}
 use Rattle.bus_message.specs.Checks as checks
-use Rattle.bus_message.proofs.FieldLaws.{found_later, found_here, found_none, item_is}
+use Rattle.bus_message.proofs.FieldLaws.{found_later, found_here, item_is}
 
 -- what is kept of a value is what counts of it
 plain_kept : (v : Val) → plain (Some (basic_or_none (basic_in v))) ≡ plain (Some v)
@@ -256,7 +255,3 @@ later n i fs f less is other = let l = length_shown fs in found_later n i (shown
 -- it is
 pub here_found : (n i : ℕ) (fs : List Field) (f : Field) → i < length fs → f ≡ get_or fs i f → f.number ≡ n → found n (drop i (shown fs)) ≡ Some (basic_or_none f.value)
 here_found n i fs f less is same = let l = length_shown fs in found_here n i (shown fs) (shown_field f) (omega (arith, less, l)) (shown_at fs i f less is) same
-
--- there is none
-pub none_found : (n i : ℕ) (fs : List Field) → length fs ≤ i → found n (drop i (shown fs)) ≡ None
-none_found n i fs h = let l = length_shown fs in found_none n i (shown fs) (omega (arith, h, l))

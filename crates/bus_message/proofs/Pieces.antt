@@ -22,12 +22,6 @@ pub record IsUnderWay (text : List ℕ) (messages : List Message) (taken : ℕ) 
   pub within : taken ≤ length text
   pub same : (place : ℕ) → cut_at place text ≡ before messages (cut_at (place + taken) (drop taken text))
 
-pub first_way : (text : List ℕ) → IsUnderWay text [] 0
-first_way text = record {
-  within = omega arith;
-  same = λ place. let none : place ≡ place + 0 = omega arith in ap (λ (p : ℕ). cut_at p text) none;
-}
-
 -- one more message
 pub next_way : (text : List ℕ) (messages now : List Message) (taken n : ℕ) (m : Message)
     → IsUnderWay text messages taken → front (drop taken text) ≡ Whole n m → n ≤ length (drop taken text) → now ≡ messages ++ m ∷ []

@@ -44,9 +44,6 @@ name_read fault v text (Err (BadSignature k)) (Ok None) is gives names = absurd 
 name_read fault v text (Err (TooDeep k)) (Ok None) is gives names = absurd gives
 name_read fault v text (Err e) (Ok (Some n)) is gives names = absurd (let k : ⊥ = cc in k)
 
-pub no_name : (fault : List ℕ → Option ℕ) (v : Option Val) → text_at v ≡ None → name_at fault v ≡ None
-no_name fault v is = rw is refl
-
 -- the signature of nothing
 pub no_signature : signature_of [] ≡ Ok []
 no_signature = signature_read [] (record { nested = record { in_arrays = omega arith; in_structs = omega arith }; short = omega arith })

@@ -8,7 +8,7 @@ ghost use Rattle.bus_message.specs.Outcomes.{IsCutFrom, Gives, before, ended, cu
 use crate::cutting::{Pieces, cut_messages};
 use crate::fault::{Fault, Malformed};
 use crate::message::Message;
-use login_base::{Items, NoMemory};
+use login_base::{Items, NoMemory, drop_front};
 use std::alloc::Global;
 use std::marker::Model;
 
@@ -39,23 +39,6 @@ pub struct Cut {
     pub messages: Items<Message>,
     /// Where the stream is malformed.
     pub malformed: Option<Malformed>,
-}
-
-/// Takes the first bytes away. It takes no memory, and no time for each byte where these are all, or none.
-fn drop_front(alloc: Global, bytes: &mut Vec<u8>, count: usize)
-    requires { count ≤ length bytes.old.items }
-    ensures { bytes.new.items ≡ drop count bytes.old.items }
-{
-    if count == 0 {
-        return;
-    }
-    if count == bytes.len() {
-        *bytes = Vec::new(alloc);
-        return;
-    }
-    bytes.rotate_left(count);
-    let left = bytes.len() - count;
-    bytes.truncate(left);
 }
 
 /// Keeps what is left behind so many bytes, which end at a place in the stream.

@@ -5,23 +5,24 @@ use Rattle.std.proofs.lemmas.Slice.Eq.{bytes_eq-Decides}
 use Rattle.std.specs.Str.{bytes_eq}
 use Rattle.std.specs.List.{flat_map, AllByRecursion}
 use Rattle.login_base.specs.Names.{is_digit}
-use Rattle.login_base.specs.Labels.{escape, escape_of, hex_digit, later_byte, is_letter}
-use Rattle.bus_names.specs.Unescape.{digit_value, decoded, candidate, unescaped, NoEscape}
+use Rattle.login_base.specs.Hex.{hex_digit, hex_value}
+use Rattle.login_base.specs.Labels.{escape, escape_of, later_byte, is_letter}
+use Rattle.bus_names.specs.Unescape.{decoded, candidate, unescaped, NoEscape}
 
 -- the value of a digit
-value_of_digit : (n : ℕ) → n < 16 → digit_value (hex_digit n) ≡ n
+value_of_digit : (n : ℕ) → n < 16 → hex_value (hex_digit n) ≡ n
 value_of_digit n h = grind (arith, nat_tests)
 
-escaped_byte : (b : ℕ) → b < 256 → digit_value (hex_digit (b / 16)) * 16 + digit_value (hex_digit (b % 16)) ≡ b
+escaped_byte : (b : ℕ) → b < 256 → 16 * hex_value (hex_digit (b / 16)) + hex_value (hex_digit (b % 16)) ≡ b
 escaped_byte b h =
-    let high : digit_value (hex_digit (b / 16)) ≡ b / 16 = value_of_digit (b / 16) (omega arith) in
-    let low : digit_value (hex_digit (b % 16)) ≡ b % 16 = value_of_digit (b % 16) (omega arith) in
+    let high : hex_value (hex_digit (b / 16)) ≡ b / 16 = value_of_digit (b / 16) (omega arith) in
+    let low : hex_value (hex_digit (b % 16)) ≡ b % 16 = value_of_digit (b % 16) (omega arith) in
     rw (high, low) (omega arith)
 
 decoded_plain : (b : ℕ) (rest : List ℕ) → eqb b 95 ≡ false → decoded (b ∷ rest) ≡ b ∷ decoded rest
 decoded_plain b [] e = refl
 decoded_plain b (c ∷ []) e = refl
-decoded_plain b (c ∷ d ∷ rest) e = ap (λ (t : Bool). cond t ((digit_value c * 16 + digit_value d) ∷ decoded rest) (b ∷ decoded (c ∷ d ∷ rest))) e
+decoded_plain b (c ∷ d ∷ rest) e = ap (λ (t : Bool). cond t ((16 * hex_value c + hex_value d) ∷ decoded rest) (b ∷ decoded (c ∷ d ∷ rest))) e
 
 decoded_piece : (plain : Bool) (b : ℕ) (rest : List ℕ) → (plain ≡ true → eqb b 95 ≡ false) → b < 256 → decoded (cond plain (b ∷ []) (escape_of b) ++ rest) ≡ b ∷ decoded rest
 decoded_piece true b rest h s = decoded_plain b rest (h refl)

@@ -26,9 +26,6 @@ pub fault_from-end : (g : Grammar) (at : ℕ) (p : Place) → fault_from g at p 
 unfolding fault_from
 fault_from-end g at p = refl
 
-pub ends_well : (g : Grammar) (at : ℕ) (p : Place) → wanted p ≡ 0 → fault_from g at p [] ≡ None
-ends_well g at p e = fault_from-end g at p ∙ ap (λ (n : ℕ). cond (eqb n 0) None (Some at)) e
-
 pub ends_early : (g : Grammar) (at : ℕ) (p : Place) → eqb (wanted p) 0 ≡ false → fault_from g at p [] ≡ Some at
 ends_early g at p e = rw (fault_from-end g at p, e) refl
 

@@ -1,20 +1,18 @@
 -- Elements of object paths as texts.
-use Rattle.std.specs.Prelude.{ℕ, ◌≡◌, ◌<◌, ◌+◌, ◌*◌, ◌-◌, ◌%◌, List, [], ◌∷◌, nat_lt, ◌==◌, Option, Some, None, Result, Ok, Err, ⊤, if◌then◌else◌}
+use Rattle.std.specs.Prelude.{ℕ, ◌≡◌, ◌<◌, ◌+◌, ◌*◌, List, [], ◌∷◌, ◌==◌, Option, Some, None, Result, Ok, Err, ⊤, if◌then◌else◌}
 use Rattle.std.specs.List.{AllByRecursion}
 use Rattle.std.specs.Str.{bytes_eq}
+use Rattle.login_base.specs.Hex.{hex_value}
 use Rattle.login_base.specs.Labels.{escape}
 use Rattle.bus_names.specs.declared.fault.NameFault.{NameFault}
 use Rattle.bus_names.specs.declared.fault.NameFault.TheVariants.{BadName, BadLabel, BadSignature, TooDeep, NoMemory}
-
-abbrev pub digit_value : ℕ → ℕ
-digit_value d = if nat_lt d 58 then (d - 48) % 16 else (d - 87) % 16
 
 -- the bytes with each escape decoded, whatever its digits are
 abbrev pub decoded : List ℕ → List ℕ
 decoded [] = []
 decoded (a ∷ []) = a ∷ []
 decoded (a ∷ b ∷ []) = a ∷ b ∷ []
-decoded (a ∷ b ∷ c ∷ rest) = if a == 95 then (digit_value b * 16 + digit_value c) ∷ decoded rest else a ∷ decoded (b ∷ c ∷ rest)
+decoded (a ∷ b ∷ c ∷ rest) = if a == 95 then (16 * hex_value b + hex_value c) ∷ decoded rest else a ∷ decoded (b ∷ c ∷ rest)
 
 -- the one text whose escape the label may be
 abbrev pub candidate : List ℕ → List ℕ

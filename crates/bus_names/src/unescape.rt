@@ -1,11 +1,12 @@
 // Elements of object paths as texts.
 
 ghost use Rattle.std.specs.Prelude.{◌≡◌, ◌<◌, ◌^◌, length, IfOk, Option, Some, None, ◌++◌, ◌∷◌, [], ◌*◌, ◌+◌};
+ghost use Rattle.login_base.specs.Hex.{hex_value};
 ghost use Rattle.login_base.specs.Labels.{escape};
-ghost use Rattle.bus_names.specs.Unescape.{digit_value, decoded, candidate, unescaped, Unescapes, NoEscape};
+ghost use Rattle.bus_names.specs.Unescape.{decoded, candidate, unescaped, Unescapes, NoEscape};
 
 use crate::fault::NameFault;
-use login_base::{NoMemory, Word};
+use login_base::{NoMemory, Word, hex_value};
 use std::alloc::Global;
 
 /// The text as one element of an object path (sd_bus_path_encode(3)): each byte but letters and digits of
@@ -18,16 +19,12 @@ pub fn escape_label(alloc: Global, text: &[u8]) -> Result<Word, NoMemory>
     login_base::escape(alloc, text)
 }
 
-/// The value of a digit of base 16; of other bytes some value below 16.
-fn digit_value(digit: u8) -> u8
-    ensures value { result ≡ digit_value digit }
+/// The value of a digit of base 16, and 0 of any other byte.
+fn value_or_zero(digit: u8) -> u8
+    ensures value { result ≡ hex_value digit }
     ensures bound { result < 16 }
 {
-    if digit < 58 {
-        digit.saturating_sub(48) % 16
-    } else {
-        digit.saturating_sub(87) % 16
-    }
+    hex_value(digit).unwrap_or(0)
 }
 
 /// The bytes with each escape decoded, whatever its digits are.
@@ -38,7 +35,7 @@ fn decoded(alloc: Global, label: &[u8]) -> Result<Vec<u8>, NoMemory>
     let mut rest = label;
     while !rest.is_empty() {
         if rest[0] == b'_' && rest.len() >= 3 {
-            out.push(digit_value(rest[1]) * 16 + digit_value(rest[2]))?;
+            out.push(16 * value_or_zero(rest[1]) + value_or_zero(rest[2]))?;
             rest = &rest[3..];
         } else {
             out.push(rest[0])?;

@@ -94,9 +94,6 @@ text_sized o text rest h =
     let e : number o 4 (body ++ rest) + 5 ≡ length body = omega arith in
     ap (λ (k : Bool). cond k None (Some (number o 4 (body ++ rest) + 5))) c ∙ ap (λ (n : ℕ). Some n) e
 
-number_sized : (n k : ℕ) (x : List ℕ) → length x ≡ n → n ≡ k → Some k ≡ Some (length x)
-number_sized n k x h e = ap (λ (m : ℕ). Some m) (sym (h ∙ e))
-
 pub size_spelled : (o : Order) (a : BasicValue) (rest : List ℕ) → IsLegal a → size o (kind_of a) (basic_bytes o a ++ rest) ≡ Some (length (basic_bytes o a))
 size_spelled o (Byte n) rest h = refl
 size_spelled o (Boolean b) rest h = ap (λ (m : ℕ). Some m) (sym (width_4 o (cond b 1 0)))

@@ -39,9 +39,6 @@ Lasts r = r ≡ Err NoMemory → ⊥
 ok_lasts : {A : Type 0} (a : A) → Lasts (Ok a)
 ok_lasts a e = cc
 
-fault_lasts : {A : Type 0} (x : ValueFault) → (x ≡ NoMemory → ⊥) → Lasts {A = A} (Err x)
-fault_lasts x h e = h cc
-
 cut_lasts : {A : Type 0} (around : Option ℕ) (at : ℕ) → Lasts {A = A} (Err (cut_off around at))
 cut_lasts None at e = cc
 cut_lasts (Some place) at e = cc

@@ -70,11 +70,6 @@ one_type d [] h = cc
 one_type d (u ∷ []) h = refl
 one_type d (u ∷ v ∷ ts) h = cc
 
-pub variant_depth : (d : ℕ) (ts : List Shape) → is_variant_type d ts ≡ true → d + 1 + nesting_all ts ≤ 64
-variant_depth d [] h = cc
-variant_depth d (u ∷ []) h = let k : d + 1 + nesting u ≤ 64 = grind (arith, nat_tests) in omega arith
-variant_depth d (u ∷ v ∷ ts) h = cc
-
 mutual
   nesting_bound : (t : Shape) → nesting t ≤ arrays t + arrays t + structs t + 1
   nesting_bound (basic b) = omega arith

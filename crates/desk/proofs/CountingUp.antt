@@ -27,9 +27,6 @@ pub record CountsSoFar (number : ℕ) (v w : View ℕ Count) : Type 0 where
   pub who_is : w.who ≡ v.who
   pub setup_is : w.setup ≡ v.setup
 
-pub none_so_far : (v : View ℕ Count) → CountsSoFar 0 v v
-none_so_far v = record { own = []; mine_is = sym (append_nil v.mine); in_order = tt; long = refl; number_is = refl; who_is = refl; setup_is = refl }
-
 from_longer : (who number : ℕ) (cs : List Count) (c : Count) → c.who.0 ≡ who → c.number ≡ number + length cs → CountsFrom who number cs → CountsFrom who number (cs ++ c ∷ [])
 from_longer who number [] c whose is h = (whose, (let e : c.number ≡ number = omega (arith, is) in e), tt)
 from_longer who number (d ∷ cs) c whose is h = (h.0, h.1, from_longer who (number + 1) cs c whose (omega (arith, is)) h.2)
@@ -71,17 +68,6 @@ no_more most number v w u below h t =
       number_is = ap (λ (z : View ℕ Count). z.number) t.now ∙ h.number_is;
       who_is = ap (λ (z : View ℕ Count). z.who) t.now ∙ h.who_is;
     }
-
-pub all_made : (most : ℕ) (v w : View ℕ Count) → CountsSoFar most v w → CountsTo most v w
-all_made most v w h = record {
-  own = h.own;
-  mine_is = h.mine_is;
-  in_order = h.in_order;
-  at_most = (let e = h.long in omega (arith, e));
-  full = λ less. (let e = h.long in absurd (omega (arith, e, less)));
-  number_is = h.number_is;
-  who_is = h.who_is;
-}
 
 -- each entry is of one of three passes
 three_passes : (xs : List (Numbered Count)) → ((k : ℕ) (l : Numbered Count) → get_elem? xs k ≡ some l → (l.number ≡ 0) ⊎ ((l.number ≡ 1) ⊎ (l.number ≡ 2))) → length (entries xs) ≡ length (of_pass 0 xs) + (length (of_pass 1 xs) + length (of_pass 2 xs))

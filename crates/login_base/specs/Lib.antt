@@ -5,4 +5,5 @@ pub mod SessionId
 pub mod Seat
 pub mod Room
 pub mod Names
+pub mod Hex
 pub mod Labels

@@ -1,24 +1,13 @@
 // Texts as elements of object paths.
 
-ghost use Rattle.std.specs.Prelude.{◌≡◌, ◌≤◌, ◌<◌, ◌+◌, ◌++◌, OnOk, IfOk};
+ghost use Rattle.std.specs.Prelude.{◌≡◌, ◌≤◌, ◌+◌, ◌++◌, OnOk, IfOk};
 ghost use Rattle.std.specs.List.{flat_map};
-ghost use Rattle.login_base.specs.Labels.{is_letter, hex_digit, escape_of, first_byte, later_byte, escape};
+ghost use Rattle.login_base.specs.Labels.{is_letter, escape_of, first_byte, later_byte, escape};
 
+use crate::hex::hex_digit;
 use crate::memory::NoMemory;
 use crate::word::Word;
 use std::alloc::Global;
-
-/// A digit of base 16, in lower case.
-fn hex_digit(number: u8) -> u8
-    requires { number < 16 }
-    ensures { result ≡ hex_digit number }
-{
-    if number < 10 {
-        48 + number
-    } else {
-        87 + number
-    }
-}
 
 fn is_letter(byte: u8) -> bool
     ensures { result ≡ is_letter byte }

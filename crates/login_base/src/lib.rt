@@ -1,6 +1,8 @@
 //! Plain types that the other crates share: ids, texts, lists, and how numbers and names are read.
 #![tactic(auto)]
 
+mod front;
+mod hex;
 mod ids;
 mod items;
 mod label;
@@ -11,6 +13,8 @@ mod seat_name;
 mod session_id;
 mod word;
 
+pub use front::drop_front;
+pub use hex::{hex_digit, hex_value, is_hex_digit};
 pub use ids::{ConnId, DevNo, HandleNo, LockNo, Millis, SessId, Uid};
 pub use items::{Bytes, Items};
 pub use label::escape;

@@ -1,8 +1,9 @@
 // Names of seats, kept in place.
 
 ghost use Rattle.std.specs.Prelude.{◌≡◌, ◌↔◌, ◌≤◌, length, IsTrue, IsOk, IfOk, codes, replicate, ◌++◌, ◌-◌};
-ghost use Rattle.login_base.specs.Seat.{is_seat_name, is_seat_byte};
+ghost use Rattle.login_base.specs.Seat.{seat0, is_seat_name, is_seat_byte};
 ghost use Rattle.std.specs.List.{list_all};
+ghost use Rattle.std.specs.Str.{bytes_eq};
 ghost use Rattle.login_base.specs.Labels.{escape};
 
 use crate::label;
@@ -79,6 +80,29 @@ fn padded(text: &[u8]) -> [u8; 255]
 }
 
 impl SeatName {
+    /// The seat that is always there, and the only one with virtual terminals.
+    pub const SEAT0: SeatName = SeatName {
+        size: 5,
+        bytes: [
+            b's', b'e', b'a', b't', b'0', 0, 0, 0, 0, 0, 0, 0, 0, 0, 0, 0, 0, 0, 0, 0, 0, 0, 0, 0,
+            0, 0, 0, 0, 0, 0, 0, 0, 0, 0, 0, 0, 0, 0, 0, 0, 0, 0, 0, 0, 0, 0, 0, 0, 0, 0, 0, 0, 0,
+            0, 0, 0, 0, 0, 0, 0, 0, 0, 0, 0, 0, 0, 0, 0, 0, 0, 0, 0, 0, 0, 0, 0, 0, 0, 0, 0, 0, 0,
+            0, 0, 0, 0, 0, 0, 0, 0, 0, 0, 0, 0, 0, 0, 0, 0, 0, 0, 0, 0, 0, 0, 0, 0, 0, 0, 0, 0, 0,
+            0, 0, 0, 0, 0, 0, 0, 0, 0, 0, 0, 0, 0, 0, 0, 0, 0, 0, 0, 0, 0, 0, 0, 0, 0, 0, 0, 0, 0,
+            0, 0, 0, 0, 0, 0, 0, 0, 0, 0, 0, 0, 0, 0, 0, 0, 0, 0, 0, 0, 0, 0, 0, 0, 0, 0, 0, 0, 0,
+            0, 0, 0, 0, 0, 0, 0, 0, 0, 0, 0, 0, 0, 0, 0, 0, 0, 0, 0, 0, 0, 0, 0, 0, 0, 0, 0, 0, 0,
+            0, 0, 0, 0, 0, 0, 0, 0, 0, 0, 0, 0, 0, 0, 0, 0, 0, 0, 0, 0, 0, 0, 0, 0, 0, 0, 0, 0, 0,
+            0, 0, 0, 0, 0, 0, 0, 0, 0, 0, 0, 0, 0, 0, 0, 0, 0, 0, 0, 0, 0, 0, 0, 0, 0, 0, 0, 0,
+        ],
+    };
+
+    /// Whether it is that seat.
+    pub fn is_seat0(&self) -> bool
+        ensures { result ≡ bytes_eq self.now seat0 }
+    {
+        self.as_slice() == SeatName::SEAT0.as_slice()
+    }
+
     /// The seat of this name.
     pub fn read(text: &[u8]) -> Result<SeatName, SeatFault>
         ensures found { IsOk result ↔ IsTrue (is_seat_name text.now) }

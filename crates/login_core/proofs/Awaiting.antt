@@ -16,8 +16,8 @@ use Rattle.login_model.proofs.Keys.{test}
 use Rattle.login_laws.proofs.Loops.{awaiting-none}
 use Rattle.login_table.specs.Rows.{as_trail}
 use Rattle.login_table.specs.declared.rows.Row.{Row}
-use Rattle.login_core.specs.Facts.{Tables, TablesStand}
-use Rattle.login_core.specs.Awaiting.{is_awaited_key}
+use Rattle.login_core.specs.inner.Facts.{Tables, TablesStand}
+use Rattle.login_core.specs.inner.Awaiting.{is_awaited_key}
 
 among-none : (t : Trail) → is_awaited_among t [] ≡ false
 unfolding is_awaited_among

@@ -4,7 +4,7 @@ use Rattle.std.proofs.lemmas.List.{take_more_set}
 use Rattle.std.proofs.Math.Seq.{take-append_seam}
 use Rattle.login_base.specs.Room.{Room}
 use Rattle.login_model.specs.declared.mark.Mark.{Mark}
-use Rattle.login_core.specs.Ledger.{HaveRoom, IsLedger}
+use Rattle.login_core.specs.inner.Ledger.{HaveRoom, IsLedger}
 
 -- one of them that is widened
 pub set-keeps : (n : ℕ) (xs : List (Room Mark)) (i : ℕ) (b d : Room Mark) → i < length xs → HaveRoom n xs → b.items ≡ (slice_index_or xs i d).items → (slice_index_or xs i d).spare ≤ b.spare

@@ -5,7 +5,7 @@ use Rattle.login_model.specs.Names.{IsNext, is_above}
 use Rattle.login_model.specs.Trail.{Trail}
 use Rattle.login_model.proofs.Keys.{test, both}
 use Rattle.login_model.proofs.InOrder.{Enumerates, rest, rest-next, rest-all}
-use Rattle.login_core.specs.Chosen.{is_chosen}
+use Rattle.login_core.specs.inner.Chosen.{is_chosen}
 use Rattle.login_core.proofs.Going.{Tour, left, KeepsAbove}
 
 -- so far none was passed over: those above a name that meet the test are above another

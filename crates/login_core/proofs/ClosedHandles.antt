@@ -12,7 +12,7 @@ use Rattle.login_model.specs.Where.{is_open}
 use Rattle.login_model.specs.Direct.{close_handle, close_owned}
 use Rattle.login_core.specs.declared.room.copies.Copies.{Copies}
 use Rattle.login_core.specs.Texts.{AreSome}
-use Rattle.login_core.specs.Handles.{owner_fact, AreForClosing}
+use Rattle.login_core.specs.inner.Handles.{owner_fact, AreForClosing}
 use Rattle.login_model.specs.Facts.{owner_in}
 use Rattle.login_core.proofs.Frames.{put-other}
 

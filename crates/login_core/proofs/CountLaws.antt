@@ -16,7 +16,7 @@ use Rattle.login_laws.proofs.Counts.{Lists, count-gone, count-more, count-same}
 use Rattle.login_table.specs.Listed.{is_there}
 use Rattle.login_table.proofs.Listing.{Kind, all, all-length}
 use Rattle.login_table.proofs.Standing.{value-set}
-use Rattle.login_core.specs.Counts.{Fits, one_if, one_there}
+use Rattle.login_core.specs.inner.Counts.{CanMove, one_if, one_there}
 
 not-so : {b : Bool} → b ≡ true → b ≡ false → ⊥
 not-so {b} p q = let z : true ≡ false = sym p ∙ q in cc
@@ -140,7 +140,7 @@ follows K list same k x t old new e h =
 
 -- and there is room for it, where nothing is absent and there
 pub fits : {A : Type 0} (K : Kind A) (list : Trail → List A) → ((u : Trail) → length (list u) ≡ length (all K u)) → K.is_fact Absent ≡ false → (k : Key) (x : Fact) (t : Trail) (old : ℕ)
-    → old ≡ length (list t) → length t + 2 < 2 ^ 32 → Fits old (one_there (K.name_in k) (K.is_fact (value t k))) (one_there (K.name_in k) (K.is_fact x))
+    → old ≡ length (list t) → length t + 2 < 2 ^ 32 → CanMove old (one_there (K.name_in k) (K.is_fact (value t k))) (one_there (K.name_in k) (K.is_fact x))
 fits K list same none k x t old e few =
     let lost = count-set K k Absent t in
     let zero = ap (one_there (K.name_in k)) none ∙ none-there (K.name_in k) in

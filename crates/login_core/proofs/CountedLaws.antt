@@ -29,7 +29,7 @@ use Rattle.login_laws.proofs.Paying.{open-session}
 use Rattle.login_laws.proofs.SoundLaws.{sound-journal}
 use Rattle.login_table.proofs.Listing.{Kind, all, kind, session_kind, sessions-all}
 use Rattle.login_core.specs.declared.room.counts.Counts.{Counts}
-use Rattle.login_core.specs.Counts.{AreCounted, Fit, Follow, HoldersAreThere, controlled, controlled_in, counts_of, is_controlled, taken_pairs}
+use Rattle.login_core.specs.inner.Counts.{AreCounted, CanAllMove, Follow, HoldersAreThere, controlled, controlled_in, counts_of, is_controlled, taken_pairs}
 use Rattle.login_core.proofs.CountLaws.{count-say, fits, follows, kind-list}
 use Rattle.login_core.proofs.PairLaws.{pair_kind, pairs-all, pairs-taken}
 
@@ -114,7 +114,7 @@ counted-set c d k x t a f = record {
   users = follows user_kind users users-all k x t c.users d.users a.users f.users;
 }
 
-pub counted-fit : (c : Counts) (k : Key) (x : Fact) (t : Trail) → AreCounted c t → length t + 2 < 2 ^ 32 → Fit c (counts_of k (value t k)) (counts_of k x)
+pub counted-fit : (c : Counts) (k : Key) (x : Fact) (t : Trail) → AreCounted c t → length t + 2 < 2 ^ 32 → CanAllMove c (counts_of k (value t k)) (counts_of k x)
 counted-fit c k x t a few = record {
   connections = fits conn_kind connections conns-all refl k x t c.connections a.connections few;
   controlled = fits controlled_kind controlled controlled-all refl k x t c.controlled a.controlled few;

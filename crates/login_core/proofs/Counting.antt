@@ -8,7 +8,7 @@ use Rattle.login_model.specs.declared.mark.Whom.{Whom}
 use Rattle.login_model.specs.declared.mark.Notice.{Notice}
 use Rattle.login_model.specs.Trail.{Trail}
 use Rattle.login_model.specs.Fresh.{fresh_session, fresh_handle, is_open_fact, is_owned_fact}
-use Rattle.login_core.specs.Facts.{opens, gives}
+use Rattle.login_core.specs.inner.Facts.{opens, gives}
 
 one-more : (b : Bool) (n : ℕ) → cond b (n + 1) n ≡ n + cond b 1 0
 one-more true n = refl

@@ -19,7 +19,7 @@ use Rattle.login_laws.proofs.Grows.{Grows, grows-refl, leave-grows}
 use Rattle.login_model.proofs.Keys.{test, same-user}
 use Rattle.login_model.proofs.NameLaws.{user_order}
 use Rattle.login_model.proofs.InOrder.{users-enumerated}
-use Rattle.login_core.specs.Leaving.{is_overdue}
+use Rattle.login_core.specs.inner.Leaving.{is_overdue}
 use Rattle.login_model.specs.Facts.{is_known}
 use Rattle.login_core.proofs.Among.{among, left-same}
 use Rattle.login_core.proofs.Frames.{Keeps, keeps-then, keeps-put, keeps-say, put-other}

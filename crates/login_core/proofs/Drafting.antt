@@ -11,9 +11,9 @@ use Rattle.login_model.specs.declared.mark.Mark.TheVariants.{Set, Say}
 use Rattle.login_model.specs.declared.mark.Whom.{Whom}
 use Rattle.login_model.specs.declared.mark.Notice.{Notice}
 use Rattle.login_model.specs.declared.mark.Entry.{Entry}
-use Rattle.login_core.specs.Facts.{Tables, StandFor}
-use Rattle.login_core.specs.UnderWay.{so_far}
-use Rattle.login_core.specs.Draft.{DraftState, Fits, IsDraft, tell, with_trail}
+use Rattle.login_core.specs.inner.Facts.{Tables, StandFor}
+use Rattle.login_core.specs.inner.UnderWay.{so_far}
+use Rattle.login_core.specs.inner.Draft.{DraftState, Fits, IsDraft, tell, with_trail}
 use Rattle.login_laws.proofs.JournalLaws.{length-after}
 use Rattle.login_core.proofs.Standing.{so_far-more, so_far-start, so_far-closed, put-other}
 

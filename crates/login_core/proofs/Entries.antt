@@ -15,9 +15,9 @@ use Rattle.login_model.specs.Legal.{after_all, trail_of, IsPlaced, IsLegal, IsLe
 use Rattle.login_model.specs.Stopping.{is_stop, stop_from}
 use Rattle.login_laws.proofs.JournalLaws.{length-after}
 use Rattle.login_core.specs.declared.board.Board.{Board}
-use Rattle.login_core.specs.Board.{IsBegun}
-use Rattle.login_core.specs.Draft.{DraftState, marked_by}
-use Rattle.login_core.specs.UnderWay.{so_far, entry_of}
+use Rattle.login_core.specs.inner.Board.{IsBegun}
+use Rattle.login_core.specs.inner.Draft.{DraftState, marked_by}
+use Rattle.login_core.specs.inner.UnderWay.{so_far, entry_of}
 use Rattle.login_core.specs.State.{stop_next}
 use Rattle.login_core.proofs.Standing.{so_far-none, so_far-closed}
 

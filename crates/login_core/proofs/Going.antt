@@ -5,7 +5,7 @@ use Rattle.login_model.specs.Names.{IsNext}
 use Rattle.login_model.specs.Procedure.{each}
 use Rattle.login_laws.proofs.Grows.{Grows, each-grows}
 use Rattle.login_model.proofs.InOrder.{Enumerates, rest, rest-none, rest-next, rest-stays}
-use Rattle.login_core.specs.Draft.{DraftState, Fits, marked_by, with_trail}
+use Rattle.login_core.specs.inner.Draft.{DraftState, Fits, marked_by, with_trail}
 
 -- the names of a kind that are there, which a list has
 pub record Tour (A : Type 0) : Type 0 where

@@ -22,7 +22,7 @@ use Rattle.login_model.specs.declared.rule.Verdict.TheVariants.{Granted}
 use Rattle.login_model.specs.declared.setup.Setup.{Setup}
 use Rattle.login_laws.proofs.Granted.{NoneBroken, granted-rules, holds-rule}
 use Rattle.login_model.proofs.Keys.{both}
-use Rattle.login_core.specs.Calls.{ExitsHere, NamesSeat}
+use Rattle.login_core.specs.inner.Calls.{ExitsHere, NamesSeat}
 
 named-by : (U : Setup) (t : Trail) (c : ConnId) (x : Call) → NoneBroken (call_rules U t c x) → NamesSeat x
 named-by U t c (call.TerminateSeat seat) h = (both (is_seat_name seat) (is_seat t seat) (holds-rule _ NoSuchSeat h.0)).0

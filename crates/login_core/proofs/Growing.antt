@@ -1,7 +1,7 @@
 -- That procedures only add marks, for the tactics.
 use Rattle.std.proofs.Common.{◌≡◌, ◌≤◌, length, ap, arith}
 use Rattle.login_model.specs.Trail.{Trail}
-use Rattle.login_core.specs.Draft.{DraftState, with_trail}
+use Rattle.login_core.specs.inner.Draft.{DraftState, with_trail}
 use Rattle.login_laws.proofs.Grows.{put-grows, tell_all-grows, tell_controller-grows, kill-grows, untake-grows, release-grows, revoke-grows, set_phase-grows, vacate-grows, leave_seat-grows, force-grows, resume-grows, know-grows, forget-grows, shut-grows}
 
 pub ruleset growing = (put-grows, tell_all-grows, tell_controller-grows, kill-grows, untake-grows, release-grows, revoke-grows, set_phase-grows, vacate-grows, leave_seat-grows, force-grows, resume-grows, know-grows, forget-grows, shut-grows)

@@ -9,8 +9,8 @@ use Rattle.sessions.specs.Own.{is_session_key}
 use Rattle.seats_vts.specs.Own.{is_seat_key}
 use Rattle.login_core.specs.declared.board.home.Home.{Home}
 use Rattle.login_core.specs.declared.board.home.Home.TheVariants.{Users, Sessions, Seats}
-use Rattle.login_core.specs.Facts.{Tables, TablesStand, table}
-use Rattle.login_core.specs.Home.{home}
+use Rattle.login_core.specs.inner.Facts.{Tables, TablesStand, table}
+use Rattle.login_core.specs.inner.Home.{home}
 
 not-so : false ≡ true → ⊥
 not-so e = cc

@@ -29,7 +29,7 @@ use Rattle.login_laws.proofs.EventMarks.{other}
 use Rattle.login_laws.proofs.NeedLaws.{ends}
 use Rattle.login_laws.proofs.RoomLaws.{stop-stays}
 use Rattle.login_core.specs.Fullness.{always_fits}
-use Rattle.login_core.specs.Inside.{stop_need}
+use Rattle.login_core.specs.inner.Inside.{stop_need}
 
 -- ---- what is not full is small
 
@@ -140,7 +140,7 @@ connected U t e (Denied r) n h = same-connected U t e
 -- ---- all of it
 
 -- what is kept for the ends: entries, marks, and the limits of the journal
-pub record Kept (entries reach count : ℕ) (stop : Option ℕ) (t : Trail) : Type 0 where
+pub record StaysWithin (entries reach count : ℕ) (stop : Option ℕ) (t : Trail) : Type 0 where
   pub entries_kept : length (connections t) + stop_need stop ≤ entries
   pub reach_kept : Within reach t
   pub few_entries : count + length (connections t) + stop_need stop ≤ 200000
@@ -154,7 +154,7 @@ pub record Made (U : Setup) (entries reach count : ℕ) (t : Trail) (e : Event) 
   pub few_marks : length t + need t + most_marks t + most_rise t ≤ 4000000
 
 pub kept-other : (U : Setup) (entries reach count : ℕ) (t : Trail) (e : Event) (v : Verdict) → IsSound U t → (IsDisconnect e → ⊥) → v ≡ verdict U t e → Made U (entries + 1) reach count t e
-    → Kept entries reach (count + 1) None (stepped U v e t)
+    → StaysWithin entries reach (count + 1) None (stepped U v e t)
 kept-other U entries reach count t e v s n h m =
     let c = connected U t e v n h in
     let a = m.entries_made in
@@ -176,9 +176,9 @@ unfolding verdict
 stop-granted U t = refl
 
 pub kept-disconnect : (U : Setup) (entries reach count : ℕ) (stop : Option ℕ) (t : Trail) (c : ConnId) (v : Verdict) → IsSound U t → is_connected t c ≡ true → v ≡ verdict U t (Disconnect c)
-    → Kept (entries + 1) reach count stop t → Kept entries reach (count + 1) stop (stepped U v (Disconnect c) t)
+    → StaysWithin (entries + 1) reach count stop t → StaysWithin entries reach (count + 1) stop (stepped U v (Disconnect c) t)
 kept-disconnect U entries reach count stop t c v s here h k =
-    let P : Verdict → Type 0 = λ w. Kept entries reach (count + 1) stop (stepped U w (Disconnect c) t) in
+    let P : Verdict → Type 0 = λ w. StaysWithin entries reach (count + 1) stop (stepped U w (Disconnect c) t) in
     let g = disconnect-connections U c t here in
     let a = k.entries_kept in
     let b = k.few_entries in
@@ -189,9 +189,9 @@ kept-disconnect U entries reach count stop t c v s here h k =
       few_marks = disconnect-within U c t 4000000 s here k.few_marks;
     })
 
-pub kept-stop : (U : Setup) (entries reach count n : ℕ) (t : Trail) (v : Verdict) → IsSound U t → v ≡ verdict U t Stop → Kept (entries + 1) reach count None t → Kept entries reach (count + 1) (Some n) (stepped U v Stop t)
+pub kept-stop : (U : Setup) (entries reach count n : ℕ) (t : Trail) (v : Verdict) → IsSound U t → v ≡ verdict U t Stop → StaysWithin (entries + 1) reach count None t → StaysWithin entries reach (count + 1) (Some n) (stepped U v Stop t)
 kept-stop U entries reach count n t v s h k =
-    let P : Verdict → Type 0 = λ w. Kept entries reach (count + 1) (Some n) (stepped U w Stop t) in
+    let P : Verdict → Type 0 = λ w. StaysWithin entries reach (count + 1) (Some n) (stepped U w Stop t) in
     let g = ap (λ (u : Trail). length (connections u)) (stop-stays U t s) in
     let a = k.entries_kept in
     let b = k.few_entries in

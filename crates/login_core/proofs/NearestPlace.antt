@@ -10,7 +10,7 @@ use Rattle.login_model.proofs.InOrder.{IsIn, Ascending}
 use Rattle.login_core.specs.declared.turning.Way.{Way}
 use Rattle.login_core.specs.declared.turning.Way.TheVariants.{Next, Previous}
 use Rattle.login_table.specs.Nearest.{is_lower}
-use Rattle.login_core.specs.Places.{is_before, behind, nearer_place}
+use Rattle.login_core.specs.inner.Places.{is_before, behind, nearer_place}
 
 -- places in their order, either way
 pub way-order : (w : Way) → IsOrder (is_before w)

@@ -17,7 +17,7 @@ use Rattle.login_laws.proofs.Counts.{Lists, count-same, sessions-ascending, take
 use Rattle.login_laws.proofs.Loops.{in-sessions}
 use Rattle.login_table.specs.KeyOrder.{pair_lt}
 use Rattle.login_table.proofs.Listing.{Kind, all, kind}
-use Rattle.login_core.specs.Counts.{HoldersAreThere, Pair, is_pair_below, is_pair_taken, pair_in, taken_pairs}
+use Rattle.login_core.specs.inner.Counts.{HoldersAreThere, Pair, is_pair_below, is_pair_taken, pair_in, taken_pairs}
 use Rattle.login_core.proofs.CountLaws.{kind-list}
 
 -- ---- their order

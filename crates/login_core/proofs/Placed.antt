@@ -10,9 +10,9 @@ use Rattle.login_table.proofs.Standing.{value-set}
 use Rattle.login_core.specs.declared.board.home.Home.{Home}
 use Rattle.login_core.specs.declared.board.home.Home.TheVariants.{Users, Sessions, Seats, Takes, Connections, Controls, Owners, Lives, Others}
 use Rattle.login_core.specs.declared.room.counts.Counts.{Counts}
-use Rattle.login_core.specs.Counts.{Follow, counts_of}
-use Rattle.login_core.specs.Facts.{Tables, StandFor, table, opens, gives}
-use Rattle.login_core.specs.Home.{home}
+use Rattle.login_core.specs.inner.Counts.{Follow, counts_of}
+use Rattle.login_core.specs.inner.Facts.{Tables, StandFor, table, opens, gives}
+use Rattle.login_core.specs.inner.Home.{home}
 use Rattle.login_core.proofs.CountedLaws.{counted-set}
 use Rattle.login_core.proofs.Counting.{sessions-set, handles-set}
 use Rattle.login_core.proofs.HomeLaws.{at-home}

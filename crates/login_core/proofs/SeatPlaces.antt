@@ -11,7 +11,7 @@ use Rattle.login_model.specs.Turning.{open_on, open_terminals, terminals, vt_in}
 use Rattle.login_model.proofs.Keys.{same-bytes}
 use Rattle.login_model.proofs.InOrder.{IsIn, Ascending, in-insert, insert-keeps, insert-came, insert-ascending, filter-ascending, rest-all, rest-next, rest-none, sessions-enumerated}
 use Rattle.login_core.specs.declared.turning.Way.{Way}
-use Rattle.login_core.specs.Places.{is_before, behind, is_open_on, number_of, place_of, places, nearer_place, nearer_open}
+use Rattle.login_core.specs.inner.Places.{is_before, behind, is_open_on, number_of, place_of, places, nearer_place, nearer_open}
 use Rattle.login_core.proofs.Going.{left}
 use Rattle.login_core.proofs.Sessions.{all_sessions}
 use Rattle.login_model.proofs.NameLaws.{number_order}

@@ -28,7 +28,7 @@ use Rattle.login_core.specs.declared.room.copies.Copies.{Copies}
 use Rattle.login_core.specs.declared.room.kept.KeptRow.{KeptRow}
 use Rattle.login_core.specs.Texts.{AreSome}
 use Rattle.login_core.specs.Kept.{copies_in, AreKept}
-use Rattle.login_core.specs.Ending.{StaysAbove, sessions_such, is_kept_open_by}
+use Rattle.login_core.specs.inner.Ending.{StaysAbove, sessions_such, is_kept_open_by}
 use Rattle.login_core.proofs.Frames.{Keeps, Covers, keeps-all, keeps-then, keeps-say, keeps-put, keeps-if, keeps-each}
 use Rattle.login_core.proofs.Going.{KeepsAbove}
 use Rattle.login_core.proofs.Chosen.{filter-chosen}

@@ -10,8 +10,8 @@ use Rattle.login_model.specs.declared.mark.Entry.{Entry}
 use Rattle.login_model.specs.Same.{same_fact}
 use Rattle.login_model.specs.Trail.{Trail, value, after, put}
 use Rattle.login_model.specs.Legal.{after_all, trail_of}
-use Rattle.login_core.specs.Facts.{Tables, TablesStand, StandFor}
-use Rattle.login_core.specs.UnderWay.{so_far}
+use Rattle.login_core.specs.inner.Facts.{Tables, TablesStand, StandFor}
+use Rattle.login_core.specs.inner.UnderWay.{so_far}
 use Rattle.login_core.proofs.CountedLaws.{counted-say}
 use Rattle.login_core.proofs.Counting.{sessions-say, handles-say}
 

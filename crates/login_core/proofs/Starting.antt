@@ -13,8 +13,8 @@ use Rattle.login_model.specs.Trail.{Trail, value}
 use Rattle.login_model.specs.Where.{connections, locks, open_sessions, sessions}
 use Rattle.login_model.specs.declared.mark.Entry.{Entry}
 use Rattle.login_model.specs.declared.setup.Setup.{Setup}
-use Rattle.login_core.specs.Board.{IsBegun}
-use Rattle.login_core.specs.Inside.{IsCore}
+use Rattle.login_core.specs.inner.Board.{IsBegun}
+use Rattle.login_core.specs.inner.Inside.{IsCore}
 use Rattle.login_core.specs.Kept.{HaveTexts, copies_in}
 use Rattle.login_core.specs.declared.board.Board.{Board}
 use Rattle.login_core.specs.declared.room.texts.Texts.{Texts}

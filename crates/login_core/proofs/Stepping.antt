@@ -28,16 +28,16 @@ use Rattle.login_laws.proofs.Comings.{disconnect-connections}
 use Rattle.login_laws.proofs.Quiet.{stepped-quiet}
 use Rattle.login_laws.proofs.RoomLaws.{room}
 use Rattle.login_core.specs.Fullness.{always_fits}
-use Rattle.login_core.specs.Board.{IsBegun}
-use Rattle.login_core.specs.Inside.{IsCore, stop_need}
+use Rattle.login_core.specs.inner.Board.{IsBegun}
+use Rattle.login_core.specs.inner.Inside.{IsCore, stop_need}
 use Rattle.login_core.specs.Kept.{AreReady, HaveTexts}
-use Rattle.login_core.specs.UnderWay.{entry_of}
+use Rattle.login_core.specs.inner.UnderWay.{entry_of}
 use Rattle.login_core.specs.State.{AnswersCall, AnswersWith, CoreState, HasAnswer, IsReady, IsRoomFor, answer_next, stop_next}
 use Rattle.login_core.specs.declared.board.Board.{Board}
 use Rattle.login_core.specs.declared.room.ready.Ready.{Ready}
 use Rattle.login_core.specs.declared.room.texts.Texts.{Texts}
 use Rattle.login_core.proofs.Entries.{Steps, legal-closed, length-closed, marks-counted, stop-closed, trail-closed}
-use Rattle.login_core.proofs.Keeping.{Kept, Made, kept-disconnect, kept-other, kept-stop, small}
+use Rattle.login_core.proofs.Keeping.{StaysWithin, Made, kept-disconnect, kept-other, kept-stop, small}
 
 -- what a core of these parts is seen as
 abbrev pub seen : Setup → Board → Texts → Ready → CoreState
@@ -81,7 +81,7 @@ made U m x a e last f l r =
       few_marks = omega arith;
     }
 
-kept-core : (U : Setup) (m : Board) (x : Texts) (stop : Option ℕ) (last : ℕ) → m.journal.entries ≡ last + 1 → IsCore U m x stop → Kept (last + 1) m.draft.reach (length m.journal.items) stop (trail_of m.journal.items)
+kept-core : (U : Setup) (m : Board) (x : Texts) (stop : Option ℕ) (last : ℕ) → m.journal.entries ≡ last + 1 → IsCore U m x stop → StaysWithin (last + 1) m.draft.reach (length m.journal.items) stop (trail_of m.journal.items)
 kept-core U m x stop last l k =
     let a = k.entries in
     record { entries_kept = omega arith; reach_kept = k.reach; few_entries = k.few_entries; few_marks = k.few_marks }
@@ -105,17 +105,17 @@ has-entry U m x a stop Stop v s =
     omega arith
 
 other-step : (U : Setup) (m : Board) (x : Texts) (a : Ready) (stop : Option ℕ) (e : Event) (v : Verdict) (last : ℕ) → (IsDisconnect e → ⊥) → always_fits e ≡ false → is_stop e ≡ false → m.journal.entries ≡ last + 1
-    → IsRoomFor (seen U m x a) e → Stepping U m x a stop e v → Kept last m.draft.reach (length m.journal.items + 1) (stop_next stop e (length m.journal.items + 1)) (stepped U v e (trail_of m.journal.items))
+    → IsRoomFor (seen U m x a) e → Stepping U m x a stop e v → StaysWithin last m.draft.reach (length m.journal.items + 1) (stop_next stop e (length m.journal.items + 1)) (stepped U v e (trail_of m.journal.items))
 other-step U m x a stop e v last n f i l r s =
     let t = trail_of m.journal.items in
-    let P : Option ℕ → Type 0 = λ o. Kept last m.draft.reach (length m.journal.items + 1) o (stepped U v e t) in
+    let P : Option ℕ → Type 0 = λ o. StaysWithin last m.draft.reach (length m.journal.items + 1) o (stepped U v e t) in
     let k = kept-other U last m.draft.reach (length m.journal.items) t e v s.sound n s.verdict_is (made U m x a e last f l r) in
     let none = no-stop U m x stop e s.core s.placed n in
     subst P (sym (ap (λ (o : Option ℕ). stop_next o e (length m.journal.items + 1)) none ∙ ap (λ (b : Bool). cond b (Some (length m.journal.items + 1)) None) i)) k
 
 -- room is kept for all ends
 pub kept-step : (U : Setup) (m : Board) (x : Texts) (a : Ready) (stop : Option ℕ) (e : Event) (v : Verdict) (last : ℕ) → m.journal.entries ≡ last + 1 → Stepping U m x a stop e v
-    → Kept last m.draft.reach (length m.journal.items + 1) (stop_next stop e (length m.journal.items + 1)) (stepped U v e (trail_of m.journal.items))
+    → StaysWithin last m.draft.reach (length m.journal.items + 1) (stop_next stop e (length m.journal.items + 1)) (stepped U v e (trail_of m.journal.items))
 kept-step U m x a stop (Connect c u) v last l s = other-step U m x a stop (Connect c u) v last (λ z. z) refl refl l s.ready s
 kept-step U m x a stop (Calls r) v last l s = other-step U m x a stop (Calls r) v last (λ z. z) refl refl l s.ready s
 kept-step U m x a stop (Happens y) v last l s = other-step U m x a stop (Happens y) v last (λ z. z) refl refl l s.ready s
@@ -123,7 +123,7 @@ kept-step U m x a stop (Tick n) v last l s = other-step U m x a stop (Tick n) v 
 kept-step U m x a stop (Disconnect c) v last l s =
     let t = trail_of m.journal.items in
     let n = length m.journal.items in
-    let P : Option ℕ → Type 0 = λ o. Kept last m.draft.reach (n + 1) o (stepped U v (Disconnect c) t) in
+    let P : Option ℕ → Type 0 = λ o. StaysWithin last m.draft.reach (n + 1) o (stepped U v (Disconnect c) t) in
     subst P (sym (still stop (n + 1))) (kept-disconnect U last m.draft.reach n stop t c v s.sound s.placed.0 s.verdict_is (kept-core U m x stop last l s.core))
   where
     still : (o : Option ℕ) (k : ℕ) → stop_next o (Disconnect c) k ≡ o
@@ -133,8 +133,8 @@ kept-step U m x a stop Stop v last l s =
     let t = trail_of m.journal.items in
     let n = length m.journal.items in
     let none = no-stop U m x stop Stop s.core s.placed (λ z. z) in
-    let P : Option ℕ → Type 0 = λ o. Kept last m.draft.reach (n + 1) (stop_next o Stop (n + 1)) (stepped U v Stop t) in
-    let Q : Option ℕ → Type 0 = λ o. Kept (last + 1) m.draft.reach n o t in
+    let P : Option ℕ → Type 0 = λ o. StaysWithin last m.draft.reach (n + 1) (stop_next o Stop (n + 1)) (stepped U v Stop t) in
+    let Q : Option ℕ → Type 0 = λ o. StaysWithin (last + 1) m.draft.reach n o t in
     subst P (sym none) (kept-stop U last m.draft.reach n (n + 1) t v s.sound s.verdict_is (subst Q none (kept-core U m x stop last l s.core)))
 
 pub ready-texts : (c : CoreState) (e : Event) → IsReady c e → AreReady e c.texts

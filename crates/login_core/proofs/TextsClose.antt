@@ -11,7 +11,7 @@ use Rattle.login_model.specs.declared.fact.Key.TheVariants.{Owner}
 use Rattle.login_model.specs.declared.fact.Owner.TheVariants as owner
 use Rattle.login_laws.proofs.Carried.{close-carried}
 use Rattle.login_laws.proofs.Tame.{Tame, tame, tame-unlocks}
-use Rattle.login_core.specs.Calls.{fifo_session}
+use Rattle.login_model.specs.Facts.{fifo_session}
 use Rattle.login_core.specs.Kept.{AreClosing, copies_in}
 use Rattle.login_core.specs.declared.room.kept.KeptRow.{KeptRow}
 use Rattle.login_core.proofs.ShutLaws.{kept-shut}

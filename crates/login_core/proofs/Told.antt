@@ -14,7 +14,7 @@ use Rattle.login_model.specs.Switching.{await_handle, complete}
 use Rattle.login_model.specs.declared.setup.Setup.{Setup}
 use Rattle.login_model.specs.Direct.{control_from}
 use Rattle.login_base.specs.declared.ids.ConnId.{ConnId}
-use Rattle.login_core.specs.Told.{handle_fact, controller_fact, kind_fact, absent_or_known, terminal_fact}
+use Rattle.login_core.specs.inner.Told.{handle_fact, controller_fact, kind_fact, absent_or_known, terminal_fact}
 use Rattle.login_model.specs.Facts.{handle_in, controller_in, kind_in, is_absent, number_in_fact}
 
 pub told : (f : Fact) (n : Notice) (t : Trail) → tell_controller (controller_fact (controller_in f)) n t ≡ tell_controller f n t

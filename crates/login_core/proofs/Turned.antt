@@ -12,7 +12,7 @@ use Rattle.login_model.specs.Switching.{request}
 use Rattle.login_model.specs.Turning.{first_of, first_above, last_of, last_below, next_around, previous_around, open_on, open_terminals, turn_to_next, turn_to_previous}
 use Rattle.login_core.specs.declared.turning.Way.{Way}
 use Rattle.login_core.specs.declared.turning.Way.TheVariants.{Next, Previous}
-use Rattle.login_core.specs.Places.{around, number_of, places, current_place, turn_to_place, turn_to}
+use Rattle.login_core.specs.inner.Places.{around, number_of, places, current_place, turn_to_place, turn_to}
 
 -- the numbers of sessions are in the order of the sessions
 or-number : (o p : Option SessId) → option_or (option_map number_of o) (option_map number_of p) ≡ option_map number_of (option_or o p)

@@ -171,7 +171,7 @@ fn call_answer<F: Look>(
 {
     match call {
         Call::Create(creation) => Ok(Answer::Created(created(facts, session, creation))),
-        Call::GetSession(id) => Ok(session_answer(SessId::read(id.as_slice()))),
+        Call::GetSession(_) => Ok(session_answer(call.session())),
         Call::GetUser(uid) => Ok(Answer::User(*uid)),
         Call::GetSeat(seat) => Ok(seat_answer(seat_of(seat.as_slice()))),
         Call::ListSessions => list_sessions(alloc, facts, setup),

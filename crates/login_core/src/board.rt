@@ -10,8 +10,8 @@ ghost use Rattle.std.specs.Prelude.{◌≡◌, ◌+◌, ◌<◌, ◌≤◌, ◌^
 ghost use Rattle.login_model.specs.Trail.{put};
 ghost use Rattle.login_model.specs.Fresh.{next_session};
 ghost use Rattle.login_model.specs.Devices.{is_awaiting};
-ghost use Rattle.login_core.specs.Counts.{AreCounted};
-ghost use Rattle.login_core.specs.Draft.{marked_by, reaching, tell, Fits};
+ghost use Rattle.login_core.specs.inner.Counts.{AreCounted};
+ghost use Rattle.login_core.specs.inner.Draft.{marked_by, reaching, tell, Fits};
 
 use crate::board::facts::Facts;
 use crate::room::counts::Counts;
@@ -39,8 +39,8 @@ pub struct Draft {
 }
 
 impl Model for Draft {
-    ghost use Rattle.login_core.specs.Draft.{DraftState, IsDraft};
-    ghost use Rattle.login_core.specs.UnderWay.{so_far};
+    ghost use Rattle.login_core.specs.inner.Draft.{DraftState, IsDraft};
+    ghost use Rattle.login_core.specs.inner.UnderWay.{so_far};
     ghost use Rattle.login_model.specs.Legal.{trail_of};
 
     ghost Value = { DraftState };
@@ -194,7 +194,7 @@ pub struct Board {
 
 impl Board {
     ghost use Rattle.login_model.specs.Legal.{trail_of};
-    ghost use Rattle.login_core.specs.Board.{Closes, IsBegun};
+    ghost use Rattle.login_core.specs.inner.Board.{Closes, IsBegun};
 
     /// The empty journal, and no marks. It takes no memory.
     pub fn new(alloc: Global) -> Board

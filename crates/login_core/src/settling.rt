@@ -9,7 +9,7 @@ ghost use Rattle.login_laws.specs.Sound.{IsSound};
 ghost use Rattle.login_model.specs.Built.{is_built};
 ghost use Rattle.login_laws.specs.Quiet.{IsQuiet};
 ghost use Rattle.login_core.specs.Kept.{AreReady, HaveTexts};
-ghost use Rattle.login_core.specs.Draft.{marked_by, Fits};
+ghost use Rattle.login_core.specs.inner.Draft.{marked_by, Fits};
 
 use crate::board::Draft;
 use crate::room::texts::Texts;

@@ -93,7 +93,7 @@ pub struct Core {
 
 impl Model for Core {
     ghost use Rattle.login_core.specs.State.{CoreState};
-    ghost use Rattle.login_core.specs.Inside.{IsCore};
+    ghost use Rattle.login_core.specs.inner.Inside.{IsCore};
 
     ghost Value = { CoreState };
 
@@ -110,7 +110,7 @@ impl Model for Core {
 }
 
 impl Core {
-    /// The machine of a setup, before the first event. It takes the room of the stop's entry.
+    /// The core of a setup, before the first event. It takes the room of the stop's entry.
     pub fn new(alloc: Global, setup: Setup) -> Result<Core, NoMemory>
         requires { IsSetup setup }
         ensures setup { IfOk result (λ core. core.setup ≡ setup) }

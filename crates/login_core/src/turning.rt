@@ -2,17 +2,16 @@
 
 ghost use Rattle.std.specs.Prelude.{◌≡◌};
 ghost use Rattle.login_model.specs.Names.{is_above};
-ghost use Rattle.login_model.specs.Where.{is_this_seat};
 ghost use Rattle.login_model.specs.Procedure.{if_some};
 ghost use Rattle.login_model.specs.Turning.{turn_to_next, turn_to_previous};
 ghost use Rattle.login_table.specs.Nearest.{is_lower};
-ghost use Rattle.login_core.specs.Places.{is_before, behind, around, is_open_on, place_of, places, current_place, nearer_place, nearer_open, turn_to_place, turn_to};
-ghost use Rattle.login_core.specs.Draft.{marked_by, Fits};
+ghost use Rattle.login_core.specs.inner.Places.{is_before, behind, around, is_open_on, place_of, places, current_place, nearer_place, nearer_open, turn_to_place, turn_to};
+ghost use Rattle.login_core.specs.inner.Draft.{marked_by, Fits};
 
 use crate::board::Draft;
 use login_base::{SeatName, SessId};
-use login_model::{Key, Look, is_seat0};
-use login_table::{active_on, current_vt, seat_of_session};
+use login_model::{Key, Look};
+use login_table::{active_on, current_vt, is_on_seat};
 
 /// Which way a seat turns.
 #[derive(Clone, Copy, Debug, PartialEq, Eq)]
@@ -60,30 +59,20 @@ fn nearer_place(way: Way, start: Option<u32>, place: u32, best: Option<u32>) -> 
     }
 }
 
-fn is_this_seat(seat: SeatName, name: Option<SeatName>) -> bool
-    ensures { result ≡ is_this_seat seat name }
-{
-    match name {
-        Some(name) => name.as_slice() == seat.as_slice(),
-        None => false,
-    }
-}
-
 #[tactic(auto, using(crate::proofs::Growing::growing))]
 impl Draft {
     /// Whether a session is on a seat, and open.
     fn is_open_on(&self, seat: SeatName, session: SessId) -> bool
         ensures { result ≡ is_open_on self.now.trail seat session }
     {
-        is_this_seat(seat, seat_of_session(self, session))
-            && self.fact(&Key::Sess(session)).is_open()
+        is_on_seat(self, seat.as_slice(), session) && self.fact(&Key::Sess(session)).is_open()
     }
 
     /// The place of a session on a seat: on seat0 its terminal, on another seat its number.
     fn place_of(&self, seat: SeatName, session: SessId) -> u32
         ensures { result ≡ place_of self.now.trail seat session }
     {
-        if is_seat0(seat.as_slice()) {
+        if seat.is_seat0() {
             self.vt_of(session)
         } else {
             session.0
@@ -125,7 +114,7 @@ impl Draft {
     fn current_place(&self, seat: SeatName) -> Option<u32>
         ensures { result ≡ current_place self.now.trail seat }
     {
-        if is_seat0(seat.as_slice()) {
+        if seat.is_seat0() {
             Some(current_vt(self))
         } else {
             match active_on(self, seat) {
@@ -150,7 +139,7 @@ impl Draft {
         requires room { Fits (turn_to_place seat place) self.old }
         ensures marked { self.new ≡ marked_by (turn_to_place seat place) self.old }
     {
-        if is_seat0(seat.as_slice()) {
+        if seat.is_seat0() {
             self.request(place);
         } else {
             self.front(seat, SessId(place));

@@ -5,10 +5,6 @@ use Rattle.std.specs.Prelude.{ℕ, ◌+◌, ◌-◌, ◌^◌, ◌≤◌, min}
 abbrev pub Rose : ℕ → ℕ → Type 0
 Rose before now = min (before + 1) (2 ^ 64 - 1) ≤ now
 
--- a count of 64 bits rose by so many, or stands at its last value
-abbrev pub RoseBy : ℕ → ℕ → ℕ → Type 0
-RoseBy before n now = min (before + n) (2 ^ 64 - 1) ≤ now
-
 -- a count of 64 bits, one higher; it stands still at its last value
 abbrev pub one_more : ℕ → ℕ
 one_more count = min (count + 1) (2 ^ 64 - 1)

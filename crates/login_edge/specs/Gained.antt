@@ -15,10 +15,6 @@ pub Gains-more : (a b c : Option (List ℕ)) (x y : List ℕ) → Gains a b x �
 Gains-more None b c x y h k = k ∙ ap (option_map (λ held. held ++ y)) h
 Gains-more (Some xs) b c x y h k = k ∙ ap (option_map (λ held. held ++ y)) h ∙ ap Some (append_assoc xs x y)
 
--- a gain of the first n bytes of a text is one of a front
-pub Gains-front : (a b : Option (List ℕ)) (text : List ℕ) (n : ℕ) → Gains a b (take n text) → GainsFront a b text
-Gains-front a b text n h = record { count = n; gained = h }
-
 -- a gain of a whole text is one of a front
 pub Gains-whole : (a b : Option (List ℕ)) (text : List ℕ) → Gains a b text → GainsFront a b text
 Gains-whole a b text h = record { count = length text; gained = rw (take_all (length text) text (omega arith)) h }

@@ -5,11 +5,6 @@ use Rattle.std.proofs.Math.Seq.{take-add}
 use Rattle.std.specs.Option.{option_map}
 use Rattle.login_edge.specs.Exchanges.{Exchange, heard, said, quiet, ended, heard_of, said_of, Grew, OnlySaid}
 
--- a talk that stays gained nothing
-pub Grew-nothing : (o : Option (List Exchange)) → Grew o o []
-Grew-nothing None = refl
-Grew-nothing (Some talk) = ap Some (sym (append-nil talk))
-
 -- gains one after the other are one gain
 pub Grew-more : (a b c : Option (List Exchange)) (x y : List Exchange) → Grew a b x → Grew b c y → Grew a c (x ++ y)
 Grew-more None b c x y h k = k ∙ ap (option_map (λ talk. talk ++ y)) h

@@ -1,5 +1,4 @@
 pub mod Faults
-pub mod Rises
 pub mod Texts
 pub mod Edge
 pub mod Writing

@@ -1,11 +1,13 @@
 // Whether values are those that a call takes.
 
-ghost use Rattle.std.specs.Prelude.{◌≡◌, codes};
+ghost use Rattle.std.specs.Prelude.{◌≡◌};
 ghost use Rattle.std.specs.Str.{bytes_eq};
+ghost use Rattle.login_model.specs.Start.{seat0};
+ghost use Rattle.login_model.specs.Words.{whom_word};
 ghost use Rattle.login_model.specs.Policy.{broken_if, bad_arguments, is_type, is_class, is_vt, is_seat_or_none, fits_seat, fits_creation, is_signal, is_whom};
 
 use login_base::{SeatName, Word};
-use login_model::{Class, Creation, KillWhom, Rule, SessionType, is_seat0};
+use login_model::{Class, Creation, KillWhom, Rule, SessionType};
 
 pub(crate) fn broken_if(broken: bool, rule: Rule) -> Option<Rule>
     ensures { result ≡ broken_if broken rule }
@@ -33,17 +35,30 @@ fn is_class(text: &[u8]) -> bool
     text.is_empty() || Class::read(text).is_some()
 }
 
+/// The highest number of a virtual terminal.
+const LAST_TERMINAL: u32 = 63;
+
+/// The highest number of a signal.
+const LAST_SIGNAL: i32 = 64;
+
 /// Whether there is a virtual terminal of this number.
 pub(crate) fn is_vt(vt: u32) -> bool
     ensures { result ≡ is_vt vt }
 {
-    1 <= vt && vt <= 63
+    1 <= vt && vt <= LAST_TERMINAL
 }
 
 fn is_seat_or_none(text: &[u8]) -> bool
     ensures { result ≡ is_seat_or_none text.now }
 {
     text.is_empty() || SeatName::read(text).is_ok()
+}
+
+/// Whether a text is the name of seat0.
+pub(crate) fn is_seat0(text: &[u8]) -> bool
+    ensures { result ≡ bytes_eq text.now seat0 }
+{
+    text == SeatName::SEAT0.as_slice()
 }
 
 fn fits_seat(seat: &[u8], vt: u32) -> bool
@@ -66,11 +81,11 @@ pub(crate) fn fits_creation(creation: &Creation) -> bool
 pub(crate) fn is_signal(signal: i32) -> bool
     ensures { result ≡ is_signal signal }
 {
-    1 <= signal && signal <= 64
+    1 <= signal && signal <= LAST_SIGNAL
 }
 
 pub(crate) fn is_leader(who: &Word) -> bool
-    ensures { result ≡ bytes_eq who.now (codes "leader") }
+    ensures { result ≡ bytes_eq who.now (whom_word KillWhom.Leader) }
 {
     who.as_slice() == KillWhom::Leader.name()
 }

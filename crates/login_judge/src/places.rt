@@ -2,14 +2,14 @@
 
 ghost use Rattle.std.specs.Prelude.{◌≡◌, ◌&&◌, not, nat_le, length};
 ghost use Rattle.login_base.specs.Seat.{is_seat_name};
-ghost use Rattle.login_model.specs.Where.{sessions, connections, is_user, is_seat, is_this_seat, is_on_seat};
+ghost use Rattle.login_model.specs.Where.{sessions, connections, is_user, is_seat, is_on_seat};
 ghost use Rattle.login_model.specs.Policy.{no_such_session, absent_user, no_such_seat, no_such_seat_of, session_closing, no_seat, session_not_on_seat, vt_busy, vt_busy_on, too_many_links, too_many_sessions};
 ghost use Rattle.login_model.specs.Limits.{links_limit};
 
-use crate::arguments::broken_if;
+use crate::arguments::{broken_if, is_seat0};
 use login_base::{ConnId, SeatName, SessId, Uid, Word};
-use login_model::{Key, Limit, Look, Rule, Setup, is_seat0};
-use login_table::{are_at_least, seat_of_session, session_on};
+use login_model::{Key, Limit, Look, Rule, Setup};
+use login_table::{are_at_least, is_on_seat, seat_of_session, session_on};
 
 /// The most links that may be connected.
 const LINKS: u32 = 64;
@@ -73,20 +73,10 @@ pub(crate) fn no_seat<F: Look>(facts: &F, session: SessId) -> Option<Rule>
     broken_if(!seat_of_session(facts, session).is_some(), Rule::NoSeat)
 }
 
-fn is_this_seat(seat: &[u8], name: Option<SeatName>) -> bool
-    ensures { result ≡ is_this_seat seat.now name }
-{
-    match name {
-        Some(name) => name.as_slice() == seat,
-        None => false,
-    }
-}
-
 pub(crate) fn session_not_on_seat<F: Look>(facts: &F, session: SessId, seat: &[u8]) -> Option<Rule>
     ensures { result ≡ session_not_on_seat (F.trail facts.now) session seat.now }
 {
-    let is_on = is_this_seat(seat, seat_of_session(facts, session));
-    broken_if(!is_on, Rule::SessionNotOnSeat)
+    broken_if(!is_on_seat(facts, seat, session), Rule::SessionNotOnSeat)
 }
 
 fn vt_busy<F: Look>(facts: &F, vt: u32) -> Option<Rule>

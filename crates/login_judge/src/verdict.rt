@@ -3,9 +3,9 @@
 ghost use Rattle.std.specs.Prelude.{◌≡◌, true, ◌∷◌, []};
 ghost use Rattle.login_model.specs.Built.{is_built, is_built_call, is_built_hardware};
 ghost use Rattle.login_base.specs.SessionId.{session_of};
-ghost use Rattle.login_model.specs.Policy.{call_rules, hardware_rules, first_broken, verdict, bad_arguments, is_signal, absent_user, no_such_user, no_such_seat, meant_user, linger_action, action_refused, action_challenge, own_or_refused, own_or_challenge};
+ghost use Rattle.login_model.specs.Policy.{call_rules, hardware_rules, first_broken, verdict, bad_arguments, is_signal, absent_user, no_such_user, no_such_seat, no_such_handle, not_yours, meant_user, linger_action, action_refused, action_challenge, own_or_refused, own_or_challenge};
 
-use crate::arguments::{bad_arguments, fits_creation, is_signal, is_vt};
+use crate::arguments::{bad_arguments, fits_creation, is_seat0, is_signal, is_vt};
 use crate::owners::{clock_backwards, no_such_handle, no_such_user, nobody, not_root, not_yours};
 use crate::places::{
     absent_user, no_such_seat, no_such_seat_of, too_many_links, too_many_sessions, vt_busy_on,
@@ -15,8 +15,8 @@ use crate::session_calls::{
     judge_lock, judge_only, judge_terminate, judge_uncontrol,
 };
 use crate::standing::{judge_action, judge_own, linger_action, meant_user};
-use login_base::{ConnId, SessId, Word};
-use login_model::{Action, Call, Creation, Event, Hardware, Look, Rule, Setup, Verdict, is_seat0};
+use login_base::{ConnId, HandleNo, SessId, Word};
+use login_model::{Action, Call, Creation, Event, Hardware, Look, Rule, Setup, Verdict};
 
 fn judge_create<F: Look>(facts: &F, setup: &Setup, who: ConnId, creation: &Creation) -> Verdict
     ensures { result ≡ first_broken (call_rules setup.now (F.trail facts.now) who (Call.Create creation.now)) }
@@ -91,60 +91,47 @@ fn judge_linger<F: Look>(facts: &F, setup: &Setup, who: ConnId, uid: u32) -> Ver
     }
 }
 
+fn judge_close<F: Look>(facts: &F, who: ConnId, handle: HandleNo) -> Verdict
+    ensures { result ≡ first_broken (no_such_handle (F.trail facts.now) handle ∷ not_yours (F.trail facts.now) who handle ∷ []) }
+{
+    first_broken(&[no_such_handle(facts, handle), not_yours(facts, who, handle)])
+}
+
 fn judge_call<F: Look>(facts: &F, setup: &Setup, who: ConnId, call: &Call) -> Verdict
     requires built { is_built_call call.now ≡ true }
     ensures { result ≡ first_broken (call_rules setup.now (F.trail facts.now) who call.now) }
 {
+    let session = call.session();
     match call {
         Call::Create(creation) => judge_create(facts, setup, who, creation),
-        Call::GetSession(id) => judge_only(facts, SessId::read(id.as_slice())),
+        Call::GetSession(_) => judge_only(facts, session),
         Call::GetUser(uid) => first_broken(&[absent_user(facts, uid.0)]),
         Call::GetSeat(seat) => first_broken(&[no_such_seat(facts, seat.as_slice())]),
-        Call::Activate(id) => judge_activate(facts, setup, who, SessId::read(id.as_slice())),
-        Call::ActivateOnSeat(id, seat) => {
-            judge_activate_on(facts, setup, who, SessId::read(id.as_slice()), seat)
-        }
-        Call::Lock(id) => judge_lock(facts, setup, who, SessId::read(id.as_slice())),
-        Call::Unlock(id) => judge_lock(facts, setup, who, SessId::read(id.as_slice())),
+        Call::Activate(_) => judge_activate(facts, setup, who, session),
+        Call::ActivateOnSeat(_, seat) => judge_activate_on(facts, setup, who, session, seat),
+        Call::Lock(_) => judge_lock(facts, setup, who, session),
+        Call::Unlock(_) => judge_lock(facts, setup, who, session),
         Call::LockAll => judge_action(facts, setup, who, Action::LockSessions),
         Call::UnlockAll => judge_action(facts, setup, who, Action::LockSessions),
-        Call::Kill(id, whom, signal) => judge_kill(
-            facts,
-            setup,
-            who,
-            SessId::read(id.as_slice()),
-            whom,
-            *signal,
-        ),
-        Call::Terminate(id) => judge_terminate(facts, setup, who, SessId::read(id.as_slice())),
+        Call::Kill(_, whom, signal) => judge_kill(facts, setup, who, session, whom, *signal),
+        Call::Terminate(_) => judge_terminate(facts, setup, who, session),
         Call::TerminateUser(uid) => judge_terminate_user(facts, setup, who, uid.0),
         Call::TerminateSeat(seat) => judge_seat(facts, setup, who, seat, Action::Manage),
         Call::SetLinger(uid, _) => judge_linger(facts, setup, who, uid.0),
-        Call::SetIdle(id, _) => judge_hint(facts, who, SessId::read(id.as_slice())),
-        Call::SetLocked(id, _) => judge_hint(facts, who, SessId::read(id.as_slice())),
-        Call::Control(id, force) => {
-            judge_control(facts, who, SessId::read(id.as_slice()), *force)
-        }
-        Call::Uncontrol(id) => judge_uncontrol(facts, who, SessId::read(id.as_slice())),
+        Call::SetIdle(_, _) => judge_hint(facts, who, session),
+        Call::SetLocked(_, _) => judge_hint(facts, who, session),
+        Call::Control(_, force) => judge_control(facts, who, session, *force),
+        Call::Uncontrol(_) => judge_uncontrol(facts, who, session),
         Call::SwitchTo(seat, vt) => judge_switch(facts, setup, who, seat, *vt),
         Call::SwitchToNext(seat) => judge_seat(facts, setup, who, seat, Action::ChangeVt),
         Call::SwitchToPrevious(seat) => judge_seat(facts, setup, who, seat, Action::ChangeVt),
         Call::KillUser(uid, signal) => judge_kill_user(facts, setup, who, uid.0, *signal),
-        Call::Close(handle) => first_broken(&[
-            no_such_handle(facts, *handle),
-            not_yours(facts, who, *handle),
-        ]),
+        Call::Close(handle) => judge_close(facts, who, *handle),
         Call::NoObject => Verdict::Denied(Rule::UnknownObject),
         Call::NoMethod => Verdict::Denied(Rule::UnknownMethod),
         Call::BadArguments => Verdict::Denied(Rule::BadArguments),
-        Call::ListSessions | Call::ListUsers | Call::ListSeats => Verdict::Granted,
-        Call::NoCall => Verdict::Granted,
-        Call::ListInhibitors | Call::Power(_) | Call::Can(_) | Call::Inhibit(_) => unreachable!(),
-        Call::TakeDevice(..) | Call::ReleaseDevice(..) | Call::PauseComplete(..) => unreachable!(),
-        Call::ReadInput(_) | Call::SetMode(..) => unreachable!(),
-        Call::GetProperty(_) | Call::GetAllProperties(..) | Call::SetProperty(_) => unreachable!(),
-        Call::Ping | Call::GetMachineId | Call::Hello => unreachable!(),
-        Call::GetNameOwner(_) | Call::AddMatch(_) | Call::RemoveMatch(_) => unreachable!(),
+        Call::ListSessions | Call::ListUsers | Call::ListSeats | Call::NoCall => Verdict::Granted,
+        _ => unreachable!(),
     }
 }
 

@@ -20,10 +20,12 @@ use Rattle.login_model.specs.Where.{active_on, current_vt, is_seat, is_set, is_a
 use Rattle.login_model.specs.Devices.{is_awaiting, is_live, taken_devices}
 use Rattle.login_model.specs.Policy.{meant_user, uid_of}
 use Rattle.login_model.specs.Procedure.{each, force, force_device, force_handle, forget, front, if_some, is_kept, kill, know, leave, leave_seat, no, oust, release, renew, resume, resume_device, resume_handle, revive, revoke, set_phase, shut, take_seat, tell_controller, tell_new_user, untake, vacate, yes}
-use Rattle.login_model.specs.Switching.{arrive, ask_getty, ask_switch, await_device, await_devices, await_handle, complete, is_pending_fact, move_to, request, settle_switch, tell_change, unawait_devices, withdraw_switch}
+use Rattle.login_model.specs.Facts.{is_number_fact}
+use Rattle.login_model.specs.Switching.{arrive, ask_getty, ask_switch, await_device, await_devices, await_handle, complete, move_to, request, settle_switch, tell_change, unawait_devices, withdraw_switch}
 use Rattle.login_model.specs.Creating.{appear_on, create, created_session, seat_of}
 use Rattle.login_model.specs.Turning.{next_around, open_on, open_terminals, previous_around, turn_to_next, turn_to_previous, vt_in}
-use Rattle.login_model.specs.Direct.{activate, activate_on, close, close_handle, close_owned, control, control_from, controlled_by, direct_call, end_sessions, exit, happen, is_this_handle, kept_open_by, leave_known, linger, lock_session, locks_of, overdue, owner_of, press, tick, unlock, unlock_session, whom_of, direct, disconnect}
+use Rattle.login_model.specs.Direct.{activate, activate_on, close, close_handle, close_owned, control, control_from, controlled_by, direct_call, end_sessions, exit, happen, is_this_handle, kept_open_by, leave_known, linger, lock_session, locks_of, overdue, owner_of, press, tick, unlock, unlock_session, direct, disconnect}
+use Rattle.login_model.specs.Words.{whom_of}
 use Rattle.login_model.specs.Settle.{settle}
 use Rattle.login_model.specs.declared.call.Call.{Call}
 use Rattle.login_model.specs.declared.call.Call.TheVariants as call
@@ -308,7 +310,7 @@ withdraw_switch-carried r w t =
 pub request-carried : (r : Carried) → Switched r → (v : ℕ) (t : Trail) → r.R t (request v t)
 unfolding request
 request-carried r w v t =
-    let b = is_pending_fact (value t key.Pending) in
+    let b = is_number_fact (value t key.Pending) in
     cond-carried r (v == current_vt t) t (cond b (withdraw_switch t) t) (ask_switch v b t)
     (cond-carried r b t (withdraw_switch t) t (withdraw_switch-carried r w t) (r.refl t)) (ask_switch-carried r w v b t)
 

@@ -6,7 +6,7 @@ use Rattle.login_base.specs.declared.ids.HandleNo.{HandleNo}
 use Rattle.login_base.specs.declared.ids.DevNo.{DevNo}
 use Rattle.login_model.specs.Same.{same_key}
 use Rattle.login_model.specs.Procedure.{yes, no}
-use Rattle.login_model.specs.Switching.{is_pending_fact}
+use Rattle.login_model.specs.Facts.{is_number_fact}
 use Rattle.login_model.specs.Where.{is_set}
 use Rattle.login_model.specs.declared.fact.Key.TheVariants as key
 use Rattle.login_model.specs.declared.fact.Fact.{Fact}
@@ -184,7 +184,7 @@ awaited-one s r d e p = (cc, cc)
 
 -- the pause of a live device of seat0's active session is awaited
 pub holds-awaited : (out : Exempt) (s : SessId) (d : DevNo) (h : HandleNo) (f : Facts) → f (key.Taken s d) ≡ fact.Handle h → is_set (f (key.Live h)) ≡ true
-    → Fronted f s → is_pending_fact (f key.Pending) ≡ true → Holds out f → Holds out (upd (key.Awaited s d) yes f)
+    → Fronted f s → is_number_fact (f key.Pending) ≡ true → Holds out f → Holds out (upd (key.Awaited s d) yes f)
 holds-awaited out s d h f at l a p w = record {
   shaped = shaped-put (key.Awaited s d) yes f w.shaped refl;
   controls = w.controls;

@@ -13,7 +13,8 @@ use Rattle.login_model.specs.Procedure.{each, kill, no, revoke, shut, yes}
 use Rattle.login_model.specs.Same.{same_key}
 use Rattle.login_laws.specs.Shapes.{fits_key}
 use Rattle.login_model.specs.Start.{seat0}
-use Rattle.login_model.specs.Taking.{acknowledge, add_device, appear_seat, enliven, has_graphics, is_graphics_on, lose_seat, remove_device, set_mode, take_device, takers}
+use Rattle.login_model.specs.Facts.{is_graphics_on}
+use Rattle.login_model.specs.Taking.{acknowledge, add_device, appear_seat, enliven, has_graphics, lose_seat, remove_device, set_mode, take_device, takers}
 use Rattle.login_model.specs.Trail.{Trail, put, tell_all, value}
 use Rattle.login_model.specs.Where.{devices, is_active, is_device, is_device_fact, is_on_seat, is_seat, is_seat_fact, is_set, is_this_seat, seat_in_fact, sessions, sessions_on}
 use Rattle.login_model.specs.declared.fact.Fact.{Fact}

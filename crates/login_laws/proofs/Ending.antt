@@ -10,7 +10,7 @@ use Rattle.login_model.specs.Trail.{Trail, value, put, tell_all}
 use Rattle.login_model.specs.Fresh.{is_open_fact}
 use Rattle.login_model.specs.Where.{is_lock, is_lock_fact, is_session_fact, is_user_in, locks, open_sessions, sessions}
 use Rattle.login_model.specs.Names.{lock_in, lock_lt, names}
-use Rattle.login_model.specs.Locks.{holds_back}
+use Rattle.login_model.specs.Facts.{holds_back}
 use Rattle.login_model.specs.declared.lock.Lock.{Lock}
 use Rattle.login_model.specs.declared.lock.LockMode.TheVariants.{Block}
 use Rattle.login_model.specs.Policy.{controls, is_controller_fact}
@@ -26,7 +26,7 @@ use Rattle.login_model.specs.declared.fact.Fact.{Fact}
 use Rattle.login_model.specs.declared.fact.Fact.TheVariants as fact
 use Rattle.login_model.specs.declared.fact.Owner.{Owner}
 use Rattle.login_model.specs.declared.fact.Owner.TheVariants as owner
-use Rattle.login_model.proofs.Keys.{same-number, same-session, same-handle, test}
+use Rattle.login_model.proofs.Keys.{same-number, same-session, test}
 use Rattle.login_model.proofs.InOrder.{IsIn, filter-keeps, locks-enumerated}
 use Rattle.login_model.proofs.Values.{Facts, upd, upd-same, upd-other, was, given, apart, owner-one, same-refl, true-false, value-put, values-put, values-say}
 use Rattle.login_laws.proofs.Holds.{Exempt, none_out, Opened, Holds, holds-all, holds-more, shaped-put}
@@ -103,10 +103,6 @@ close-fifo h c s t e g =
           (λ u x. absurd (let z : false ≡ true = x in cc)) (λ n x. absurd (let z : false ≡ true = x in cc)) d.good.holds;
       unused = d.good.unused;
     }
-
-this-handle : (h : HandleNo) (x : Fact) → is_this_handle h x ≡ true → x ≡ fact.Handle h
-this-handle h (fact.Handle g) e = ap fact.Handle (same-handle g h e)
-this-handle h _ e = cc
 
 -- a device that is taken with it is not taken
 untake-by : (b : Bool) (h : HandleNo) (s : SessId) (d : DevNo) (t : Trail) → is_this_handle h (value t (key.Taken s d)) ≡ b → Good none_out t → Fewer none_out t (cond b (untake s d t) t)

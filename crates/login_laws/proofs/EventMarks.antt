@@ -17,9 +17,10 @@ use Rattle.login_model.specs.Legal.{stepped}
 use Rattle.login_laws.specs.Need.{IsDisconnect, IsWithin, RoomIsKept, switch_need}
 use Rattle.login_model.specs.Policy.{meant_user, uid_of, verdict}
 use Rattle.login_model.specs.Procedure.{each, if_some, kill, know, no, oust, release, revoke, shut, take_seat, untake, yes}
-use Rattle.login_model.specs.Switching.{is_pending_fact}
+use Rattle.login_model.specs.Facts.{is_number_fact}
 use Rattle.login_model.specs.Creating.{appear_on, create, created_session, seat_of}
-use Rattle.login_model.specs.Direct.{activate, control, control_from, direct, direct_call, exit, happen, lock_session, press, unlock_session, whom_of}
+use Rattle.login_model.specs.Direct.{activate, control, control_from, direct, direct_call, exit, happen, lock_session, press, unlock_session}
+use Rattle.login_model.specs.Words.{whom_of}
 use Rattle.login_model.specs.Settle.{settle}
 use Rattle.login_laws.specs.Sound.{IsSound}
 use Rattle.login_laws.proofs.UnusedLaws.{Unused}
@@ -548,7 +549,7 @@ switch-at true n = omega arith
 switch-at false n = omega arith
 
 switch-most : (t : Trail) → switch_need t ≤ 8 * taken_count t + 8
-switch-most t = switch-at (is_pending_fact (value t key.Pending)) (taken_count t)
+switch-most t = switch-at (is_number_fact (value t key.Pending)) (taken_count t)
 
 settle-step : (U : Setup) (t u : Trail) → Steps t u → IsWithin t (settle U u)
 settle-step U t u p =

@@ -29,9 +29,6 @@ active-by b t s seat e g on (inr a) =
     let k : a.0 ≡ seat = cc in
     ap (active_on t) (sym k) ∙ other-found t a.0 s a.3 a.4 a.1
 
-one-seat : (a b : List ℕ) → Some a ≡ Some b → a ≡ b
-one-seat a b e = cc
-
 session-one : (s r : SessId) → Some s ≡ Some r → s ≡ r
 session-one s r e = cc
 

@@ -11,7 +11,7 @@ use Rattle.login_model.specs.declared.lock.LockMode.{LockMode}
 use Rattle.login_model.specs.declared.lock.LockMode.TheVariants.{Block}
 use Rattle.login_model.specs.declared.operation.OpKind.{OpKind}
 use Rattle.login_model.specs.declared.operation.Operation.TheVariants.{Waiting}
-use Rattle.login_model.specs.Locks.{holds_back}
+use Rattle.login_model.specs.Facts.{holds_back, is_number_fact}
 use Rattle.login_base.specs.declared.ids.DevNo.{DevNo}
 use Rattle.login_base.specs.declared.ids.Uid.{Uid}
 use Rattle.login_base.specs.declared.ids.Millis.{Millis}
@@ -21,7 +21,6 @@ use Rattle.login_model.specs.Fresh.{is_open_fact}
 use Rattle.login_model.specs.Where.{is_connected_fact, is_on_terminal, is_seat_fact, is_session_fact, is_set, is_user_in, moment_in, number_in, seat_in_fact}
 use Rattle.login_model.specs.Policy.{is_vt}
 use Rattle.login_model.specs.Direct.{fifo_of}
-use Rattle.login_model.specs.Switching.{is_pending_fact}
 use Rattle.login_laws.specs.Shapes.{fits_key}
 use Rattle.login_model.specs.declared.hardware.DevKind.{DevKind}
 use Rattle.login_model.specs.declared.hardware.DevKind.TheVariants.{Drm}
@@ -92,7 +91,7 @@ LiveOnes f = (h : HandleNo) → is_set (f (key.Live h)) ≡ true → Living f h
 abbrev pub Awaited : Facts → SessId → DevNo → Type 0
 Awaited f s d =
     (h : HandleNo) × (f (key.Taken s d) ≡ fact.Handle h) × (is_set (f (key.Live h)) ≡ true) × Fronted f s
-    × (is_pending_fact (f key.Pending) ≡ true)
+    × (is_number_fact (f key.Pending) ≡ true)
 
 abbrev pub Awaiting : Facts → Type 0
 Awaiting f = (s : SessId) (d : DevNo) → is_set (f (key.Awaited s d)) ≡ true → Awaited f s d

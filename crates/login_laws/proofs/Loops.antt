@@ -6,7 +6,7 @@ use Rattle.login_base.specs.declared.ids.HandleNo.{HandleNo}
 use Rattle.login_model.specs.Trail.{Trail, value}
 use Rattle.login_model.specs.Kind.{AreKeys}
 use Rattle.login_model.specs.Names.{device_lt, names, session_lt, session_in}
-use Rattle.login_model.specs.Procedure.{each, is_empty}
+use Rattle.login_model.specs.Procedure.{each}
 use Rattle.login_model.specs.Devices.{is_awaited_among, is_awaiting, is_handle_fact, is_taken, taken_devices, taken_in}
 use Rattle.login_model.specs.Where.{is_on_terminal, is_session, is_set, is_user_in, open_sessions, is_open, session_on, sessions, sessions_of, sessions_on, is_on_seat}
 use Rattle.login_model.specs.declared.fact.Key.{Key}
@@ -184,11 +184,6 @@ awaiting-some t e = among-some t t e
 
 pub some-awaiting : (t : Trail) → Waits t → is_awaiting t ≡ true
 some-awaiting t w = elim (test (is_awaiting t)) [ inl e ↦ e | inr e ↦ absurd (awaiting-none t w.0 w.1 e w.2) ]
-
--- who is kept
-empty-not : {A : Type 0} (x : A) (xs : List A) → IsIn x xs → is_empty xs ≡ false
-empty-not x [] i = absurd i
-empty-not x (y ∷ ys) i = refl
 
 or-left : (b c : Bool) → b ≡ true → (b || c) ≡ true
 or-left b c e = ap (λ (z : Bool). z || c) e

@@ -10,7 +10,7 @@ use Rattle.login_model.specs.Full.{controlled_sessions, taken_count}
 use Rattle.login_model.specs.Legal.{stepped}
 use Rattle.login_laws.specs.Need.{need, switch_need}
 use Rattle.login_laws.specs.Sound.{IsSound}
-use Rattle.login_model.specs.Switching.{complete, is_pending_fact, move_to, settle_switch}
+use Rattle.login_model.specs.Switching.{complete, move_to, settle_switch}
 use Rattle.login_model.specs.declared.event.Event.TheVariants.{Disconnect}
 use Rattle.login_model.specs.declared.rule.Verdict.TheVariants.{Granted}
 use Rattle.login_model.specs.declared.setup.Setup.{Setup}
@@ -18,7 +18,7 @@ use Rattle.login_model.specs.declared.fact.Key.TheVariants as key
 use Rattle.login_model.specs.declared.fact.Fact.{Fact}
 use Rattle.login_model.specs.declared.fact.Fact.TheVariants as fact
 use Rattle.login_base.specs.declared.ids.Millis.{Millis}
-use Rattle.login_model.specs.Locks.{holds_back}
+use Rattle.login_model.specs.Facts.{holds_back, is_number_fact}
 use Rattle.login_model.specs.Names.{lock_lt}
 use Rattle.login_model.specs.Power.{is_delayed, is_over, settle_operation, start}
 use Rattle.login_model.specs.Trail.{put}
@@ -53,10 +53,10 @@ need-is t = need-sum (length (connections t)) (length (controlled_sessions t)) (
     need-sum : (a c k o l s : ℕ) → a + c + 4 * k + 4 * o + 4 * l + s ≡ a + c + 4 * k + 4 * o + l + 3 * l + s
     need-sum a c k o l s = omega arith
 
-switch-on : (t : Trail) → is_pending_fact (value t key.Pending) ≡ true → switch_need t ≡ 8 * taken_count t + 8
+switch-on : (t : Trail) → is_number_fact (value t key.Pending) ≡ true → switch_need t ≡ 8 * taken_count t + 8
 switch-on t e = ap (λ (b : Bool). cond b (8 * taken_count t + 8) 0) e
 
-switch-off : (t : Trail) → is_pending_fact (value t key.Pending) ≡ false → switch_need t ≡ 0
+switch-off : (t : Trail) → is_number_fact (value t key.Pending) ≡ false → switch_need t ≡ 0
 switch-off t e = ap (λ (b : Bool). cond b (8 * taken_count t + 8) 0) e
 
 switch-less : (a b : Bool) (x y : ℕ) → a ≡ b → x ≤ y → cond a (8 * x + 8) 0 ≤ cond b (8 * y + 8) 0
@@ -84,8 +84,8 @@ complete-by false U v t e p g =
     let w = move-within U v t in
     let m = moved U v none_out t q n g in
     let a = need-is u in let b = need-is t in
-    let c = switch-on t (ap is_pending_fact p) in
-    let d = switch-off u (ap is_pending_fact m.pending) in
+    let c = switch-on t (ap is_number_fact p) in
+    let d = switch-off u (ap is_number_fact m.pending) in
     let l = base-less t u w.falls in
     let n = locks-less t u w.falls in
     let k = w.marks in omega arith)
@@ -142,7 +142,7 @@ op-need U t =
     let c = counted t u f in
     let c1 = c.connected in let c2 = c.controlled in let c3 = c.taken in let c4 = c.opened in let c5 = c.locked in
     let a = need-is u in let b = need-is t in
-    let l = switch-less (is_pending_fact (value u key.Pending)) (is_pending_fact (value t key.Pending)) (taken_count u) (taken_count t) (ap is_pending_fact (start-pending (value t key.Op) U t)) c3 in
+    let l = switch-less (is_number_fact (value u key.Pending)) (is_number_fact (value t key.Pending)) (taken_count u) (taken_count t) (ap is_number_fact (start-pending (value t key.Op) U t)) c3 in
     omega arith
 
 disconnect-pays : (c : ConnId) (t : Trail) → Good none_out t
@@ -155,7 +155,7 @@ disconnect-pays c t g =
     let a = need-is u in let b = need-is t in
     let k = (counted t u p.falls).taken in
     let n = locks-less t u p.falls in
-    let l = switch-less (is_pending_fact (value u key.Pending)) (is_pending_fact (value t key.Pending)) (taken_count u) (taken_count t) (ap is_pending_fact p.pending) k in
+    let l = switch-less (is_number_fact (value u key.Pending)) (is_number_fact (value t key.Pending)) (taken_count u) (taken_count t) (ap is_number_fact p.pending) k in
     (omega arith, n)
 
 -- ---- the operation that waits

@@ -6,7 +6,8 @@ use Rattle.login_base.specs.declared.ids.Millis.{Millis}
 use Rattle.login_model.specs.Devices.{is_awaited_among, is_awaiting}
 use Rattle.login_model.specs.Direct.{fifo_of}
 use Rattle.login_model.specs.Fresh.{next_handle, next_lock}
-use Rattle.login_model.specs.Locks.{holds_back, holds_up, matching}
+use Rattle.login_model.specs.Facts.{holds_back, holds_up}
+use Rattle.login_model.specs.Locks.{matching}
 use Rattle.login_model.specs.Names.{lock_in, lock_lt, names}
 use Rattle.login_model.specs.Power.{ask_operation, end_operation, inhibit, is_blocked, is_delayed, is_over, job_done, prepare, settle_operation, start}
 use Rattle.login_model.specs.Procedure.{is_empty}
@@ -109,10 +110,6 @@ good-ask out k skip t free g =
       (λ j since e i. (let z = waiting-one k j m since skip false e in
           let P : OpKind → Type 0 = λ v. Held (value t) v Block in none-held t k Block (free z.2) (subst P (sym z.0) i))),
     ) g)
-
--- it runs
-running-not : (k : OpKind) (x : Operation) → (j : OpKind) (since : Millis) (skip : Bool) → fact.Operation (Running k) ≡ fact.Operation (Waiting j since skip) → ⊥
-running-not k x j since skip e = cc
 
 good-run : (out : Exempt) (k : OpKind) (t : Trail) → Good out t → Good out (put key.Op (fact.Operation (Running k)) t)
 good-run out k t g = good-op out (Running k) t ((λ j since skip e. cc), (λ j since e i. cc)) g

@@ -14,7 +14,8 @@ use Rattle.login_model.specs.Fresh.{is_open_fact, is_open_phase}
 use Rattle.login_model.specs.Devices.{is_handle_fact, is_live, taken_devices}
 use Rattle.login_model.specs.Full.{taken_by, taken_count}
 use Rattle.login_model.specs.Procedure.{each, force, forget, front, if_some, in_phase, is_kept, kill, know, leave, leave_seat, no, release, resume, revoke, set_phase, shut, take_seat, tell_controller, tell_new_user, untake, vacate, yes}
-use Rattle.login_model.specs.Switching.{ask_switch, await_device, await_devices, await_handle, is_pending_fact, request, unawait_devices, withdraw_switch}
+use Rattle.login_model.specs.Facts.{is_number_fact}
+use Rattle.login_model.specs.Switching.{ask_switch, await_device, await_devices, await_handle, request, unawait_devices, withdraw_switch}
 use Rattle.login_model.specs.Turning.{next_around, open_on, open_terminals, previous_around, turn, turn_to_next, turn_to_previous, vt_in}
 use Rattle.login_model.specs.Direct.{activate, activate_on, close, close_handle, close_owned, exit, is_overdue_fact, is_this_handle, leave_known, linger, overdue, owner_of, tick}
 use Rattle.login_model.specs.declared.mark.Notice.TheVariants as notice
@@ -287,7 +288,7 @@ pub request-within : (v : ℕ) (t : Trail) → Within (5 * taken_count t + 1) t 
 unfolding request
 request-within v t =
     let n = 5 * taken_count t + 1 in
-    let b = is_pending_fact (value t key.Pending) in
+    let b = is_number_fact (value t key.Pending) in
     within-if (v == current_vt t) n t (cond b (withdraw_switch t) t) (ask_switch v b t)
     (within-if b n t (withdraw_switch t) t (withdraw-within t) (within-refl n t)) (ask-within v b t)
 

@@ -10,7 +10,8 @@ use Rattle.login_model.specs.Where.{active_on, current_vt, is_on_terminal, is_se
 use Rattle.login_model.specs.Devices.{is_live, taken_devices}
 use Rattle.login_model.specs.Policy.{is_vt}
 use Rattle.login_model.specs.Procedure.{each, if_some, no, resume, tell_controller, yes}
-use Rattle.login_model.specs.Switching.{ask_switch, await_device, await_devices, await_handle, is_pending_fact, request, unawait_devices, withdraw_switch}
+use Rattle.login_model.specs.Facts.{is_number_fact}
+use Rattle.login_model.specs.Switching.{ask_switch, await_device, await_devices, await_handle, request, unawait_devices, withdraw_switch}
 use Rattle.login_model.specs.declared.mark.Notice.TheVariants.{Pause}
 use Rattle.login_model.specs.declared.mark.PauseKind.TheVariants as pause
 use Rattle.login_model.specs.declared.fact.Key.{Key}
@@ -46,7 +47,7 @@ asked-trans : (out : Exempt) (t u v : Trail) → Asked out t u → Asked out u v
 asked-trans out t u v p q = record { good = q.good; keeps = keeps-trans is_awaited_key (value t) (value u) (value v) p.keeps q.keeps }
 
 await-live : (b : Bool) (out : Exempt) (s : SessId) (d : DevNo) (h : HandleNo) (t : Trail) → is_live t h ≡ b → value t (key.Taken s d) ≡ fact.Handle h
-    → Fronted (value t) s → is_pending_fact (value t key.Pending) ≡ true → Good out t
+    → Fronted (value t) s → is_number_fact (value t key.Pending) ≡ true → Good out t
     → Asked out t (cond b (tell_controller (value t (key.Ctl s)) (Pause s d pause.Pause) (put (key.Awaited s d) yes t)) t)
 await-live true out s d h t l e a p g =
     let u = put (key.Awaited s d) yes t in
@@ -59,7 +60,7 @@ await-live true out s d h t l e a p g =
     }
 await-live false out s d h t l e a p g = asked-refl out t g
 
-await-fact : (x : Fact) (out : Exempt) (s : SessId) (d : DevNo) (t : Trail) → value t (key.Taken s d) ≡ x → Fronted (value t) s → is_pending_fact (value t key.Pending) ≡ true → Good out t
+await-fact : (x : Fact) (out : Exempt) (s : SessId) (d : DevNo) (t : Trail) → value t (key.Taken s d) ≡ x → Fronted (value t) s → is_number_fact (value t key.Pending) ≡ true → Good out t
     → Asked out t (await_handle s d x t)
 await-fact (fact.Handle h) out s d t e a p g = await-live (is_live t h) out s d h t refl e a p g
 await-fact _ out s d t e a p g = asked-refl out t g
@@ -67,15 +68,15 @@ await-fact _ out s d t e a p g = asked-refl out t g
 fronted-along : (f g : Facts) (s : SessId) → g (key.Sess s) ≡ f (key.Sess s) → g key.Vt ≡ f key.Vt → Fronted f s → Fronted g s
 fronted-along f g s e v a = ap (λ (x : Fact). is_on_terminal x (g (key.Sess s))) v ∙ ap (is_on_terminal (f key.Vt)) e ∙ a
 
-awaited-each : (out : Exempt) (s : SessId) (t : Trail) → Fronted (value t) s → is_pending_fact (value t key.Pending) ≡ true → Good out t → Asked out t (await_devices s t)
+awaited-each : (out : Exempt) (s : SessId) (t : Trail) → Fronted (value t) s → is_number_fact (value t key.Pending) ≡ true → Good out t → Asked out t (await_devices s t)
 unfolding await_devices
 awaited-each out s t a p g =
     each-keeps (Asked out t) (await_device s) (taken_devices t s) (λ d u i w.
     asked-trans out t u (await_device s d u) w (await-fact (value u (key.Taken s d)) out s d u refl
     (fronted-along (value t) (value u) s (w.keeps.facts (key.Sess s) refl) (w.keeps.facts key.Vt refl) a)
-    (ap is_pending_fact (w.keeps.facts key.Pending refl) ∙ p) w.good)) t (asked-refl out t g)
+    (ap is_number_fact (w.keeps.facts key.Pending refl) ∙ p) w.good)) t (asked-refl out t g)
 
-awaited-at : (o : Option SessId) (out : Exempt) (t : Trail) → ((s : SessId) → o ≡ Some s → Fronted (value t) s) → is_pending_fact (value t key.Pending) ≡ true → Good out t → Good out (if_some await_devices o t)
+awaited-at : (o : Option SessId) (out : Exempt) (t : Trail) → ((s : SessId) → o ≡ Some s → Fronted (value t) s) → is_number_fact (value t key.Pending) ≡ true → Good out t → Good out (if_some await_devices o t)
 awaited-at None out t a p g = g
 awaited-at (Some s) out t a p g = (awaited-each out s t (a s refl) p g).good
 
@@ -87,7 +88,7 @@ asked-by false out v t p n g =
     let w = good-put out key.Pending (fact.Number v) t (holds-pending out v (value t) p n g.holds) (unused-plain key.Pending (fact.Number v) t refl refl refl g.unused) in
     awaited-at (active_on t seat0) out u
     (λ s e. fronted-along (value t) (value u) s (value-put key.Pending (key.Sess s) (fact.Number v) t) (value-put key.Pending key.Vt (fact.Number v) t) (front-some out t s g.holds e))
-    (ap is_pending_fact (value-put key.Pending key.Pending (fact.Number v) t)) w
+    (ap is_number_fact (value-put key.Pending key.Pending (fact.Number v) t)) w
 
 -- ---- withdrawing
 
@@ -198,7 +199,7 @@ withdrawn out t g = withdrawn-at (active_on t seat0) out t refl g
 pub withdrawn-awaits : (out : Exempt) (t : Trail) → Good out t → (s : SessId) (d : DevNo) → is_set (value (withdraw_switch t) (key.Awaited s d)) ≡ true → ⊥
 withdrawn-awaits out t g s d e =
     let w = withdrawn out t g in
-    let z : is_pending_fact fact.Absent ≡ true = ap is_pending_fact (sym w.pending) ∙ (w.good.holds.awaits s d e).4 in cc
+    let z : is_number_fact fact.Absent ≡ true = ap is_number_fact (sym w.pending) ∙ (w.good.holds.awaits s d e).4 in cc
 
 -- ---- a request
 
@@ -210,4 +211,4 @@ request-by false c out v t e p g = asked-by c out v t p (λ z. true-false (v == 
 
 pub good-request : (out : Exempt) (v : ℕ) (t : Trail) → is_vt v ≡ true → Good out t → Good out (request v t)
 unfolding request
-good-request out v t p g = request-by (v == current_vt t) (is_pending_fact (value t key.Pending)) out v t refl p g
+good-request out v t p g = request-by (v == current_vt t) (is_number_fact (value t key.Pending)) out v t refl p g

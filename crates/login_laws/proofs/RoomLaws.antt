@@ -7,7 +7,8 @@ use Rattle.login_model.specs.Legal.{stepped}
 use Rattle.login_laws.specs.Need.{most_marks, most_rise, need}
 use Rattle.login_model.specs.Settle.{settle}
 use Rattle.login_laws.specs.Sound.{IsHeld, IsSound}
-use Rattle.login_model.specs.Switching.{complete, is_pending_fact, move_to, settle_switch}
+use Rattle.login_model.specs.Facts.{is_number_fact}
+use Rattle.login_model.specs.Switching.{complete, move_to, settle_switch}
 use Rattle.login_model.specs.Trail.{Trail, put, value}
 use Rattle.login_model.specs.Where.{active_on, connections, locks, open_sessions, sessions, users}
 use Rattle.login_model.specs.Start.{seat0}
@@ -23,7 +24,7 @@ use Rattle.login_model.specs.declared.rule.Verdict.TheVariants.{Granted}
 use Rattle.login_model.specs.declared.setup.Setup.{Setup}
 
 -- what waits stays as it is
-waits-at : (x : Fact) (U : Setup) (t : Trail) → (is_pending_fact x ≡ true → is_awaiting t ≡ true) → complete U x t ≡ t
+waits-at : (x : Fact) (U : Setup) (t : Trail) → (is_number_fact x ≡ true → is_awaiting t ≡ true) → complete U x t ≡ t
 waits-at (Number v) U t w = ap (λ (b : Bool). cond b t (move_to U v (active_on t seat0) t)) (w refl)
 waits-at _ U t w = refl
 
@@ -60,4 +61,4 @@ room-at false m a c k o l n u = omega arith
 pub room : (t : Trail) (marks : ℕ) → marks + need t + most_marks t + most_rise t ≤ marks_needed t marks
 unfolding need
 room t marks =
-    room-at (is_pending_fact (value t key.Pending)) marks (length (connections t)) (length (controlled_sessions t)) (taken_count t) (length (open_sessions t)) (length (locks t)) (length (sessions t)) (length (users t))
+    room-at (is_number_fact (value t key.Pending)) marks (length (connections t)) (length (controlled_sessions t)) (taken_count t) (length (open_sessions t)) (length (locks t)) (length (sessions t)) (length (users t))

@@ -103,9 +103,6 @@ holds-controlled out s x f none p ok w = record {
 
 -- ---- a seat's active session
 
-acting-one : (s r : SessId) → fact.Active s ≡ fact.Active r → s ≡ r
-acting-one s r e = cc
-
 -- whoever is active on the seat so far has no live device
 abbrev pub Idle : Facts → List ℕ → Type 0
 Idle f seat = (h : HandleNo) (i : Living f h) → is_set (f (key.Live h)) ≡ true → f (key.Act seat) ≡ fact.Active i.1 → ⊥
@@ -146,11 +143,6 @@ holds-acting out seat x f idle p ok w = record {
 
 -- ---- a session that closes
 
--- what another phase leaves of a session's fact
-phase-seat : (p : Phase) (x : Fact) → seat_in_fact (in_phase p x) ≡ seat_in_fact x
-phase-seat p (fact.Session x) = refl
-phase-seat p _ = refl
-
 pub phase-user : (p : Phase) (u : ℕ) (x : Fact) → is_user_in u (in_phase p x) ≡ is_user_in u x
 phase-user p u (fact.Session x) = refl
 phase-user p u _ = refl
@@ -158,10 +150,6 @@ phase-user p u _ = refl
 pub closing-not-open : (x : Fact) → is_open_fact (in_phase Closing x) ≡ true → ⊥
 closing-not-open (fact.Session x) e = cc
 closing-not-open _ e = cc
-
-closing-not-on : (v x : Fact) → is_on_terminal v (in_phase Closing x) ≡ true → ⊥
-closing-not-on v (fact.Session x) e = cc
-closing-not-on v _ e = cc
 
 pub closing-there : (x : Fact) → is_open_fact x ≡ true → is_session_fact (in_phase Closing x) ≡ true
 closing-there (fact.Session x) e = refl

@@ -11,7 +11,8 @@ use Rattle.login_model.specs.Devices.{is_awaiting}
 use Rattle.login_model.specs.Policy.{is_vt}
 use Rattle.login_model.specs.Procedure.{force, if_some, resume, yes}
 use Rattle.login_model.specs.Settle.{settle}
-use Rattle.login_model.specs.Switching.{arrive, ask_getty, complete, is_pending_fact, move_to, settle_switch, tell_change}
+use Rattle.login_model.specs.Facts.{is_number_fact}
+use Rattle.login_model.specs.Switching.{arrive, ask_getty, complete, move_to, settle_switch, tell_change}
 use Rattle.login_model.specs.declared.setup.Setup.{Setup}
 use Rattle.login_model.specs.declared.mark.Notice.TheVariants as notice
 use Rattle.login_model.specs.declared.mark.Whom.TheVariants.{All}
@@ -113,10 +114,10 @@ moved U v out t p n g =
 -- good, and a switch that is pending waits
 pub record Settled (out : Exempt) (u : Trail) : Type 0 where
   pub good : Good out u
-  pub waits : is_pending_fact (value u key.Pending) ≡ true → is_awaiting u ≡ true
+  pub waits : is_number_fact (value u key.Pending) ≡ true → is_awaiting u ≡ true
 
 moved-settled : (out : Exempt) (u : Trail) → Moved out u → Settled out u
-moved-settled out u m = record { good = m.good; waits = λ e. (let z : is_pending_fact fact.Absent ≡ true = ap is_pending_fact (sym m.pending) ∙ e in cc) }
+moved-settled out u m = record { good = m.good; waits = λ e. (let z : is_number_fact fact.Absent ≡ true = ap is_number_fact (sym m.pending) ∙ e in cc) }
 
 complete-by : (b : Bool) (U : Setup) (v : ℕ) (out : Exempt) (t : Trail) → is_awaiting t ≡ b → value t key.Pending ≡ fact.Number v → Good out t
     → Settled out (cond b t (move_to U v (active_on t seat0) t))
@@ -126,7 +127,7 @@ complete-by false U v out t e p g =
 
 complete-fact : (x : Fact) (U : Setup) (out : Exempt) (t : Trail) → value t key.Pending ≡ x → Good out t → Settled out (complete U x t)
 complete-fact (fact.Number v) U out t e g = complete-by (is_awaiting t) U v out t refl e g
-complete-fact _ U out t e g = record { good = g; waits = λ q. (let z = ap is_pending_fact (sym e) ∙ q in cc) }
+complete-fact _ U out t e g = record { good = g; waits = λ q. (let z = ap is_number_fact (sym e) ∙ q in cc) }
 
 pub switched : (U : Setup) (out : Exempt) (t : Trail) → Good out t → Settled out (settle_switch U t)
 unfolding settle_switch
@@ -135,11 +136,11 @@ switched U out t g = complete-fact (value t key.Pending) U out t refl g
 -- and an operation that waits is held up
 pub record AllSettled (U : Setup) (out : Exempt) (u : Trail) : Type 0 where
   pub good : Good out u
-  pub waits : is_pending_fact (value u key.Pending) ≡ true → is_awaiting u ≡ true
+  pub waits : is_number_fact (value u key.Pending) ≡ true → is_awaiting u ≡ true
   pub held : (k : OpKind) (since : Millis) (skip : Bool) → value u key.Op ≡ fact.Operation (Waiting k since skip) → IsHeld U u k since
 
 pub settled : (U : Setup) (out : Exempt) (t : Trail) → Good out t → AllSettled U out (settle U t)
 settled U out t g =
     let a = switched U out t g in
     let b = started U out (settle_switch U t) a.good in
-    record { good = b.good; waits = λ e. b.awaiting ∙ a.waits (ap is_pending_fact (sym b.pending) ∙ e); held = b.held }
+    record { good = b.good; waits = λ e. b.awaiting ∙ a.waits (ap is_number_fact (sym b.pending) ∙ e); held = b.held }

@@ -8,9 +8,10 @@ use Rattle.login_model.specs.Start.{seat0}
 use Rattle.login_model.specs.Trail.{Trail, after, put, value}
 use Rattle.login_model.specs.Fresh.{fresh_session, is_open_fact, is_open_phase, next_handle}
 use Rattle.login_model.specs.Where.{is_device, is_gone_phase, is_session, is_set, seat_of_session, is_session_fact, now, open_sessions, sessions_of, sessions_on}
-use Rattle.login_model.specs.Policy.{activate_on_rules, activate_rules, call_rules, control_rules, fits_creation, hardware_rules, hint_rules, kill_rules, lock_rules, only_session, terminate_rules, uncontrol_rules, controls, is_controller_fact, is_device_on, take_rules, taken_rules, is_closing_fact, is_closing_phase, is_vt, lock_in_progress, meant_user, meets, no_such_session, on_session, session_closing, too_many_locks, uid_of, verdict, word_rules}
+use Rattle.login_model.specs.Policy.{activate_on_rules, activate_rules, call_rules, control_rules, fits_creation, hardware_rules, hint_rules, kill_rules, lock_rules, only_session, terminate_rules, uncontrol_rules, controls, is_controller_fact, take_rules, taken_rules, is_closing_fact, is_closing_phase, is_vt, lock_in_progress, meant_user, meets, no_such_session, on_session, session_closing, too_many_locks, uid_of, verdict, word_rules}
 use Rattle.login_model.specs.Procedure.{each, if_some, release, shut, untake}
-use Rattle.login_model.specs.Direct.{activate, control, direct, direct_call, exit, happen, lock_session, press, unlock_session, whom_of}
+use Rattle.login_model.specs.Direct.{activate, control, direct, direct_call, exit, happen, lock_session, press, unlock_session}
+use Rattle.login_model.specs.Words.{whom_of}
 use Rattle.login_model.specs.Settle.{settle}
 use Rattle.login_model.specs.Legal.{IsLegal, IsLegalAfter, IsLegalEntry, IsPlaced, after_all, stepped, trail_of}
 use Rattle.login_laws.specs.Sound.{IsSound}
@@ -32,8 +33,9 @@ use Rattle.login_model.proofs.FactLaws.{same-conn}
 use Rattle.login_laws.proofs.Resuming.{fresh-owner}
 use Rattle.login_model.specs.declared.conf.KeyAction.{KeyAction}
 use Rattle.login_model.specs.declared.conf.KeyAction.TheVariants as does
-use Rattle.login_model.specs.Locks.{asked_lock, holds_up, mode_of, what_of}
-use Rattle.login_model.specs.Power.{is_blocked, key_action, kind_under_way}
+use Rattle.login_model.specs.Locks.{asked_lock, mode_of, what_of}
+use Rattle.login_model.specs.Facts.{kind_under_way, holds_up, is_device_on}
+use Rattle.login_model.specs.Power.{is_blocked, key_action}
 use Rattle.login_laws.proofs.Operations.{good-ask, good-done, good-inhibit}
 use Rattle.login_model.specs.declared.event.Event.{Event}
 use Rattle.login_model.specs.declared.event.Event.TheVariants.{Connect, Disconnect, Call as Calls, Hardware as Happens, Tick, Stop}

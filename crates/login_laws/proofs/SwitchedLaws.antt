@@ -13,7 +13,8 @@ use Rattle.login_model.specs.Settle.{settle}
 use Rattle.login_laws.specs.Sound.{IsSound}
 use Rattle.login_model.specs.Start.{seat0}
 use Rattle.login_laws.specs.Switched.{AsksOther, IsSwitched}
-use Rattle.login_model.specs.Switching.{ask_getty, ask_switch, await_devices, complete, is_pending_fact, move_to, request, settle_switch, withdraw_switch}
+use Rattle.login_model.specs.Facts.{is_number_fact}
+use Rattle.login_model.specs.Switching.{ask_getty, ask_switch, await_devices, complete, move_to, request, settle_switch, withdraw_switch}
 use Rattle.login_model.specs.Trail.{Trail, after, put, value}
 use Rattle.login_model.specs.Where.{active_on, current_vt, is_set, session_on}
 use Rattle.login_model.specs.declared.event.Event.{Event}
@@ -57,15 +58,15 @@ waits-not t n = elim (test (is_awaiting t)) [ inl e ↦ absurd (n (awaiting-some
 waits-calm : (t u : Trail) → Calm t u → Waits u → Waits t
 waits-calm t u c w = (w.0, w.1, c.awaited w.0 w.1 w.2)
 
-number-in : (x : Fact) → is_pending_fact x ≡ true → (v : ℕ) × (x ≡ fact.Number v)
+number-in : (x : Fact) → is_number_fact x ≡ true → (v : ℕ) × (x ≡ fact.Number v)
 number-in (fact.Number v) e = (v, refl)
 number-in _ e = cc
 
 waits-pending : (out : Exempt) (t : Trail) → Good out t → Waits t → (v : ℕ) × (value t key.Pending ≡ fact.Number v)
 waits-pending out t g w = number-in (value t key.Pending) (g.holds.awaits w.0 w.1 w.2).4
 
-not-pending : (x : Fact) (v : ℕ) → is_pending_fact x ≡ false → x ≡ fact.Number v → ⊥
-not-pending x v e p = (let z : true ≡ false = ap is_pending_fact (sym p) ∙ e in cc)
+not-pending : (x : Fact) (v : ℕ) → is_number_fact x ≡ false → x ≡ fact.Number v → ⊥
+not-pending x v e p = (let z : true ≡ false = ap is_number_fact (sym p) ∙ e in cc)
 
 -- ---- settling a switch
 
@@ -77,7 +78,7 @@ pub record Completed (v : ℕ) (t u : Trail) : Type 0 where
   pub over : Waits u → ⊥
 
 abbrev Settles : Trail → Trail → Type 0
-Settles t u = ((v : ℕ) × Completed v t u) ⊎ ((u ≡ t) × (is_pending_fact (value t key.Pending) ≡ true → Waits t))
+Settles t u = ((v : ℕ) × Completed v t u) ⊎ ((u ≡ t) × (is_number_fact (value t key.Pending) ≡ true → Waits t))
 
 getty-calm : (b : Bool) (v : ℕ) (t : Trail) → Calm t (cond b (put (key.Getty v) yes t) t)
 getty-calm b v t = cond-carried calm b t (put (key.Getty v) yes t) t (calm-put (key.Getty v) yes t refl) (calm-refl t)
@@ -101,13 +102,13 @@ complete-by false U v t e p g =
         pending = p;
         none = none-waits t e;
         now = move-vt U v (active_on t seat0) t;
-        over = λ w. (let z : is_pending_fact fact.Absent ≡ true = ap is_pending_fact (sym m.pending) ∙ (m.good.holds.awaits w.0 w.1 w.2).4 in cc);
+        over = λ w. (let z : is_number_fact fact.Absent ≡ true = ap is_number_fact (sym m.pending) ∙ (m.good.holds.awaits w.0 w.1 w.2).4 in cc);
       },
     ))
 
 complete-fact : (x : Fact) (U : Setup) (t : Trail) → value t key.Pending ≡ x → Good none_out t → Settles t (complete U x t)
 complete-fact (fact.Number v) U t e g = complete-by (is_awaiting t) U v t refl e g
-complete-fact _ U t e g = inr (refl, λ q. (let z = ap is_pending_fact (sym e) ∙ q in cc))
+complete-fact _ U t e g = inr (refl, λ q. (let z = ap is_number_fact (sym e) ∙ q in cc))
 
 settles : (U : Setup) (t : Trail) → Good none_out t → Settles t (settle_switch U t)
 unfolding settle_switch
@@ -151,7 +152,7 @@ await-keeps : (o : Option SessId) (t : Trail) → (value (if_some await_devices 
 await-keeps None t = (refl, refl)
 await-keeps (Some s) t = awaiting-stays s t
 
-ask-by : (b : Bool) (v : ℕ) (t : Trail) → is_pending_fact (value t key.Pending) ≡ b → Good none_out t → Requested v t (ask_switch v b t)
+ask-by : (b : Bool) (v : ℕ) (t : Trail) → is_number_fact (value t key.Pending) ≡ b → Good none_out t → Requested v t (ask_switch v b t)
 ask-by true v t e g = put-pending v t
 ask-by false v t e g =
     (let u = put key.Pending (fact.Number v) t in
@@ -166,7 +167,7 @@ ask-by false v t e g =
 -- what a request for the current one leaves
 pub record Withdrew (t u : Trail) : Type 0 where
   pub vt : value u key.Vt ≡ value t key.Vt
-  pub pending : is_pending_fact (value u key.Pending) ≡ false
+  pub pending : is_number_fact (value u key.Pending) ≡ false
   pub none : Waits u → ⊥
 
 abbrev Asks : ℕ → Trail → Trail → Type 0
@@ -179,17 +180,17 @@ withdrawn-vt t =
     let b = if_some unawait_devices o a in
     (if_some-carried calm resume (resume-carried calm) o b).vt ∙ (if_some-carried calm unawait_devices (unawait_devices-carried calm) o a).vt ∙ value-put key.Pending key.Vt fact.Absent t
 
-request-by : (b c : Bool) (v : ℕ) (t : Trail) → (v == current_vt t) ≡ b → is_pending_fact (value t key.Pending) ≡ c → Good none_out t → Asks v t (cond b (cond c (withdraw_switch t) t) (ask_switch v c t))
+request-by : (b c : Bool) (v : ℕ) (t : Trail) → (v == current_vt t) ≡ b → is_number_fact (value t key.Pending) ≡ c → Good none_out t → Asks v t (cond b (cond c (withdraw_switch t) t) (ask_switch v c t))
 request-by true true v t e p g =
     (let w = withdrawn none_out t g in
-    inl (same-number v (current_vt t) e, record { vt = withdrawn-vt t; pending = ap is_pending_fact w.pending; none = λ i. withdrawn-awaits none_out t g i.0 i.1 i.2 }))
+    inl (same-number v (current_vt t) e, record { vt = withdrawn-vt t; pending = ap is_number_fact w.pending; none = λ i. withdrawn-awaits none_out t g i.0 i.1 i.2 }))
 request-by true false v t e p g =
     inl (same-number v (current_vt t) e, record { vt = refl; pending = p; none = λ w. (let i = waits-pending none_out t g w in not-pending (value t key.Pending) i.0 p i.1) })
 request-by false c v t e p g = inr ((λ z. true-false (v == current_vt t) (ap (λ (n : ℕ). v == n) (sym z) ∙ same-refl v) e), ask-by c v t p g)
 
 asks : (v : ℕ) (t : Trail) → Good none_out t → Asks v t (request v t)
 unfolding request
-asks v t g = request-by (v == current_vt t) (is_pending_fact (value t key.Pending)) v t refl refl g
+asks v t g = request-by (v == current_vt t) (is_number_fact (value t key.Pending)) v t refl refl g
 
 -- ---- an entry
 
@@ -213,7 +214,7 @@ completing U t e m n s (inl c) (inl d) w none named = d.1.now ∙ sym d.1.pendin
 completing U t e m n s (inl c) (inr r) w none named =
     (let g = good-sound t s.between in
     let i = waits-pending none_out t g (awaiting-some t w) in
-    absurd (none (let P : Trail → Type 0 = Waits in subst P (sym r.0) (r.1 (ap is_pending_fact (c.pending ∙ i.1))))))
+    absurd (none (let P : Trail → Type 0 = Waits in subst P (sym r.0) (r.1 (ap is_number_fact (c.pending ∙ i.1))))))
 completing U t e m n s (inr q) z w none named = by q.2 z
   where
     by : Asks q.0 t m → Settles m n → value n key.Vt ≡ value t key.Pending
@@ -232,13 +233,13 @@ unnamed : (U : Setup) (t : Trail) (e : Event) (v : ℕ) → Good none_out t → 
 unnamed U t e v g p q = by (asks (current_vt t) t g)
   where
     by : Asks (current_vt t) t (request (current_vt t) t) → ⊥
-    by (inl a) = (let P : Trail → Type 0 = λ m. is_pending_fact (value m key.Pending) ≡ false in
+    by (inl a) = (let P : Trail → Type 0 = λ m. is_number_fact (value m key.Pending) ≡ false in
         not-pending (value (direct U e t) key.Pending) v (subst P (sym (asked U t e (current_vt t) q)) a.1.pending) p)
     by (inr a) = a.0 refl
 
 moving : (U : Setup) (t : Trail) (e : Event) (n : Trail) → IsSound U t → Directs t e (direct U e t) → Settles (direct U e t) n → (value n key.Vt ≡ value t key.Vt → ⊥) → (Waits n → ⊥) × Moves t e n
 moving U t e n s (inl c) (inl d) moved =
-    (d.1.over, inl (s.settled (ap is_pending_fact (sym c.pending ∙ d.1.pending)), unnamed U t e d.0 (good-sound t s.between) d.1.pending, d.1.now ∙ sym d.1.pending ∙ c.pending))
+    (d.1.over, inl (s.settled (ap is_number_fact (sym c.pending ∙ d.1.pending)), unnamed U t e d.0 (good-sound t s.between) d.1.pending, d.1.now ∙ sym d.1.pending ∙ c.pending))
 moving U t e n s (inl c) (inr r) moved = absurd (moved (ap (λ (u : Trail). value u key.Vt) r.0 ∙ c.vt))
 moving U t e n s (inr q) z moved = by q.2 z
   where

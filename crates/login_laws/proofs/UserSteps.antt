@@ -1,5 +1,5 @@
 -- The facts of users, of a session that is made, and of terminals.
-use Rattle.std.proofs.Common.{◌≡◌, ◌≤◌, ℕ, ◌==◌, ◌&&◌, Bool, true, false, cond, Some, List, refl, ap, sym, ◌∙◌, subst, inl, inr}
+use Rattle.std.proofs.Common.{◌≡◌, ◌≤◌, ℕ, ◌==◌, ◌&&◌, Bool, true, false, Some, List, refl, ap, sym, ◌∙◌, subst, inl, inr}
 use Rattle.login_base.specs.declared.ids.SessId.{SessId}
 use Rattle.login_base.specs.declared.ids.ConnId.{ConnId}
 use Rattle.login_base.specs.declared.ids.HandleNo.{HandleNo}
@@ -50,9 +50,6 @@ holds-user out u x f free p past w =
         (λ v since e. elim (given (key.User u) (key.User v) x (fact.Leaving since) f e) [ inl q ↦ past since q.1 | inr q ↦ w.users.2 v since q.1 ]),
       );
     }
-
-linger-at : (b : Bool) (x y : Fact) → b ≡ false → is_set (cond b x y) ≡ is_set y
-linger-at b x y e = ap (λ (c : Bool). is_set (cond c x y)) e
 
 -- an exempt user lingers, or does not
 pub holds-linger : (out : Exempt) (u : Uid) (b : Bool) (f : Facts) → out.1 u ≡ true → Holds out f → Holds out (upd (key.Linger u) (fact.Flag b) f)

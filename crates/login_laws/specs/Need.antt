@@ -5,7 +5,7 @@ use Rattle.login_model.specs.Full.{controlled_sessions, marks_needed, taken_coun
 use Rattle.login_model.specs.Legal.{stepped}
 use Rattle.login_model.specs.Policy.{verdict}
 use Rattle.login_laws.specs.Sound.{IsSound}
-use Rattle.login_model.specs.Switching.{is_pending_fact}
+use Rattle.login_model.specs.Facts.{is_number_fact}
 use Rattle.login_model.specs.Trail.{Trail, value}
 use Rattle.login_model.specs.Where.{connections, is_connected, locks, open_sessions, sessions, users}
 use Rattle.login_model.specs.declared.event.Event.{Event}
@@ -16,7 +16,7 @@ use Rattle.login_model.specs.declared.fact.Key.TheVariants as key
 
 -- the marks of a switch that may complete
 abbrev pub switch_need : Trail → ℕ
-switch_need t = if is_pending_fact (value t key.Pending) then 8 * taken_count t + 8 else 0
+switch_need t = if is_number_fact (value t key.Pending) then 8 * taken_count t + 8 else 0
 
 -- the marks that the disconnects of all connections may make, with what they settle
 unfoldable pub need : Trail → ℕ

@@ -18,7 +18,7 @@ use Rattle.login_model.specs.Policy.{is_vt}
 use Rattle.login_model.specs.Procedure.{is_kept}
 use Rattle.login_laws.specs.Shapes.{IsShaped}
 use Rattle.login_model.specs.Start.{seat0, start_fact}
-use Rattle.login_model.specs.Switching.{is_pending_fact}
+use Rattle.login_model.specs.Facts.{is_number_fact}
 use Rattle.login_model.specs.Trail.{Trail, value}
 use Rattle.login_model.specs.Where.{active_on, current_vt, is_active, is_connected, is_on_terminal, is_open, is_seat, is_set, now, seat_of_session}
 use Rattle.login_model.specs.declared.fact.Key.{Key}
@@ -92,11 +92,11 @@ Awaits t = (s : SessId) (d : DevNo) → is_set (value t (key.Awaited s d)) ≡ t
 
 -- a pause is awaited only while a switch is pending
 abbrev pub AwaitsPending : Trail → Type 0
-AwaitsPending t = is_awaiting t ≡ true → is_pending_fact (value t key.Pending) ≡ true
+AwaitsPending t = is_awaiting t ≡ true → is_number_fact (value t key.Pending) ≡ true
 
 -- a switch that is pending waits for a pause
 abbrev pub PendingAwaits : Trail → Type 0
-PendingAwaits t = is_pending_fact (value t key.Pending) ≡ true → is_awaiting t ≡ true
+PendingAwaits t = is_number_fact (value t key.Pending) ≡ true → is_awaiting t ≡ true
 
 -- ---- terminals
 

@@ -6,7 +6,8 @@ use Rattle.login_laws.specs.Asking.{asked_vt}
 use Rattle.login_model.specs.Devices.{is_awaiting}
 use Rattle.login_laws.specs.Sound.{IsAwaited}
 use Rattle.login_model.specs.Direct.{direct}
-use Rattle.login_model.specs.Switching.{is_pending_fact, request}
+use Rattle.login_model.specs.Facts.{is_number_fact}
+use Rattle.login_model.specs.Switching.{request}
 use Rattle.login_model.specs.Trail.{Trail, value}
 use Rattle.login_model.specs.Where.{current_vt, is_set}
 use Rattle.login_model.specs.declared.event.Event.{Event}
@@ -24,7 +25,7 @@ pub record IsSwitched (U : Setup) (before : Trail) (e : Event) (now : Trail) : T
   -- an event that asks for a terminal requests it
   pub requests : (v : ℕ) → asked_vt before e ≡ Some v → direct U e before ≡ request v before
   -- a switch is pending exactly while some pause is awaited
-  pub pending : (is_pending_fact (value now key.Pending) ≡ true) ↔ (is_awaiting now ≡ true)
+  pub pending : (is_number_fact (value now key.Pending) ≡ true) ↔ (is_awaiting now ≡ true)
   -- each of them is that of a live handle of seat0's active session
   pub awaited : (s : SessId) (d : DevNo) → is_set (value now (key.Awaited s d)) ≡ true → IsAwaited now s d
   -- the entry that ends the last pause completes the switch, unless it asks for the current terminal

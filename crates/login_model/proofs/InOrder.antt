@@ -1,18 +1,17 @@
 -- Going over the names of a kind in order.
 use Rattle.std.proofs.Common.{◌≡◌, Bool, true, false, cond, Option, Some, None, List, [], ◌∷◌, filter, refl, ap, sym, ◌∙◌, subst, ◌⊎◌, inl, inr}
 use Rattle.login_model.specs.declared.fact.Key.{Key}
-use Rattle.login_model.specs.declared.fact.Key.TheVariants.{Conn, Sess, User, Seat, Dev, Lock, Taken}
+use Rattle.login_model.specs.declared.fact.Key.TheVariants.{Conn, Sess, User, Dev, Lock, Taken}
 use Rattle.login_model.specs.declared.fact.Fact.{Fact}
 use Rattle.login_model.specs.declared.mark.Mark.TheVariants.{Set, Say}
 use Rattle.login_model.specs.Same.{same_key}
 use Rattle.login_model.specs.Trail.{Trail, value}
 use Rattle.login_model.specs.Kind.{IsOrder, AreKeys}
-use Rattle.login_model.specs.Start.{seat0}
-use Rattle.login_model.specs.Names.{insert, insert_some, names, is_above, IsNext, session_lt, user_lt, conn_lt, seat_lt, device_lt, lock_lt, session_in, user_in, conn_in, seat_in, device_in, lock_in}
-use Rattle.login_model.specs.Where.{is_session, is_user, is_connected, is_seat, is_device, is_lock, is_session_fact, is_user_fact, is_connected_fact, is_seat_fact, is_device_fact, is_lock_fact}
+use Rattle.login_model.specs.Names.{insert, insert_some, names, is_above, IsNext, session_lt, user_lt, conn_lt, device_lt, lock_lt, session_in, user_in, conn_in, device_in, lock_in}
+use Rattle.login_model.specs.Where.{is_session, is_user, is_connected, is_device, is_lock, is_session_fact, is_user_fact, is_connected_fact, is_device_fact, is_lock_fact}
 use Rattle.login_base.specs.declared.ids.SessId.{SessId}
 use Rattle.login_model.specs.Devices.{taken_in, is_taken, is_handle_fact}
-use Rattle.login_model.proofs.NameLaws.{session_order, user_order, conn_order, seat_order, device_order, lock_order, session_keys, user_keys, conn_keys, seat_keys, device_keys, lock_keys, taken_keys}
+use Rattle.login_model.proofs.NameLaws.{session_order, user_order, conn_order, device_order, lock_order, session_keys, user_keys, conn_keys, device_keys, lock_keys, taken_keys}
 use Rattle.login_model.proofs.Keys.{same_key-true, test, chosen}
 
 abbrev pub IsIn : {A : Type 0} → A → List A → Type 0
@@ -169,9 +168,6 @@ sessions-enumerated t = enumerated session_lt session_order session_in Sess is_s
 
 pub users-enumerated : (t : Trail) → Enumerates user_lt (is_user t) (names user_lt user_in t)
 users-enumerated t = enumerated user_lt user_order user_in User is_user_fact None user_keys t
-
-pub seats-enumerated : (t : Trail) → Enumerates seat_lt (is_seat t) (insert seat_lt seat0 (names seat_lt seat_in t))
-seats-enumerated t = enumerated seat_lt seat_order seat_in Seat is_seat_fact (Some seat0) seat_keys t
 
 pub devices-enumerated : (t : Trail) → Enumerates device_lt (is_device t) (names device_lt device_in t)
 devices-enumerated t = enumerated device_lt device_order device_in Dev is_device_fact None device_keys t

@@ -1,5 +1,5 @@
 -- How a session is created.
-use Rattle.std.specs.Prelude.{ℕ, ◌==◌, if◌then◌else◌, Option, Some, None, List, codes}
+use Rattle.std.specs.Prelude.{ℕ, ◌==◌, if◌then◌else◌, Option, Some, None, List}
 use Rattle.std.specs.Str.{bytes_eq}
 use Rattle.login_base.specs.declared.ids.SessId.{SessId}
 use Rattle.login_base.specs.declared.ids.ConnId.{ConnId}
@@ -9,10 +9,6 @@ use Rattle.login_model.specs.declared.fact.Key.TheVariants.{Sess, Owner}
 use Rattle.login_model.specs.declared.fact.Fact.TheVariants as fact
 use Rattle.login_model.specs.declared.fact.Owner.TheVariants.{Fifo}
 use Rattle.login_model.specs.declared.session.Session.{Session}
-use Rattle.login_model.specs.declared.session.SessionType.{SessionType}
-use Rattle.login_model.specs.declared.session.SessionType.TheVariants.{Unspecified, Tty, X11, Wayland, Mir, Web}
-use Rattle.login_model.specs.declared.session.Class.{Class}
-use Rattle.login_model.specs.declared.session.Class.TheVariants as class
 use Rattle.login_model.specs.declared.session.Phase.TheVariants.{Open}
 use Rattle.login_model.specs.declared.call.Creation.{Creation}
 use Rattle.login_model.specs.declared.mark.Notice.TheVariants.{SessionNew, Active}
@@ -20,24 +16,7 @@ use Rattle.login_model.specs.Trail.{Trail, put, tell_all}
 use Rattle.login_model.specs.Start.{seat0}
 use Rattle.login_model.specs.Where.{is_active, active_on}
 use Rattle.login_model.specs.Procedure.{know, take_seat}
-
--- the type that a text names; the empty one is unspecified
-abbrev pub type_of : List ℕ → SessionType
-type_of text =
-    if bytes_eq text (codes "tty") then Tty
-    else if bytes_eq text (codes "x11") then X11
-    else if bytes_eq text (codes "wayland") then Wayland
-    else if bytes_eq text (codes "mir") then Mir
-    else if bytes_eq text (codes "web") then Web
-    else Unspecified
-
--- the class that a text names; the empty one is user
-abbrev pub class_of : List ℕ → Class
-class_of text =
-    if bytes_eq text (codes "greeter") then class.Greeter
-    else if bytes_eq text (codes "lock-screen") then class.LockScreen
-    else if bytes_eq text (codes "background") then class.Background
-    else class.User
+use Rattle.login_model.specs.Words.{class_of, type_of}
 
 -- the seat that a text names, if it names one
 abbrev pub seat_of : List ℕ → Option (List ℕ)

@@ -1,5 +1,5 @@
 -- What a granted event does by itself.
-use Rattle.std.specs.Prelude.{ℕ, ◌==◌, Bool, true, false, if◌then◌else◌, Option, Some, None, List, filter, codes}
+use Rattle.std.specs.Prelude.{ℕ, ◌==◌, Bool, true, false, if◌then◌else◌, Option, Some, None, List, filter}
 use Rattle.std.specs.Str.{bytes_eq}
 use Rattle.login_base.specs.declared.ids.SessId.{SessId}
 use Rattle.login_base.specs.declared.ids.Uid.{Uid}
@@ -13,7 +13,6 @@ use Rattle.login_model.specs.declared.fact.Fact.{Fact}
 use Rattle.login_model.specs.declared.fact.Fact.TheVariants as fact
 use Rattle.login_model.specs.declared.fact.Owner.TheVariants as owner
 use Rattle.login_model.specs.declared.session.Phase.TheVariants.{Gone}
-use Rattle.login_model.specs.declared.session.KillWhom.{KillWhom}
 use Rattle.login_model.specs.declared.session.KillWhom.TheVariants as whom
 use Rattle.login_model.specs.declared.setup.Setup.{Setup}
 use Rattle.login_model.specs.declared.call.Call.{Call}
@@ -37,6 +36,7 @@ use Rattle.login_model.specs.Switching.{request}
 use Rattle.login_model.specs.Creating.{create}
 use Rattle.login_model.specs.Taking.{acknowledge, add_device, remove_device, set_mode, take_device}
 use Rattle.login_model.specs.Turning.{vt_in, turn_to_next, turn_to_previous}
+use Rattle.login_model.specs.Words.{whom_of}
 pub use Rattle.login_model.specs.Facts.{is_this_handle, is_fifo_of, fifo_of, is_held_by, owner_of, is_overdue_fact}
 
 -- a session is brought to its seat: on seat0 its terminal is asked for
@@ -46,10 +46,6 @@ activate_on (Some seat) s t = if bytes_eq seat seat0 then request (vt_in (value 
 
 unfoldable pub activate : SessId → Trail → Trail
 activate s t = activate_on (seat_of_session t s) s t
-
--- whom a text names; the empty one is all
-abbrev pub whom_of : List ℕ → KillWhom
-whom_of text = if bytes_eq text (codes "leader") then whom.Leader else whom.All
 
 abbrev pub lock_session : SessId → Trail → Trail
 lock_session s t = tell_all (Lock s) t

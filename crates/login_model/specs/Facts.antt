@@ -12,13 +12,24 @@ use Rattle.login_model.specs.declared.fact.Fact.TheVariants as fact
 use Rattle.login_model.specs.declared.fact.Owner.{Owner}
 use Rattle.login_model.specs.declared.fact.Owner.TheVariants as owner
 use Rattle.login_model.specs.declared.hardware.DevKind.{DevKind}
+use Rattle.login_model.specs.declared.hardware.DevKind.TheVariants.{Drm, Evdev}
+use Rattle.login_model.specs.declared.hardware.HardKey.{HardKey}
+use Rattle.login_model.specs.declared.hardware.HardKey.TheVariants as hard
+use Rattle.login_model.specs.declared.lock.Inhibited.{Inhibited}
 use Rattle.login_model.specs.declared.lock.Lock.{Lock}
+use Rattle.login_model.specs.declared.lock.LockMode.{LockMode}
+use Rattle.login_model.specs.declared.operation.OpKind.{OpKind}
+use Rattle.login_model.specs.declared.operation.OpKind.TheVariants as operation
 use Rattle.login_model.specs.declared.operation.Operation.{Operation}
+use Rattle.login_model.specs.declared.operation.Operation.TheVariants.{Waiting, Running}
+use Rattle.login_model.specs.declared.session.Class.{Class}
+use Rattle.login_model.specs.declared.session.Class.TheVariants as class
 use Rattle.login_model.specs.declared.session.Phase.{Phase}
 use Rattle.login_model.specs.declared.session.Phase.TheVariants.{Open, Closing, Gone}
 use Rattle.login_model.specs.declared.session.Session.{Session}
 use Rattle.login_model.specs.declared.session.SessionTexts.{SessionTexts}
 use Rattle.login_model.specs.declared.setup.Setup.{Setup}
+use Rattle.login_model.specs.Same.{same_mode}
 use Rattle.login_model.specs.Start.{seat0}
 
 abbrev pub is_absent : Fact → Bool
@@ -126,6 +137,15 @@ abbrev pub is_seated_of : ℕ → Fact → Bool
 is_seated_of uid (fact.Session x) = is_open_of uid (fact.Session x) && is_some x.seat
 is_seated_of uid _ = false
 
+abbrev pub is_user_class : Class → Bool
+is_user_class class.User = true
+is_user_class _ = false
+
+-- an open session of class user, of another user
+abbrev pub is_other_user : ℕ → Fact → Bool
+is_other_user uid (fact.Session x) = is_open_phase x.phase && is_user_class x.class && not (x.uid.0 == uid)
+is_other_user uid _ = false
+
 -- ---- flags and signals
 
 abbrev pub is_flag : Fact → Bool
@@ -203,6 +223,11 @@ abbrev pub is_fifo_of : ConnId → Fact → Bool
 is_fifo_of c (fact.Owned (owner.Fifo b s)) = b.0 == c.0
 is_fifo_of c _ = false
 
+-- the session that a handle keeps open
+abbrev pub fifo_session : Fact → Option SessId
+fifo_session (fact.Owned (owner.Fifo c s)) = Some s
+fifo_session _ = None
+
 -- ---- taken devices
 
 -- the handle with which a device is taken
@@ -237,6 +262,11 @@ abbrev pub is_acting_fact : SessId → Fact → Bool
 is_acting_fact s (fact.Active r) = r.0 == s.0
 is_acting_fact s _ = false
 
+-- whether a seat is this one
+abbrev pub is_this_seat : List ℕ → Option (List ℕ) → Bool
+is_this_seat seat (Some name) = bytes_eq name seat
+is_this_seat seat None = false
+
 abbrev pub is_seat0 : Option (List ℕ) → Bool
 is_seat0 (Some name) = bytes_eq name seat0
 is_seat0 None = false
@@ -255,10 +285,6 @@ number_in _ = 0
 abbrev pub is_number_fact : Fact → Bool
 is_number_fact (fact.Number n) = true
 is_number_fact _ = false
-
--- a virtual terminal that is about to be the current one
-abbrev pub is_pending_fact : Fact → Bool
-is_pending_fact x = is_number_fact x
 
 abbrev pub is_number : ℕ → Fact → Bool
 is_number v (fact.Number n) = v == n
@@ -292,6 +318,22 @@ abbrev pub is_device_fact : Fact → Bool
 is_device_fact (fact.Device kind seat) = true
 is_device_fact _ = false
 
+-- a device on a seat, if that is one
+abbrev pub is_device_on : Option (List ℕ) → Fact → Bool
+is_device_on seat (fact.Device kind name) = is_this_seat name seat
+is_device_on seat _ = false
+
+-- a graphics device on a seat
+abbrev pub is_graphics_on : List ℕ → Fact → Bool
+is_graphics_on seat (fact.Device Drm name) = bytes_eq name seat
+is_graphics_on seat _ = false
+
+-- a device of another kind
+abbrev pub is_other_kind : DevKind → Fact → Bool
+is_other_kind Evdev (fact.Device Drm seat) = true
+is_other_kind Drm (fact.Device Evdev seat) = true
+is_other_kind kind _ = false
+
 abbrev pub lock_in_fact : Fact → Option Lock
 lock_in_fact (fact.Lock l) = Some l
 lock_in_fact _ = None
@@ -306,6 +348,30 @@ abbrev pub is_held_by : ConnId → Fact → Bool
 is_held_by c (fact.Lock l) = l.holder.0 == c.0
 is_held_by c _ = false
 
+-- whether what is inhibited has the word of an operation: shutdown for those that end the machine's run, else sleep
+abbrev pub holds_up : OpKind → Inhibited → Bool
+holds_up operation.PowerOff what = what.shutdown
+holds_up operation.Reboot what = what.shutdown
+holds_up operation.Halt what = what.shutdown
+holds_up _ what = what.sleep
+
+-- the fact of a lock of this mode that holds up an operation
+abbrev pub holds_back : OpKind → LockMode → Fact → Bool
+holds_back k mode (fact.Lock l) = same_mode l.mode mode && holds_up k l.what
+holds_back k mode _ = false
+
+-- whether what is inhibited has the word of a key
+abbrev pub holds_key : HardKey → Inhibited → Bool
+holds_key hard.Power what = what.handle_power_key
+holds_key hard.Suspend what = what.handle_suspend_key
+holds_key hard.Hibernate what = what.handle_hibernate_key
+holds_key hard.Lid what = what.handle_lid_switch
+
+-- the fact of a lock that takes a key from the login manager
+abbrev pub handles_key : HardKey → Fact → Bool
+handles_key k (fact.Lock l) = holds_key k l.what
+handles_key k _ = false
+
 abbrev pub operation_in : Fact → Option Operation
 operation_in (fact.Operation o) = Some o
 operation_in _ = None
@@ -313,3 +379,14 @@ operation_in _ = None
 abbrev pub is_operation_fact : Fact → Bool
 is_operation_fact (fact.Operation o) = true
 is_operation_fact _ = false
+
+-- the operation that waits or runs
+abbrev pub kind_under_way : Fact → Option OpKind
+kind_under_way (fact.Operation (Waiting k since skip)) = Some k
+kind_under_way (fact.Operation (Running k)) = Some k
+kind_under_way _ = None
+
+-- the operation that runs
+abbrev pub running_in : Fact → Option OpKind
+running_in (fact.Operation (Running k)) = Some k
+running_in _ = None

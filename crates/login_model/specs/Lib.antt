@@ -29,6 +29,7 @@ pub mod Settle
 pub mod Objects
 pub mod Paths
 pub mod Texts
+pub mod Named
 pub mod Stopping
 pub mod Legal
 pub mod Built

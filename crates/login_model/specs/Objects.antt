@@ -1,21 +1,18 @@
 -- The objects that have properties, by their paths.
-use Rattle.std.specs.Prelude.{ℕ, ◌+◌, ◌*◌, ◌-◌, ◌==◌, ◌&&◌, ◌||◌, not, nat_lt, Bool, false, if◌then◌else◌, List, [], ◌∷◌, length, take, drop, codes}
+use Rattle.std.specs.Prelude.{ℕ, ◌+◌, ◌*◌, ◌==◌, ◌&&◌, ◌||◌, not, Bool, false, if◌then◌else◌, List, [], ◌∷◌, length, take, drop, codes}
 use Rattle.std.specs.List.{list_all}
 use Rattle.std.specs.Option.{is_some}
 use Rattle.std.specs.Str.{bytes_eq, is_utf8}
+use Rattle.login_base.specs.Hex.{hex_value}
 use Rattle.login_base.specs.Labels.{escape}
 use Rattle.login_base.specs.Number.{number_of}
-
--- the value of a digit of base 16 in lower case
-abbrev pub digit_value : ℕ → ℕ
-digit_value digit = if nat_lt digit 58 then digit - 48 else digit - 87
 
 -- the bytes of which an element that escapes some is made; `_` alone is no byte
 abbrev pub decoded : List ℕ → List ℕ
 decoded [] = []
 decoded (a ∷ []) = if a == 95 then [] else a ∷ []
 decoded (a ∷ b ∷ []) = a ∷ b ∷ []
-decoded (a ∷ b ∷ c ∷ rest) = if a == 95 then (16 * digit_value b + digit_value c) ∷ decoded rest else a ∷ decoded (b ∷ c ∷ rest)
+decoded (a ∷ b ∷ c ∷ rest) = if a == 95 then (16 * hex_value b + hex_value c) ∷ decoded rest else a ∷ decoded (b ∷ c ∷ rest)
 
 -- an element of a path that is the escape of a text: UTF-8 without NUL
 abbrev pub is_label : List ℕ → Bool

@@ -1,5 +1,5 @@
 -- The policy: one formula a rule, the ordered rules of each event, and the verdict.
-use Rattle.std.specs.Prelude.{ℕ, ℤ, pos, ◌==◌, ◌&&◌, ◌||◌, not, nat_le, nat_lt, Bool, true, false, if◌then◌else◌, Option, Some, None, List, [], ◌∷◌, ◌++◌, length, codes, find}
+use Rattle.std.specs.Prelude.{ℕ, ℤ, pos, ◌==◌, ◌&&◌, ◌||◌, not, nat_le, nat_lt, Bool, true, false, if◌then◌else◌, Option, Some, None, List, [], ◌∷◌, ◌++◌, length, find}
 use Rattle.std.specs.Option.{option_map, is_some}
 use Rattle.std.specs.List.{list_any}
 use Rattle.std.specs.Str.{bytes_eq}
@@ -31,16 +31,16 @@ use Rattle.login_model.specs.declared.table.Say.{Say}
 use Rattle.login_model.specs.declared.table.Say.TheVariants.{No, Challenge, Yes}
 use Rattle.login_model.specs.Trail.{Trail, value}
 use Rattle.login_model.specs.Start.{seat0}
-use Rattle.login_model.specs.Where.{devices, is_connected, is_device, is_session, is_this_seat, is_user, is_seat, connections, sessions, session_on, seat_of_session, is_on_seat, now}
+use Rattle.login_model.specs.Where.{devices, is_connected, is_device, is_session, is_user, is_seat, connections, sessions, session_on, seat_of_session, is_on_seat, now}
 use Rattle.login_model.specs.Table.{ask}
 use Rattle.login_model.specs.Standing.{standing}
 use Rattle.login_model.specs.Devices.{is_live, is_taken, taken_devices}
 use Rattle.login_base.specs.declared.ids.DevNo.{DevNo}
 use Rattle.login_model.specs.declared.hardware.DevKind.{DevKind}
 use Rattle.login_model.specs.declared.hardware.DevKind.TheVariants.{Drm, Evdev}
-use Rattle.login_model.specs.Locks.{holds_up, is_mode, is_what, key_locks, matching, mode_of, what_of}
+use Rattle.login_model.specs.Locks.{is_mode, is_what, key_locks, matching, mode_of, what_of}
 use Rattle.login_model.specs.Action.{power_action}
-use Rattle.login_model.specs.Power.{is_blocked, key_action, kind_under_way, passes_locks, running_in}
+use Rattle.login_model.specs.Power.{is_blocked, key_action, passes_locks}
 use Rattle.login_model.specs.declared.action.Qualifier.TheVariants as qualifier
 use Rattle.login_model.specs.declared.conf.KeyAction.{KeyAction}
 use Rattle.login_model.specs.declared.conf.KeyAction.TheVariants as does
@@ -49,15 +49,15 @@ use Rattle.login_model.specs.declared.lock.Inhibited.{Inhibited as What}
 use Rattle.login_model.specs.declared.lock.LockMode.{LockMode}
 use Rattle.login_model.specs.declared.lock.LockMode.TheVariants.{Block, Delay}
 use Rattle.login_model.specs.declared.operation.OpKind.{OpKind}
-use Rattle.login_model.specs.declared.session.Class.{Class}
-use Rattle.login_model.specs.declared.session.Class.TheVariants as class
+use Rattle.login_model.specs.declared.session.KillWhom.TheVariants.{Leader}
 use Rattle.login_base.specs.declared.ids.LockNo.{LockNo}
 use Rattle.login_model.specs.Where.{locks}
-use Rattle.login_model.specs.Facts.{client_or, is_client_of, controller_in, is_open_phase, is_owned_fact, leader_in, owner_of}
+use Rattle.login_model.specs.Facts.{client_or, is_client_of, controller_in, is_owned_fact, leader_in, owner_of, kind_under_way, running_in, holds_up, is_device_on, is_other_kind, is_other_user}
 use Rattle.login_model.specs.declared.fact.Fact.{Fact}
 use Rattle.login_model.specs.declared.fact.Fact.TheVariants as fact
 use Rattle.login_model.specs.declared.fact.Owner.TheVariants as owner
 pub use Rattle.login_model.specs.Facts.{is_controller_fact, is_closing_phase, is_closing_fact, holder_in}
+use Rattle.login_model.specs.Words.{is_read_or_empty, type_named, class_named, whom_named, whom_word}
 use Rattle.login_model.specs.Limits.{links_limit, taken_limit, devices_limit, last_terminal, last_signal}
 
 -- a rule that is broken where the test holds
@@ -137,14 +137,11 @@ nobody t process = broken_if (not ((process == 0) || is_connected t (record { 0 
 
 -- P03 bad-arguments, of create: the type and the class are of their sets, the seat is none or a name
 -- of one, and a terminal of seat0 is from 1 to 63, of anything else 0
-abbrev pub is_one_of : List (List ℕ) → List ℕ → Bool
-is_one_of names text = list_any (λ name. bytes_eq name text) names
-
 abbrev pub is_type : List ℕ → Bool
-is_type text = is_one_of ([] ∷ codes "unspecified" ∷ codes "tty" ∷ codes "x11" ∷ codes "wayland" ∷ codes "mir" ∷ codes "web" ∷ []) text
+is_type text = is_read_or_empty type_named text
 
 abbrev pub is_class : List ℕ → Bool
-is_class text = is_one_of ([] ∷ codes "user" ∷ codes "greeter" ∷ codes "lock-screen" ∷ codes "background" ∷ []) text
+is_class text = is_read_or_empty class_named text
 
 abbrev pub is_vt : ℕ → Bool
 is_vt vt = nat_le 1 vt && nat_le vt last_terminal
@@ -243,7 +240,7 @@ is_signal (pos n) = nat_le 1 n && nat_le n last_signal
 is_signal _ = false
 
 abbrev pub is_whom : List ℕ → Bool
-is_whom who = is_one_of ([] ∷ codes "all" ∷ codes "leader" ∷ []) who
+is_whom who = is_read_or_empty whom_named who
 
 -- P35 nobody, of kill: the leader is asked for and is not connected
 abbrev pub is_missing : Trail → Option ConnId → Bool
@@ -251,7 +248,7 @@ is_missing t (Some leader) = not (is_connected t leader)
 is_missing t None = false
 
 abbrev pub no_leader : Trail → SessId → List ℕ → Option Rule
-no_leader t s who = broken_if (bytes_eq who (codes "leader") && is_missing t (leader_in (value t (Sess s)))) Nobody
+no_leader t s who = broken_if (bytes_eq who (whom_word Leader) && is_missing t (leader_in (value t (Sess s)))) Nobody
 
 -- the user whom a call to linger means: that number is the caller's own user
 abbrev pub meant_user : Trail → ConnId → ℕ → ℕ
@@ -322,10 +319,6 @@ abbrev pub device_present : Trail → DevNo → Option Rule
 device_present t d = broken_if (is_device t d) DevicePresent
 
 -- P16 device-not-on-seat: the device is not on the session's seat
-abbrev pub is_device_on : Option (List ℕ) → Fact → Bool
-is_device_on seat (fact.Device kind name) = is_this_seat name seat
-is_device_on seat _ = false
-
 abbrev pub device_not_on_seat : Trail → SessId → DevNo → Option Rule
 device_not_on_seat t s d = broken_if (not (is_device_on (seat_of_session t s) (value t (Dev d)))) DeviceNotOnSeat
 
@@ -348,11 +341,6 @@ abbrev pub not_live : Trail → HandleNo → Option Rule
 not_live t h = broken_if (not (is_live t h)) NotLive
 
 -- P29 wrong-kind: a device that is present is of another kind, or the handle is no device's
-abbrev pub is_other_kind : DevKind → Fact → Bool
-is_other_kind Evdev (fact.Device Drm seat) = true
-is_other_kind Drm (fact.Device Evdev seat) = true
-is_other_kind kind _ = false
-
 abbrev pub device_wrong : DevKind → Trail → DevNo → Option Rule
 device_wrong kind t d = broken_if (is_other_kind kind (value t (Dev d))) WrongKind
 
@@ -419,14 +407,6 @@ abbrev pub needs : Bool → Setup → Trail → ConnId → Action → List (Opti
 needs b U t c a = unless (not b) (action_refused U t c a) ∷ unless (not b) (action_challenge U t c a) ∷ []
 
 -- another user has an open session of class user
-abbrev pub is_user_class : Class → Bool
-is_user_class class.User = true
-is_user_class _ = false
-
-abbrev pub is_other_user : ℕ → Fact → Bool
-is_other_user uid (fact.Session x) = is_open_phase x.phase && is_user_class x.class && not (x.uid.0 == uid)
-is_other_user uid _ = false
-
 abbrev pub has_others : Trail → ℕ → Bool
 has_others t uid = is_some (find (λ s. is_other_user uid (value t (Sess s))) (sessions t))
 

@@ -1,5 +1,5 @@
 -- Operations on the machine: how they are asked for, wait, run and end.
-use Rattle.std.specs.Prelude.{◌-◌, ◌&&◌, not, nat_le, Bool, true, false, if◌then◌else◌, Option, Some, None}
+use Rattle.std.specs.Prelude.{◌-◌, ◌&&◌, not, nat_le, Bool, true, false, if◌then◌else◌}
 use Rattle.login_base.specs.declared.ids.HandleNo.{HandleNo}
 use Rattle.login_base.specs.declared.ids.LockNo.{LockNo}
 use Rattle.login_base.specs.declared.ids.Millis.{Millis}
@@ -23,16 +23,6 @@ use Rattle.login_model.specs.Locks.{matching}
 use Rattle.login_model.specs.Procedure.{is_empty}
 use Rattle.login_model.specs.Trail.{Trail, value, put, tell_all}
 use Rattle.login_model.specs.Where.{is_set, now}
-
--- the operation that waits or runs
-abbrev pub kind_under_way : Fact → Option OpKind
-kind_under_way (fact.Operation (Waiting k since skip)) = Some k
-kind_under_way (fact.Operation (Running k)) = Some k
-kind_under_way _ = None
-
-abbrev pub running_in : Fact → Option OpKind
-running_in (fact.Operation (Running k)) = Some k
-running_in _ = None
 
 -- whether a lock blocks an operation, or delays it
 abbrev pub is_blocked : Trail → OpKind → Bool

@@ -1,5 +1,6 @@
 -- Which setups there are so far: the preamble gives users, and the rest is the default.
-use Rattle.std.specs.Prelude.{ℕ, ◌≡◌, ◌≢◌, ◌≤◌, ◌<◌, ◌&&◌, ◌||◌, nat_le, Bool, true, List, [], ◌∷◌, length, codes}
+use Rattle.std.specs.Prelude.{ℕ, ◌≡◌, ◌≢◌, ◌≤◌, ◌<◌, true, List, [], ◌∷◌, length, codes}
+use Rattle.login_base.specs.Hex.{is_hex_digit}
 use Rattle.login_model.specs.Conf.{default_conf}
 use Rattle.login_model.specs.Table.{default_table}
 use Rattle.login_model.specs.Texts.{IsText}
@@ -12,12 +13,9 @@ use Rattle.login_model.specs.Limits.{name_limit, users_limit}
 abbrev pub default_guid : List ℕ
 default_guid = codes "0123456789abcdef0123456789abcdef"
 
-abbrev pub is_hex_byte : ℕ → Bool
-is_hex_byte b = (nat_le 48 b && nat_le b 57) || (nat_le 97 b && nat_le b 102)
-
 -- 32 hex digits in lower case
 pub record IsGuid (guid : List ℕ) : Type 0 where
-  pub digits : list_all is_hex_byte guid ≡ true
+  pub digits : list_all is_hex_digit guid ≡ true
   pub long : length guid ≡ 32
 
 -- no row is of this user

@@ -1,15 +1,12 @@
 -- What holds before the first mark.
-use Rattle.std.specs.Prelude.{ℕ, false, if◌then◌else◌, List, [], ◌∷◌, codes}
+use Rattle.std.specs.Prelude.{false, if◌then◌else◌, List, [], ◌∷◌}
 use Rattle.std.specs.Str.{bytes_eq}
 use Rattle.login_model.specs.declared.fact.Key.{Key}
 use Rattle.login_model.specs.declared.fact.Key.TheVariants as key
 use Rattle.login_model.specs.declared.fact.Fact.{Fact}
 use Rattle.login_model.specs.declared.fact.Fact.TheVariants.{Absent, Flag, Present, Number, Moment, Operation}
 use Rattle.login_model.specs.declared.operation.Operation.TheVariants.{Idle}
-
--- the seat that is always there, and the only one with virtual terminals
-abbrev pub seat0 : List ℕ
-seat0 = codes "seat0"
+pub use Rattle.login_base.specs.Seat.{seat0}
 
 -- The virtual terminal 1 is current, seat0 is there, the clock is at 0, no operation runs, no flag is
 -- set, each mode is 0, and nothing else is there.

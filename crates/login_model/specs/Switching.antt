@@ -14,7 +14,7 @@ use Rattle.login_model.specs.Start.{seat0}
 use Rattle.login_model.specs.Where.{current_vt, active_on, session_on}
 use Rattle.login_model.specs.Devices.{taken_devices, is_live, is_awaiting}
 use Rattle.login_model.specs.Procedure.{each, if_some, yes, no, tell_controller, force, resume}
-pub use Rattle.login_model.specs.Facts.{is_pending_fact}
+use Rattle.login_model.specs.Facts.{is_number_fact}
 
 -- a live device is to be let go of: that is awaited, and the controller is told
 abbrev pub await_handle : SessId → DevNo → Fact → Trail → Trail
@@ -48,8 +48,8 @@ withdraw_switch t = if_some resume (active_on t seat0) (if_some unawait_devices 
 unfoldable pub request : ℕ → Trail → Trail
 request v t =
     if v == current_vt t
-    then (if is_pending_fact (value t key.Pending) then withdraw_switch t else t)
-    else ask_switch v (is_pending_fact (value t key.Pending)) t
+    then (if is_number_fact (value t key.Pending) then withdraw_switch t else t)
+    else ask_switch v (is_number_fact (value t key.Pending)) t
 
 -- a getty is asked for on a terminal without an open session, up to the number of the configuration
 abbrev pub ask_getty : Setup → ℕ → Trail → Trail

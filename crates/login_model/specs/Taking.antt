@@ -7,6 +7,7 @@ use Rattle.login_base.specs.declared.ids.DevNo.{DevNo}
 use Rattle.login_base.specs.declared.ids.HandleNo.{HandleNo}
 use Rattle.login_base.specs.declared.ids.SessId.{SessId}
 use Rattle.login_model.specs.Devices.{is_taken}
+use Rattle.login_model.specs.Facts.{is_graphics_on}
 use Rattle.login_model.specs.Procedure.{each, kill, no, revoke, shut, yes}
 use Rattle.login_model.specs.Start.{seat0}
 use Rattle.login_model.specs.Trail.{Trail, put, tell_all, value}
@@ -47,10 +48,6 @@ add_device d kind seat t = appear_seat kind seat (put (key.Dev d) (fact.Device k
 -- the sessions that have a device taken, in order
 unfoldable pub takers : Trail → DevNo → List SessId
 takers t d = filter (λ s. is_taken t s d) (sessions t)
-
-abbrev pub is_graphics_on : List ℕ → Fact → Bool
-is_graphics_on seat (fact.Device Drm name) = bytes_eq name seat
-is_graphics_on seat _ = false
 
 -- whether a graphics device is on a seat
 unfoldable pub has_graphics : Trail → List ℕ → Bool

@@ -13,7 +13,7 @@ use Rattle.login_model.specs.Trail.{Trail, value}
 use Rattle.login_model.specs.Start.{seat0}
 use Rattle.login_model.specs.Names.{names, insert, session_lt, conn_lt, user_lt, seat_lt, device_lt, lock_lt, session_in, conn_in, user_in, seat_in, device_in, lock_in}
 use Rattle.login_model.specs.Fresh.{is_open_phase, is_open_fact}
-pub use Rattle.login_model.specs.Facts.{is_connected_fact, is_gone_phase, is_session_fact, is_user_fact, is_seat_fact, is_device_fact, is_lock_fact, is_seat0, is_number, is_on_terminal, number_in, seat_in_fact, is_acting_fact, is_user_in, is_set, moment_in}
+pub use Rattle.login_model.specs.Facts.{is_connected_fact, is_gone_phase, is_session_fact, is_user_fact, is_seat_fact, is_device_fact, is_lock_fact, is_seat0, is_this_seat, is_number, is_on_terminal, number_in, seat_in_fact, is_acting_fact, is_user_in, is_set, moment_in}
 
 -- whether a client is connected
 abbrev pub is_connected : Trail → ConnId → Bool
@@ -74,10 +74,6 @@ is_open t s = is_open_fact (value t (key.Sess s))
 -- the seat of a session, if it has one
 abbrev pub seat_of_session : Trail → SessId → Option (List ℕ)
 seat_of_session t s = seat_in_fact (value t (key.Sess s))
-
-abbrev pub is_this_seat : List ℕ → Option (List ℕ) → Bool
-is_this_seat seat (Some name) = bytes_eq name seat
-is_this_seat seat None = false
 
 -- whether a session is on a seat
 abbrev pub is_on_seat : Trail → List ℕ → SessId → Bool

@@ -1,5 +1,6 @@
 -- How fixed words are spelled, each by the type that it stands for.
-use Rattle.std.specs.Prelude.{ℕ, Option, List, [], ◌∷◌, codes, find}
+use Rattle.std.specs.Prelude.{ℕ, Bool, true, Option, List, [], ◌∷◌, codes, find, map}
+use Rattle.std.specs.Option.{is_some, unwrap_or}
 use Rattle.std.specs.Str.{bytes_eq}
 use Rattle.login_model.specs.declared.session.SessionType.{SessionType}
 use Rattle.login_model.specs.declared.session.SessionType.TheVariants as session_type
@@ -20,6 +21,11 @@ use Rattle.login_model.specs.declared.lock.LockMode.TheVariants as mode
 abbrev pub named : {T : Type 0} → (T → List ℕ) → List T → List ℕ → Option T
 named word values text = find (λ x. bytes_eq (word x) text) values
 
+-- whether a text is empty, or is read as some value
+abbrev pub is_read_or_empty : {T : Type 0} → (List ℕ → Option T) → List ℕ → Bool
+is_read_or_empty read [] = true
+is_read_or_empty read (b ∷ bs) = is_some (read (b ∷ bs))
+
 abbrev pub type_word : SessionType → List ℕ
 type_word session_type.Unspecified = codes "unspecified"
 type_word session_type.Tty = codes "tty"
@@ -36,6 +42,10 @@ session_types =
 abbrev pub type_named : List ℕ → Option SessionType
 type_named text = named type_word session_types text
 
+-- the type that a text names; the empty one is unspecified
+abbrev pub type_of : List ℕ → SessionType
+type_of text = unwrap_or (type_named text) session_type.Unspecified
+
 abbrev pub class_word : Class → List ℕ
 class_word class.User = codes "user"
 class_word class.Greeter = codes "greeter"
@@ -48,6 +58,10 @@ classes = class.User ∷ class.Greeter ∷ class.LockScreen ∷ class.Background
 abbrev pub class_named : List ℕ → Option Class
 class_named text = named class_word classes text
 
+-- the class that a text names; the empty one is user
+abbrev pub class_of : List ℕ → Class
+class_of text = unwrap_or (class_named text) class.User
+
 -- which processes of a session a signal is for
 abbrev pub whom_word : KillWhom → List ℕ
 whom_word whom.Leader = codes "leader"
@@ -58,6 +72,10 @@ whoms = whom.Leader ∷ whom.All ∷ []
 
 abbrev pub whom_named : List ℕ → Option KillWhom
 whom_named text = named whom_word whoms text
+
+-- whom a text names; the empty one is all
+abbrev pub whom_of : List ℕ → KillWhom
+whom_of text = unwrap_or (whom_named text) whom.All
 
 -- a kind of operation, as recordings and transcripts have it
 abbrev pub operation_word : OpKind → List ℕ
@@ -110,3 +128,24 @@ modes = mode.Block ∷ mode.Delay ∷ []
 
 abbrev pub mode_named : List ℕ → Option LockMode
 mode_named text = named mode_word modes text
+
+-- what a lock holds up beside the keys and the lid
+abbrev pub shutdown_word : List ℕ
+shutdown_word = codes "shutdown"
+
+abbrev pub sleep_word : List ℕ
+sleep_word = codes "sleep"
+
+abbrev pub idle_word : List ℕ
+idle_word = codes "idle"
+
+-- what the machine does at a key or the lid, as a lock holds it up
+abbrev pub handled_word : HardKey → List ℕ
+handled_word key.Power = codes "handle-power-key"
+handled_word key.Suspend = codes "handle-suspend-key"
+handled_word key.Hibernate = codes "handle-hibernate-key"
+handled_word key.Lid = codes "handle-lid-switch"
+
+-- all that locks hold up
+abbrev pub lock_words : List (List ℕ)
+lock_words = shutdown_word ∷ sleep_word ∷ idle_word ∷ map handled_word keys

@@ -2,7 +2,7 @@
 // machine's interface and of the D-Bus Specification that is answered, and four for other messages.
 
 use crate::operation::OpKind;
-use login_base::{DevNo, HandleNo, Uid, Word};
+use login_base::{DevNo, HandleNo, SessId, Uid, Word};
 
 /// What CreateSession of org.freedesktop.login1(5) is called with.
 #[derive(Debug, Drop)]
@@ -147,4 +147,32 @@ pub enum Call {
     NoMethod,
     /// A call whose arguments have other types, or one of whose texts has more than 512 bytes.
     BadArguments,
+}
+
+impl Call {
+    ghost use Rattle.std.specs.Prelude.{◌≡◌};
+    ghost use Rattle.login_model.specs.Named.{named_session};
+
+    /// The session whose id the call has, whether there is one or not; none where it is no id.
+    pub fn session(&self) -> Option<SessId>
+        ensures { result ≡ named_session self.now }
+    {
+        match self {
+            Call::GetSession(id)
+            | Call::Activate(id)
+            | Call::ActivateOnSeat(id, _)
+            | Call::Lock(id)
+            | Call::Unlock(id)
+            | Call::Kill(id, _, _)
+            | Call::Terminate(id)
+            | Call::SetIdle(id, _)
+            | Call::SetLocked(id, _)
+            | Call::Control(id, _)
+            | Call::Uncontrol(id)
+            | Call::TakeDevice(id, _)
+            | Call::ReleaseDevice(id, _)
+            | Call::PauseComplete(id, _) => SessId::read(id.as_slice()),
+            _ => None,
+        }
+    }
 }

@@ -5,7 +5,6 @@ ghost use Rattle.std.specs.Prelude.{◌≡◌, None, Some, MatchOption};
 use crate::hardware::DevKind;
 use crate::lock::Lock;
 use crate::operation::Operation;
-use crate::seat::is_seat0;
 use crate::session::{KillWhom, Phase, Session};
 use crate::setup::Setup;
 use login_base::{ConnId, DevNo, HandleNo, LockNo, Millis, SeatName, SessId, Uid};
@@ -115,7 +114,7 @@ pub enum Fact {
 
 /// What a fact says. Each call answers None, no or 0 of a fact of another kind.
 impl Fact {
-    ghost use Rattle.login_model.specs.Facts.{is_absent, client_in, is_connected_fact, is_client_of, client_or, session_in_fact, is_session_fact, is_open_fact, is_closing_fact, owner_of, is_user_in, seat_in_fact, vt_in, fifo_of, leader_in, is_open_of, is_seated_of, is_on_terminal, is_set, controller_in, is_controlled_fact, is_controller_fact, is_known, is_user_fact, is_overdue_fact, owner_in, is_owned_fact, holder_in, is_fifo_of, handle_in, is_handle_fact, is_this_handle, is_seat_fact, active_in, is_acting_fact, number_in_fact, number_in, is_number_fact, is_number, moment_in_fact, moment_in, kind_in, is_device_fact, lock_in_fact, is_lock_fact, is_held_by, operation_in};
+    ghost use Rattle.login_model.specs.Facts.{is_absent, client_in, is_connected_fact, is_client_of, client_or, session_in_fact, is_session_fact, is_open_fact, is_closing_fact, owner_of, is_user_in, seat_in_fact, vt_in, fifo_of, leader_in, is_open_of, is_seated_of, is_on_terminal, is_set, controller_in, is_controlled_fact, is_controller_fact, is_known, is_user_fact, is_overdue_fact, owner_in, is_owned_fact, holder_in, is_fifo_of, fifo_session, handle_in, is_handle_fact, is_this_handle, is_seat_fact, active_in, is_acting_fact, number_in_fact, number_in, is_number_fact, is_number, moment_in_fact, moment_in, kind_in, is_device_fact, lock_in_fact, is_lock_fact, is_held_by, operation_in};
 
     /// Whether nothing is there.
     pub fn is_absent(&self) -> bool
@@ -305,7 +304,7 @@ impl Fact {
                     vt,
                     ..
                 },
-            ) => { is_seat0(seat.as_slice()) && terminal.is_this_number(*vt) }
+            ) => { seat.is_seat0() && terminal.is_this_number(*vt) }
             _ => false,
         }
     }
@@ -410,6 +409,16 @@ impl Fact {
         match self {
             Fact::Owned(Owner::Fifo(other, _)) => other.0 == who.0,
             _ => false,
+        }
+    }
+
+    /// The session that a handle keeps open.
+    pub fn fifo_session(&self) -> Option<SessId>
+        ensures { result ≡ fifo_session self.now }
+    {
+        match self {
+            Fact::Owned(Owner::Fifo(_, session)) => Some(*session),
+            _ => None,
         }
     }
 

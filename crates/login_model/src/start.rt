@@ -5,7 +5,6 @@ ghost use Rattle.login_model.specs.Start.{start_fact, start_facts};
 
 use crate::fact::{Fact, Key};
 use crate::operation::Operation;
-use crate::seat::is_seat0;
 use login_base::Millis;
 
 /// What holds before the first mark: each fact that stands under some key then.
@@ -44,13 +43,7 @@ impl StartFacts {
             | Key::Getty(_)
             | Key::Awaited(_, _)
             | Key::Docked => unset,
-            Key::Seat(name) => {
-                if is_seat0(name.as_slice()) {
-                    present
-                } else {
-                    absent
-                }
-            }
+            Key::Seat(name) => { if name.is_seat0() { present } else { absent } }
             Key::Vt => terminal,
             Key::Mode(_) => zero,
             Key::Op => operation,

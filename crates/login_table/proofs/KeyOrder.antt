@@ -143,12 +143,6 @@ below-apart j k h = apart j k (below-one j k h)
 pub above-apart : (j k : Key) → key_lt k j ≡ true → same_key j k ≡ false
 above-apart j k h = apart j k (λ e. below-one k j h (sym e))
 
-pub below-not-above : (j k : Key) → key_lt j k ≡ true → key_lt k j ≡ false
-below-not-above j k h = elim (test (key_lt k j)) [
-  | inl y ↦ absurd (no-test (key-transitive j k j h y) (key-irreflexive j))
-  | inr n ↦ n
-]
-
 -- keys that are two, of which one is not below, stand in the other order
 pub above : (j k : Key) → key_lt j k ≡ false → same_key j k ≡ false → key_lt k j ≡ true
 above j k h n = elim (test (key_lt k j)) [

@@ -1,5 +1,5 @@
 -- A table stands for one more setting.
-use Rattle.std.proofs.Common.{◌≡◌, Bool, true, false, cond, Option, Some, None, [], ◌∷◌, refl, ap, sym, subst, ◌∙◌, inl, inr}
+use Rattle.std.proofs.Common.{◌≡◌, Bool, true, false, cond, Option, [], ◌∷◌, refl, ap, sym, subst, ◌∙◌, inl, inr}
 use Rattle.login_model.specs.declared.fact.Key.{Key}
 use Rattle.login_model.specs.declared.fact.Fact.{Fact}
 use Rattle.login_model.specs.declared.mark.Mark.TheVariants.{Set}
@@ -9,7 +9,7 @@ use Rattle.login_model.specs.Trail.{Trail, value}
 use Rattle.login_model.specs.Names.{IsNext}
 use Rattle.login_model.proofs.Keys.{same_key-true, test}
 use Rattle.login_table.specs.Listed.{is_there}
-use Rattle.login_table.specs.Stands.{Stands, told}
+use Rattle.login_table.specs.Stands.{Stands}
 
 pub value-set : (k j : Key) (x : Fact) (t : Trail) → value (Set j x ∷ t) k ≡ cond (same_key j k) x (value t k)
 unfolding value
@@ -31,22 +31,6 @@ other-key owns rows t k x e s j own =
       | inl y ↦ absurd (let z : true ≡ false = sym own ∙ ap owns (sym (same_key-true k j y)) ∙ e in cc)
       | inr n ↦ s j own ∙ sym (value-set j k x t ∙ ap (λ (b : Bool). cond b x (value t j)) n)
     ]
-
-told-by : (b : Bool) (rows t : Trail) (k : Key) (x : Fact) → cond b (Some (value rows k)) None ≡ Some x → (b ≡ true → value rows k ≡ value t k) → x ≡ value t k
-told-by true rows t k x e s = let q : value rows k ≡ x = cc in sym q ∙ s refl
-told-by false rows t k x e s = absurd (cc)
-
--- what a table tells is the fact that the marks have
-pub told-fact : (owns : Key → Bool) (rows t : Trail) (k : Key) (x : Fact) → told owns rows k ≡ Some x → Stands owns rows t → x ≡ value t k
-told-fact owns rows t k x e s = told-by (owns k) rows t k x e (s k)
-
-told-none : (b : Bool) (x : Fact) → cond b (Some x) None ≡ None → b ≡ false
-told-none true x e = absurd (cc)
-told-none false x e = refl
-
--- where a table tells nothing, the key is another's
-pub told-other : (owns : Key → Bool) (rows : Trail) (k : Key) → told owns rows k ≡ None → owns k ≡ false
-told-other owns rows k e = told-none (owns k) (value rows k) e
 
 -- the next name by a table's rows is the next one by the marks, where the keys of its kind are the table's
 pub next-standing : {A : Type 0} (lt : A → A → Bool) (key_of : A → Key) (is_fact : Fact → Bool) (owns : Key → Bool) (rows t : Trail) (above found : Option A)

@@ -4,11 +4,11 @@ ghost use Rattle.std.specs.Prelude.{◌≡◌};
 ghost use Rattle.login_model.specs.declared.fact.Key.TheVariants.{Sess};
 ghost use Rattle.login_model.specs.declared.fact.Fact.TheVariants.{Number};
 ghost use Rattle.login_model.specs.Trail.{value};
-ghost use Rattle.login_model.specs.Where.{is_on_terminal, is_acting_on, is_acting, is_active, session_on, current_vt, acting, active_on, seat_of_session};
+ghost use Rattle.login_model.specs.Where.{is_on_terminal, is_acting_on, is_acting, is_active, session_on, current_vt, acting, active_on, seat_of_session, is_this_seat, is_on_seat};
 
 use crate::search::{Test, find_session};
 use login_base::{SeatName, SessId};
-use login_model::{Fact, Key, Look, is_seat0};
+use login_model::{Fact, Key, Look};
 
 /// It is open on seat0, on this virtual terminal.
 #[derive(Drop)]
@@ -59,7 +59,7 @@ fn acting<F: Look>(facts: &F, fact: &Fact) -> Option<SessId>
 pub fn active_on<F: Look>(facts: &F, seat: SeatName) -> Option<SessId>
     ensures { result ≡ active_on (F.trail facts.now) seat }
 {
-    if is_seat0(seat.as_slice()) {
+    if seat.is_seat0() {
         session_on(facts, current_vt(facts))
     } else {
         acting(facts, facts.fact(&Key::Act(seat)))
@@ -70,9 +70,7 @@ fn is_acting_on<F: Look>(facts: &F, session: SessId, seat: Option<SeatName>) -> 
     ensures { result ≡ is_acting_on (F.trail facts.now) session seat }
 {
     match seat {
-        Some(name) => {
-            !is_seat0(name.as_slice()) && facts.fact(&Key::Act(name)).is_acting(session)
-        }
+        Some(name) => !name.is_seat0() && facts.fact(&Key::Act(name)).is_acting(session),
         None => false,
     }
 }
@@ -96,4 +94,20 @@ pub fn seat_of_session<F: Look>(facts: &F, session: SessId) -> Option<SeatName>
     ensures { result ≡ seat_of_session (F.trail facts.now) session }
 {
     facts.fact(&Key::Sess(session)).seat()
+}
+
+fn is_this_seat(seat: &[u8], name: Option<SeatName>) -> bool
+    ensures { result ≡ is_this_seat seat.now name }
+{
+    match name {
+        Some(name) => name.as_slice() == seat,
+        None => false,
+    }
+}
+
+/// Whether a session is on the seat of this name.
+pub fn is_on_seat<F: Look>(facts: &F, seat: &[u8], session: SessId) -> bool
+    ensures { result ≡ is_on_seat (F.trail facts.now) seat.now session }
+{
+    is_this_seat(seat, seat_of_session(facts, session))
 }

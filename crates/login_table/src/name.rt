@@ -15,7 +15,7 @@ ghost use Rattle.login_table.specs.declared.key_order.TheConstants.{CONNECTIONS,
 
 use crate::key_order::{CONNECTIONS, DEVICES, LOCKS, SEATS, SESSIONS, USERS};
 use login_base::{ConnId, DevNo, LockNo, SeatName, SessId, Uid};
-use login_model::{Fact, Key, seat0};
+use login_model::{Fact, Key};
 
 /// A name of a kind that has an order.
 pub trait Order: Copy {
@@ -283,7 +283,7 @@ impl Name for SeatName {
     }
 
     fn at_start() -> Option<SeatName> {
-        Some(seat0())
+        Some(SeatName::SEAT0)
     }
 
     fn kind() -> u8 {

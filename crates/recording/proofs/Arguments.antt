@@ -28,9 +28,9 @@ use Rattle.recording.specs.declared.argument.WordKind.{WordKind}
 use Rattle.recording.specs.declared.argument.WordKind.TheVariants.{Number, Positive, Small, Signed, Moment, Flag, Text, UserName, SessionId, SeatName, Hex, Guid, Version, DeviceKind, Key, Operation}
 use Rattle.recording.specs.declared.line.LineFault.{LineFault}
 use Rattle.recording.specs.declared.line.LineFault.TheVariants.{BadName}
-use Rattle.login_base.specs.Labels.{hex_digit}
+use Rattle.login_base.specs.Hex.{hex_digit, is_hex_digit}
 use Rattle.recording.specs.Text.{stands, spell_byte, spell_text, spell_flag}
-use Rattle.recording.specs.Hex.{spell_hex, is_hex_digit, is_guid}
+use Rattle.recording.specs.Hex.{spell_hex, is_guid}
 use Rattle.recording.specs.Bytes.{AreBytes}
 use Rattle.recording.specs.Words.{positive_of, small_of, signed_of, moment_of, flag_of, text_of, seat_of, guid_of, hex_of}
 use Rattle.recording.specs.Causes.{unless, unless_so, name_fault, word_fault, first_fault, end_fault, known_fault}

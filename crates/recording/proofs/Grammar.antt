@@ -181,7 +181,3 @@ pub record IsWhole (bytes : List ℕ) : Type 0 where
   pub text : List ℕ
   pub whole : bytes ≡ text ++ 10 ∷ []
   pub feedless : NoLineFeed text
-
--- what spells a line is whole
-pub spelled_whole : (bytes : List ℕ) (line : Line) → Spells line bytes → IsWritten line → IsWhole bytes
-spelled_whole bytes line s w = let t = spells_text line bytes s w in record { text = t.text; whole = t.whole; feedless = no_feed t.text t.one }

@@ -4,10 +4,10 @@ use Rattle.std.specs.List.{flat_map, list_all}
 use Rattle.std.specs.Str.{bytes_eq}
 use Rattle.std.proofs.lemmas.Bool.Decides.{nat_tests}
 use Rattle.std.proofs.lemmas.Slice.Eq.{bytes_eq-Decides}
-use Rattle.login_base.specs.Labels.{hex_digit}
+use Rattle.login_base.specs.Hex.{hex_digit, hex_value, is_hex_digit}
 use Rattle.recording.specs.Bytes.{AreBytes}
-use Rattle.recording.specs.Hex.{spell_pair, spell_hex, is_hex_digit}
-use Rattle.recording.specs.Words.{hex_value, unhexed, hex_of}
+use Rattle.recording.specs.Hex.{spell_pair, spell_hex}
+use Rattle.recording.specs.Words.{unhexed, hex_of}
 use Rattle.recording.proofs.Texts.{both, hex_value-hex_digit}
 
 digit_is : (n : ℕ) → n < 16 → is_hex_digit (hex_digit n) ≡ true

@@ -91,7 +91,3 @@ unbuilt_of_front text = unbuilt_by text (within_by text (leb (length (first_line
 read_by : (text : List ℕ) (line : Line) → (Long text) ⊎ (front text ≡ first_line text) → IsReadAs (front text) line → IsReadAs (first_line text) line
 read_by text line (inl long) h = absurd (spelled_feed h.written (front text) h.spells long.feedless)
 read_by text line (inr same) h = subst (λ (t : List ℕ). IsReadAs t line) same h
-
--- a line is read as its front is
-pub read_of_front : (text : List ℕ) (line : Line) → IsReadAs (take 16385 (first_line text)) line → IsReadAs (first_line text) line
-read_of_front text line = read_by text line (within_by text (leb (length (first_line text)) 16385) refl)

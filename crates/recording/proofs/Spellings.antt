@@ -134,17 +134,6 @@ line_written (EventLine e) h = event_written e h.fits
 line_written End h = tt
 line_written _ h = absurd h
 
--- one spelling, one line, of all lines that are written
-pub written_injective : (l m : Line) → IsWritten l → IsWritten m → spell l ≡ spell m → l ≡ m
-written_injective l m g h e =
-    let a = line_of-text (join_with_byte 32 (fields l)) l g refl in
-    let b = line_of-text (join_with_byte 32 (fields l)) m h e in
-    let same : Some l ≡ Some m = sym a ∙ b in
-    cc
-
-pub spell_injective : (l m : Line) → IsLine l → IsLine m → spell l ≡ spell m → l ≡ m
-spell_injective l m g h e = written_injective l m (line_written l g) (line_written m h) e
-
 no_feed_in : (w : List ℕ) (rest : List ℕ) → IsWord w → NoLineFeed rest → NoLineFeed (w ++ rest)
 no_feed_in [] rest h k = k
 no_feed_in (b ∷ bs) rest h k = (λ e. omega (arith, e, h.0), no_feed_in bs rest h.1 k)
@@ -157,10 +146,6 @@ no_feed_join : (ws : List (List ℕ)) → AreWords ws → NoLineFeed (join_with_
 no_feed_join [] h = tt
 no_feed_join (w ∷ []) h = no_feed_word w h.0
 no_feed_join (w ∷ v ∷ vs) h = no_feed_in w (32 ∷ join_with_byte 32 (v ∷ vs)) h.0 (λ e. omega (arith, e), no_feed_join (v ∷ vs) h.1)
-
--- a line's words have no line feed
-pub fields_no_feed : (line : Line) → IsLine line → NoLineFeed (join_with_byte 32 (fields line))
-fields_no_feed line h = no_feed_join (fields line) (line_AreWords line h)
 
 raw_no_feed : (text : List ℕ) → AreRaw text → NoLineFeed text
 raw_no_feed [] h = tt

@@ -9,12 +9,12 @@ use Rattle.std.proofs.lemmas.Slice.Eq.{bytes_eq-Decides}
 use Rattle.std.proofs.Math.Utf8.{encode, encodes, scalar, scalars}
 use borrow.Author.Tests.{ltb-true}
 use Rattle.login_model.specs.Texts.{IsText}
-use Rattle.login_base.specs.Labels.{hex_digit}
+use Rattle.login_base.specs.Hex.{hex_digit, hex_value}
 use Rattle.recording.specs.Text.{stands, spell_byte, spell_text}
 use Rattle.recording.specs.Bytes.{AreBytes}
 use Rattle.recording.specs.declared.word.Misread.{Misread}
 use Rattle.recording.specs.declared.word.Misread.TheVariants.{Misfit, NoMemory}
-use Rattle.recording.specs.Words.{Gives, Plain, unspelled, hex_value, is_text, text_of}
+use Rattle.recording.specs.Words.{Gives, Plain, unspelled, is_text, text_of}
 
 pub hex_value-hex_digit : (n : ℕ) → n < 16 → hex_value (hex_digit n) ≡ n
 hex_value-hex_digit n small = grind (arith, nat_tests)

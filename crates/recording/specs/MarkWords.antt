@@ -25,7 +25,8 @@ use Rattle.login_model.specs.declared.mark.Whom.{Whom}
 use Rattle.login_model.specs.declared.mark.Whom.TheVariants.{One, All}
 use Rattle.login_model.specs.declared.mark.Mark.{Mark}
 use Rattle.login_model.specs.declared.mark.Mark.TheVariants.{Set, Say}
-use Rattle.login_model.specs.Words.{type_word, class_word, whom_word, operation_word, device_kind_word, mode_word}
+use Rattle.login_model.specs.declared.hardware.HardKey.TheVariants as hard
+use Rattle.login_model.specs.Words.{type_word, class_word, whom_word, operation_word, device_kind_word, mode_word, shutdown_word, sleep_word, idle_word, handled_word}
 use Rattle.recording.specs.Text.{spell_flag}
 
 -- a device's major and minor number, with a colon between them
@@ -92,13 +93,13 @@ chosen_word on word = if on then 58 ∷ word else []
 -- the keys and the lid that a lock holds up, each behind a colon
 abbrev pub handled_words : Inhibited → List ℕ
 handled_words x =
-    chosen_word x.handle_power_key (codes "handle-power-key") ++ (chosen_word x.handle_suspend_key (codes "handle-suspend-key")
-    ++ (chosen_word x.handle_hibernate_key (codes "handle-hibernate-key") ++ chosen_word x.handle_lid_switch (codes "handle-lid-switch")))
+    chosen_word x.handle_power_key (handled_word hard.Power) ++ (chosen_word x.handle_suspend_key (handled_word hard.Suspend)
+    ++ (chosen_word x.handle_hibernate_key (handled_word hard.Hibernate) ++ chosen_word x.handle_lid_switch (handled_word hard.Lid)))
 
 -- what a lock holds up, each behind a colon
 abbrev pub inhibited_words : Inhibited → List ℕ
 inhibited_words x =
-    chosen_word x.shutdown (codes "shutdown") ++ (chosen_word x.sleep (codes "sleep") ++ (chosen_word x.idle (codes "idle") ++ handled_words x))
+    chosen_word x.shutdown shutdown_word ++ (chosen_word x.sleep sleep_word ++ (chosen_word x.idle idle_word ++ handled_words x))
 
 -- the same without the first colon
 abbrev pub what_word : Inhibited → List ℕ

@@ -1,7 +1,7 @@
 -- How a text is spelled as one word.
 use Rattle.std.specs.Prelude.{ℕ, ◌/◌, ◌%◌, ◌==◌, ◌&&◌, not, nat_le, Bool, true, false, if◌then◌else◌, List, [], ◌∷◌, codes}
 use Rattle.std.specs.List.{flat_map}
-use Rattle.login_base.specs.Labels.{hex_digit}
+use Rattle.login_base.specs.Hex.{hex_digit}
 
 -- a byte that stands for itself: printable ASCII but for the space and `%`
 abbrev pub stands : ℕ → Bool

@@ -10,7 +10,8 @@ use Rattle.std.specs.Fmt.{decimal}
 use Rattle.std.specs.Str.Parse.{digits_value}
 use Rattle.login_base.specs.Seat.{is_seat_name}
 use Rattle.recording.specs.Text.{spell_text}
-use Rattle.recording.specs.Hex.{spell_hex, is_hex_digit, is_guid}
+use Rattle.login_base.specs.Hex.{hex_value, is_hex_digit}
+use Rattle.recording.specs.Hex.{spell_hex, is_guid}
 
 -- a reading gives the value that there is, or finds none; want of memory may come at any time
 abbrev pub Gives : {T : Type 0} → Option T → Result T Misread → Type 0
@@ -65,10 +66,6 @@ flag_of word =
     if bytes_eq word (codes "true") then Some true
     else if bytes_eq word (codes "false") then Some false
     else None
-
--- the value of a hex digit in lower case
-abbrev pub hex_value : ℕ → ℕ
-hex_value digit = if nat_lt digit 58 then digit - 48 else digit - 87
 
 -- what stands right before a byte of a word: no escape, `%`, or `%` and a digit of this value
 pub data Escape : Type 0 where

@@ -1,15 +1,14 @@
 // The text of lines while it is printed.
 
-ghost use Rattle.std.specs.Prelude.{◌≡◌, ◌<◌, ◌++◌, ◌∷◌, [], OnOk};
+ghost use Rattle.std.specs.Prelude.{◌≡◌, ◌++◌, ◌∷◌, [], OnOk};
 ghost use Rattle.std.specs.Fmt.{decimal, signed_decimal};
 ghost use Rattle.std.specs.List.{flat_map};
 ghost use Rattle.login_base.specs.SessionId.{session_text};
-ghost use Rattle.login_base.specs.Labels.{hex_digit};
 ghost use Rattle.recording.specs.Text.{spell_byte, spell_text, spell_flag};
 
 use crate::decimal::push_decimal;
 use crate::word::stands_for_itself;
-use login_base::{NoMemory, SessId, Word};
+use login_base::{NoMemory, SessId, Word, hex_digit};
 use std::alloc::Global;
 use std::marker::Model;
 
@@ -29,18 +28,6 @@ impl Model for LineText {
     ghost Value = { List ℕ };
 
     ghost view = { λ s. s.bytes.items };
-}
-
-/// The digit of a value below 16 in hex, in lower case.
-fn hex_digit(value: u8) -> u8
-    requires { value < 16 }
-    ensures { result ≡ hex_digit value }
-{
-    if value < 10 {
-        b'0' + value
-    } else {
-        b'a' + (value - 10)
-    }
 }
 
 impl LineText {

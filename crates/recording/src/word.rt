@@ -5,15 +5,15 @@ ghost use Rattle.std.specs.List.{flat_map, list_all};
 ghost use Rattle.std.specs.Str.{bytes_eq};
 ghost use Rattle.login_base.specs.Number.{number_of};
 ghost use Rattle.login_model.specs.Texts.{IsText};
-ghost use Rattle.login_base.specs.Labels.{hex_digit};
+ghost use Rattle.login_base.specs.Hex.{hex_digit, is_hex_digit};
 ghost use Rattle.recording.specs.Text.{stands, spell_byte, spell_text};
 ghost use Rattle.recording.specs.Bytes.{AreBytes};
 ghost use Rattle.login_base.specs.Plain.{IsPlain};
-ghost use Rattle.recording.specs.Hex.{is_hex_digit, is_guid};
+ghost use Rattle.recording.specs.Hex.{is_guid};
 ghost use Rattle.login_model.specs.Words.{device_kind_named, key_named, operation_named};
 ghost use Rattle.recording.specs.Words.{Gives, positive_of, small_of, from_zero, negative, signed_of, moment_of, flag_of, text_of, hex_of, guid_of, seat_of};
 
-use login_base::{Bytes, SeatName, Word};
+use login_base::{Bytes, SeatName, Word, hex_value, is_hex_digit};
 use login_model::{DevKind, HardKey, OpKind};
 use std::alloc::Global;
 
@@ -187,13 +187,6 @@ pub(crate) fn seat(word: &[u8]) -> Result<SeatName, Misread>
     }
 }
 
-/// Whether a byte is a hex digit in lower case.
-fn is_hex_digit(byte: u8) -> bool
-    ensures { result ≡ is_hex_digit byte }
-{
-    matches!(byte, b'0'..=b'9' | b'a'..=b'f')
-}
-
 /// Whether each byte is a hex digit in lower case.
 fn are_hex_digits(word: &[u8]) -> bool
     ensures { result ≡ list_all is_hex_digit word.now }
@@ -228,24 +221,12 @@ pub(crate) fn stands_for_itself(byte: u8) -> bool
     (33..=126).contains(&byte) && byte != b'%'
 }
 
-/// The value of a hex digit in lower case.
-fn digit_value(byte: u8) -> Option<u8>
-    ensures found { IfSome result (λ value. (value < 16) × (byte ≡ hex_digit value)) }
-    ensures none { IfNone result ((value : ℕ) → value < 16 → byte ≡ hex_digit value → ⊥) }
-{
-    match byte {
-        b'0'..=b'9' => Some(byte - b'0'),
-        b'a'..=b'f' => Some(byte - b'a' + 10),
-        _ => None,
-    }
-}
-
 /// The byte that two hex digits spell.
 fn escaped(high: u8, low: u8) -> Option<u8>
     ensures found { IfSome result (λ byte. (byte < 256) × (high ≡ hex_digit (byte / 16)) × (low ≡ hex_digit (byte % 16))) }
     ensures none { IfNone result ((byte : ℕ) → byte < 256 → high ≡ hex_digit (byte / 16) → low ≡ hex_digit (byte % 16) → ⊥) }
 {
-    Some(16 * digit_value(high)? + digit_value(low)?)
+    Some(16 * hex_value(high)? + hex_value(low)?)
 }
 
 /// The bytes, one at least, that pairs of hex digits in lower case spell.

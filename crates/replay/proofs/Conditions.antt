@@ -2,8 +2,9 @@
 use Rattle.std.proofs.Common.{◌≡◌, ◌≢◌, ◌≤◌, ◌<◌, ◌+◌, ◌&&◌, ◌==◌, Bool, true, false, ℕ, List, [], ◌∷◌, ◌++◌, length, length-append, refl, arith, sym, subst, append_assoc, append-nil, Option, None, Result, Ok, Err, IfOk}
 use Rattle.std.proofs.lemmas.Bool.Decides.{nat_tests}
 use Rattle.std.specs.List.{AllByRecursion, list_all}
+use Rattle.login_base.specs.Hex.{is_hex_digit}
 use Rattle.login_model.specs.Limits.{users_limit}
-use Rattle.login_model.specs.Setups.{IsSetup, IsGuid, IsUserRow, IsNewUser, AreDistinct, is_hex_byte}
+use Rattle.login_model.specs.Setups.{IsSetup, IsGuid, IsUserRow, IsNewUser, AreDistinct}
 use Rattle.login_model.specs.declared.setup.Setup.{Setup}
 use Rattle.login_model.specs.declared.setup.UserRow.{UserRow}
 use Rattle.recording.specs.Hex.{is_guid}
@@ -49,7 +50,7 @@ users_more rows row h r n few = record {
 
 guid_is : (guid : List ℕ) → is_guid guid ≡ true → IsGuid guid
 guid_is guid h =
-    let p = both (length guid == 32) (list_all is_hex_byte guid) h in
+    let p = both (length guid == 32) (list_all is_hex_digit guid) h in
     record { digits = p.1; long = same (length guid) p.0 }
   where
     same : (n : ℕ) → (n == 32) ≡ true → n ≡ 32

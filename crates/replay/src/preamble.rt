@@ -59,7 +59,7 @@ struct Preamble {
 
 /// What a line of the preamble does.
 #[derive(Clone, Copy)]
-enum Taken {
+enum Said {
     /// It says something of the setup.
     Row,
     Go,
@@ -93,36 +93,36 @@ impl Preamble {
     }
 
     /// Takes an identity behind these lines.
-    fn take_guid(&mut self, guid: Word) -> Taken
+    fn take_guid(&mut self, guid: Word) -> Said
         ensures { Takes self.old (Guid guid) self.new result }
     {
         if self.guid.is_some() {
-            return Taken::Refused;
+            return Said::Refused;
         }
         self.guid = Some(guid);
-        Taken::Row
+        Said::Row
     }
 
     /// Takes a user behind these lines.
-    fn take_user(&mut self, row: UserRow) -> Result<Taken, NoMemory>
+    fn take_user(&mut self, row: UserRow) -> Result<Said, NoMemory>
         ensures { TakesLine self.old (User row) self.new result }
     {
         if !is_next_user(&self.users, row.uid) {
-            return Ok(Taken::Refused);
+            return Ok(Said::Refused);
         }
         self.users.push(row)?;
-        Ok(Taken::Row)
+        Ok(Said::Row)
     }
 
     /// Takes a line behind these lines.
-    fn take_line(&mut self, line: Line) -> Result<Taken, NoMemory>
+    fn take_line(&mut self, line: Line) -> Result<Said, NoMemory>
         ensures { TakesLine self.old line self.new result }
     {
         match line {
             Line::Guid(guid) => Ok(self.take_guid(guid)),
             Line::User(row) => self.take_user(row),
-            Line::Go => Ok(Taken::Go),
-            _ => Ok(Taken::Refused),
+            Line::Go => Ok(Said::Go),
+            _ => Ok(Said::Refused),
         }
     }
 
@@ -160,15 +160,15 @@ fn read_lines<S: Source>(
     for number in 1..MOST_LINES {
         let line = next_line(alloc, lines, source, number)?;
         match preamble.take_line(line)? {
-            Taken::Row => {}
-            Taken::Go => {
+            Said::Row => {}
+            Said::Go => {
                 let setup = preamble.setup(alloc)?;
                 return Ok(Opening {
                     setup,
                     count: number + 1,
                 });
             }
-            Taken::Refused => return Err(Early::Script(number + 1, Cause::WrongPlace)),
+            Said::Refused => return Err(Early::Script(number + 1, Cause::WrongPlace)),
         }
     }
     Err(read_past(alloc, lines, source))

@@ -2,7 +2,7 @@
 
 use super::*;
 use login_base::{NoMemory, SeatName};
-use login_model::{Fact, Key, seat0};
+use login_model::{Fact, Key};
 
 #[test]
 fn the_first_seat_is_there_from_the_start(rt: HostRuntime) -> Result<(), NoMemory> {
@@ -17,6 +17,6 @@ fn the_first_seat_is_there_from_the_start(rt: HostRuntime) -> Result<(), NoMemor
         Some(seat) => assert!(rt; seat.as_slice() == b"seat0".as_slice()),
         None => assert!(rt; false),
     }
-    assert!(rt; seats.next::<SeatName>(Some(seat0())).is_none());
+    assert!(rt; seats.next::<SeatName>(Some(SeatName::SEAT0)).is_none());
     Ok(())
 }

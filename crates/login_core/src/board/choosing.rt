@@ -7,7 +7,7 @@ ghost use Rattle.login_model.specs.Names.{IsNext};
 ghost use Rattle.login_model.specs.Policy.{controls};
 ghost use Rattle.login_model.specs.Direct.{is_held_by};
 ghost use Rattle.login_table.specs.Listed.{is_there};
-ghost use Rattle.login_core.specs.Chosen.{is_chosen};
+ghost use Rattle.login_core.specs.inner.Chosen.{is_chosen};
 
 use crate::board::Draft;
 use login_base::{ConnId, LockNo, SessId};

@@ -10,9 +10,9 @@ ghost use Rattle.login_model.specs.declared.mark.Mark.TheVariants.{Set};
 ghost use Rattle.login_table.specs.Nearest.{nearer};
 ghost use Rattle.login_table.specs.declared.rows.Row.{Row as RowValue};
 ghost use Rattle.std.specs.List.{list_any};
-ghost use Rattle.login_core.specs.Awaiting.{is_awaited_key};
-ghost use Rattle.login_core.specs.Counts.{AreCounted};
-ghost use Rattle.login_core.specs.Facts.{StandFor, StandForFew, table, opens, gives};
+ghost use Rattle.login_core.specs.inner.Awaiting.{is_awaited_key};
+ghost use Rattle.login_core.specs.inner.Counts.{AreCounted};
+ghost use Rattle.login_core.specs.inner.Facts.{StandFor, StandForFew, table, gives};
 
 use crate::board::home::Home;
 use crate::room::counts::Counts;
@@ -47,7 +47,7 @@ pub struct Facts {
 
 impl Model for Facts {
     ghost use Rattle.std.specs.Prelude.{◌≤◌};
-    ghost use Rattle.login_core.specs.Facts.{Tables};
+    ghost use Rattle.login_core.specs.inner.Facts.{Tables};
 
     ghost Value = { Tables };
 
@@ -68,16 +68,6 @@ impl Model for Facts {
     } };
 
     ghost invariant = { λ f. (f.spare ≤ f.users.spare) × (f.spare ≤ f.sessions.spare) × (f.spare ≤ f.seats.spare) × (f.spare ≤ f.takes.spare) × (f.spare ≤ f.connections.spare) × (f.spare ≤ f.controls.spare) × (f.spare ≤ f.owners.spare) × (f.spare ≤ f.lives.spare) × (f.spare ≤ f.others.spare) };
-}
-
-/// How many sessions a setting opens.
-fn opened(key: &Key, fact: &Fact) -> u32
-    ensures { result ≡ opens key.now fact.now }
-{
-    match key {
-        Key::Sess(_) => { if fact.is_open() { 1 } else { 0 } }
-        _ => 0,
-    }
 }
 
 /// How many handles a setting gives out.
@@ -158,7 +148,7 @@ fn is_any_awaited(takes: &Rows, rows: &[Row]) -> bool
     rows.iter().any(|row| is_awaited(takes, &row.key))
 }
 
-#[tactic(auto, unfolding(crate::specs::Facts::StandFor))]
+#[tactic(auto, unfolding(crate::specs::inner::Facts::StandFor))]
 impl Facts {
     /// The facts of no marks. It takes no memory.
     pub fn new(alloc: Global) -> Facts
@@ -235,8 +225,9 @@ impl Facts {
         ensures spare { self.old.spare ≡ self.new.spare + 1 }
     {
         let lost = Counts::of(&key, self.fact(&key));
-        self.counts = self.counts.moved(lost, Counts::of(&key, &fact));
-        self.session += opened(&key, &fact);
+        let gained = Counts::of(&key, &fact);
+        self.counts = self.counts.moved(lost, gained);
+        self.session += gained.opened;
         self.handle += given(&key, &fact);
         self.spare -= 1;
         match Home::of(&key) {

@@ -1,7 +1,7 @@
 // In which table a fact has its home.
 
 ghost use Rattle.std.specs.Prelude.{◌≡◌};
-ghost use Rattle.login_core.specs.Home.{home};
+ghost use Rattle.login_core.specs.inner.Home.{home};
 
 use login_model::Key;
 

@@ -9,9 +9,9 @@ ghost use Rattle.login_model.proofs.Keys.{both};
 ghost use Rattle.login_model.proofs.InOrder.{Enumerates, enumerated, taken-enumerated};
 ghost use Rattle.login_laws.proofs.Grows.{Grows};
 ghost use Rattle.login_table.specs.Listed.{is_there, listed};
-ghost use Rattle.login_core.specs.Chosen.{is_chosen};
-ghost use Rattle.login_core.specs.Rounds.{SparesAbove};
-ghost use Rattle.login_core.specs.Draft.{marked_by, Fits};
+ghost use Rattle.login_core.specs.inner.Chosen.{is_chosen};
+ghost use Rattle.login_core.specs.inner.Rounds.{SparesAbove};
+ghost use Rattle.login_core.specs.inner.Draft.{marked_by, Fits};
 
 use crate::board::Draft;
 use login_base::{DevNo, SessId};

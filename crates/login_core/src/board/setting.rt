@@ -4,9 +4,9 @@ ghost use Rattle.std.specs.Prelude.{◌≡◌};
 ghost use Rattle.login_model.specs.Trail.{value, put, tell_all};
 ghost use Rattle.login_model.specs.Devices.{is_live};
 ghost use Rattle.login_model.specs.Procedure.{tell_controller};
-ghost use Rattle.login_core.specs.Told.{controller_fact};
+ghost use Rattle.login_core.specs.inner.Told.{controller_fact};
 ghost use Rattle.login_model.specs.Facts.{handle_in, controller_in};
-ghost use Rattle.login_core.specs.Draft.{marked_by, Fits};
+ghost use Rattle.login_core.specs.inner.Draft.{marked_by, Fits};
 
 use crate::board::Draft;
 use login_base::{ConnId, DevNo, HandleNo, SeatName, SessId};

@@ -1,7 +1,8 @@
 // The session that a call creates, and what the texts of the call name.
 
 ghost use Rattle.std.specs.Prelude.{◌≡◌};
-ghost use Rattle.login_model.specs.Creating.{type_of, class_of, seat_of, leader_of, created_session};
+ghost use Rattle.login_model.specs.Creating.{seat_of, leader_of, created_session};
+ghost use Rattle.login_model.specs.Words.{type_of, class_of};
 ghost use Rattle.login_core.specs.Texts.{session_texts};
 
 use login_base::{ConnId, HandleNo, SeatName};
@@ -11,34 +12,14 @@ use login_model::{Class, Creation, Phase, Session, SessionTexts, SessionType};
 fn type_of(text: &[u8]) -> SessionType
     ensures { result ≡ type_of text.now }
 {
-    if text == b"tty".as_slice() {
-        SessionType::Tty
-    } else if text == b"x11".as_slice() {
-        SessionType::X11
-    } else if text == b"wayland".as_slice() {
-        SessionType::Wayland
-    } else if text == b"mir".as_slice() {
-        SessionType::Mir
-    } else if text == b"web".as_slice() {
-        SessionType::Web
-    } else {
-        SessionType::Unspecified
-    }
+    SessionType::read(text).unwrap_or(SessionType::Unspecified)
 }
 
 /// The class that a text names; the empty one is user.
 fn class_of(text: &[u8]) -> Class
     ensures { result ≡ class_of text.now }
 {
-    if text == b"greeter".as_slice() {
-        Class::Greeter
-    } else if text == b"lock-screen".as_slice() {
-        Class::LockScreen
-    } else if text == b"background".as_slice() {
-        Class::Background
-    } else {
-        Class::User
-    }
+    Class::read(text).unwrap_or(Class::User)
 }
 
 /// The seat that a text names, if it names one.

@@ -8,13 +8,13 @@ ghost use Rattle.login_model.specs.Where.{active_on};
 ghost use Rattle.login_model.specs.Procedure.{take_seat};
 ghost use Rattle.login_model.specs.Creating.{appear_on, create};
 ghost use Rattle.login_core.specs.Texts.{session_texts};
-ghost use Rattle.login_core.specs.Draft.{marked_by, Fits};
+ghost use Rattle.login_core.specs.inner.Draft.{marked_by, Fits};
 
 use crate::board::Draft;
 use crate::creating::created::{created_session, seat_of};
 use crate::room::copies::Copies;
 use login_base::{ConnId, HandleNo, SeatName, SessId};
-use login_model::{Creation, Fact, Key, Look, Notice, Owner, Session, is_seat0, seat0};
+use login_model::{Creation, Fact, Key, Look, Notice, Owner, Session};
 use login_table::{active_on, is_active};
 
 #[tactic(auto, using(crate::proofs::Growing::growing, crate::proofs::Appearing::appearing))]
@@ -32,9 +32,9 @@ impl Draft {
         requires room { Fits (appear_on (Some seat) session) self.old }
         ensures marked { self.new ≡ marked_by (appear_on (Some seat) session) self.old }
     {
-        if is_seat0(seat.as_slice()) {
+        if seat.is_seat0() {
             if is_active(self, session) {
-                self.tell_all(Notice::Active(seat0(), None, Some(session)));
+                self.tell_all(Notice::Active(SeatName::SEAT0, None, Some(session)));
             }
         } else {
             self.replace_active(seat, session);

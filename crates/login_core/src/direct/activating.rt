@@ -5,11 +5,11 @@ ghost use Rattle.login_model.specs.Trail.{value};
 ghost use Rattle.login_model.specs.Switching.{request};
 ghost use Rattle.login_model.specs.Turning.{vt_in};
 ghost use Rattle.login_model.specs.Direct.{activate_on, activate};
-ghost use Rattle.login_core.specs.Draft.{marked_by, Fits};
+ghost use Rattle.login_core.specs.inner.Draft.{marked_by, Fits};
 
 use crate::board::Draft;
 use login_base::{SeatName, SessId};
-use login_model::{Fact, Key, Look, is_seat0};
+use login_model::{Fact, Key, Look};
 use login_table::seat_of_session;
 
 #[tactic(auto, using(crate::proofs::Growing::growing))]
@@ -34,7 +34,7 @@ impl Draft {
         requires room { Fits (activate_on (Some seat) session) self.old }
         ensures marked { self.new ≡ marked_by (activate_on (Some seat) session) self.old }
     {
-        if is_seat0(seat.as_slice()) {
+        if seat.is_seat0() {
             self.request_terminal_of(session);
         } else {
             self.front(seat, session);

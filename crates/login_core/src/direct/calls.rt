@@ -1,56 +1,35 @@
 // What granted calls do.
 
 ghost use Rattle.std.specs.Prelude.{◌≡◌, None, true};
-ghost use Rattle.std.specs.Str.{bytes_eq};
 ghost use Rattle.login_base.specs.Seat.{is_seat_name};
 ghost use Rattle.login_model.specs.Built.{is_built_call};
 ghost use Rattle.login_model.specs.Trail.{value};
 ghost use Rattle.login_model.specs.Fresh.{next_session};
+ghost use Rattle.login_model.specs.Facts.{fifo_session};
 ghost use Rattle.login_model.specs.MadeWith.{texts_in};
 ghost use Rattle.login_model.specs.Policy.{meant_user};
 ghost use Rattle.login_model.specs.Procedure.{each, if_some, shut};
 ghost use Rattle.login_model.specs.Turning.{turn_to_next, turn_to_previous};
 ghost use Rattle.login_model.specs.Where.{sessions_on};
-ghost use Rattle.login_model.specs.Direct.{whom_of, linger, close, direct_call};
+ghost use Rattle.login_model.specs.Direct.{linger, close, direct_call};
+ghost use Rattle.login_model.specs.Named.{named_session};
+ghost use Rattle.login_model.specs.Words.{whom_of};
 ghost use Rattle.login_core.specs.Kept.{AreClosing, AreReadyToCall, HaveTexts};
-ghost use Rattle.login_core.specs.Calls.{IsPlain, NamesSeat, call_on, fifo_session, session_in};
-ghost use Rattle.login_core.specs.Draft.{marked_by, Fits};
+ghost use Rattle.login_core.specs.inner.Calls.{IsPlain, NamesSeat, call_on};
+ghost use Rattle.login_core.specs.inner.Draft.{marked_by, Fits};
 
 use crate::board::Draft;
-use crate::room::kept::Kept;
+use crate::room::kept::Spares;
 use crate::room::texts::Texts;
 use login_base::{ConnId, HandleNo, SeatName, SessId, Uid, Word};
 use login_judge::meant_user;
-use login_model::{Call, Key, KillWhom, Look, Owner, Setup};
+use login_model::{Call, Key, KillWhom, Look, Setup};
 
-/// Whom a text names.
+/// Whom a text names; the empty one is all.
 fn whom_of(text: &[u8]) -> KillWhom
     ensures { result ≡ whom_of text.now }
 {
-    if text == b"leader".as_slice() {
-        KillWhom::Leader
-    } else {
-        KillWhom::All
-    }
-}
-
-/// The session that a call is on, by its id.
-fn session_in(call: &Call) -> Option<SessId>
-    ensures { result ≡ session_in call.now }
-{
-    match call {
-        Call::Activate(id)
-        | Call::ActivateOnSeat(id, _)
-        | Call::Lock(id)
-        | Call::Unlock(id)
-        | Call::Kill(id, _, _)
-        | Call::Terminate(id)
-        | Call::SetIdle(id, _)
-        | Call::SetLocked(id, _)
-        | Call::Control(id, _)
-        | Call::Uncontrol(id) => SessId::read(id.as_slice()),
-        _ => None,
-    }
+    KillWhom::read(text).unwrap_or(KillWhom::All)
 }
 
 #[tactic(auto, using(crate::proofs::Growing::growing))]
@@ -77,10 +56,10 @@ impl Draft {
 
     /// What a call does to the session that it names, if it names one.
     fn call_session(&mut self, who: ConnId, call: &Call)
-        requires room { Fits (if_some (call_on who call.now) (session_in call.now)) self.old }
-        ensures marked { self.new ≡ marked_by (if_some (call_on who call.now) (session_in call.now)) self.old }
+        requires room { Fits (if_some (call_on who call.now) (named_session call.now)) self.old }
+        ensures marked { self.new ≡ marked_by (if_some (call_on who call.now) (named_session call.now)) self.old }
     {
-        if let Some(session) = session_in(call) {
+        if let Some(session) = call.session() {
             self.call_on(who, session, call);
         }
     }
@@ -113,7 +92,7 @@ impl Draft {
         }
     }
 
-    fn terminate_on(&mut self, seat: &Word, closing: &mut Kept)
+    fn terminate_on(&mut self, seat: &Word, closing: &mut Spares)
         requires named { is_seat_name seat.now ≡ true }
         requires copies { AreClosing closing.old.items self.old.trail }
         requires room { Fits (λ t. each shut (sessions_on t seat.now) t) self.old }
@@ -125,7 +104,7 @@ impl Draft {
         }
     }
 
-    fn terminate_some(&mut self, session: Option<SessId>, closing: &mut Kept)
+    fn terminate_some(&mut self, session: Option<SessId>, closing: &mut Spares)
         requires copies { AreClosing closing.old.items self.old.trail }
         requires room { Fits (if_some shut session) self.old }
         ensures marked { self.new ≡ marked_by (if_some shut session) self.old }
@@ -140,14 +119,11 @@ impl Draft {
     fn session_of_fifo(&self, handle: HandleNo) -> Option<SessId>
         ensures { result ≡ fifo_session (value self.now.trail (Key.Owner handle)) }
     {
-        match self.fact(&Key::Owner(handle)).owner() {
-            Some(Owner::Fifo(_, session)) => Some(session),
-            _ => None,
-        }
+        self.fact(&Key::Owner(handle)).fifo_session()
     }
 
     /// A handle closes, by the copies that are kept for the session that it keeps open.
-    fn close_kept(&mut self, handle: HandleNo, closing: &mut Kept)
+    fn close_kept(&mut self, handle: HandleNo, closing: &mut Spares)
         requires copies { AreClosing closing.old.items self.old.trail }
         requires room { Fits (close handle) self.old }
         ensures marked { self.new ≡ marked_by (close handle) self.old }
@@ -181,6 +157,7 @@ impl Draft {
                 unreachable!()
             }
             Call::SetMode(..) => unreachable!(),
+            Call::GetSession(_) => {}
             _ => self.call_session(who, call),
         }
     }
@@ -198,7 +175,7 @@ impl Draft {
     {
         match call {
             Call::Create(creation) => self.create_session(who, creation, texts),
-            Call::Terminate(_) => self.terminate_some(session_in(call), &mut texts.closing),
+            Call::Terminate(_) => self.terminate_some(call.session(), &mut texts.closing),
             Call::TerminateUser(user) => self.terminate_user(*user, &mut texts.closing),
             Call::TerminateSeat(seat) => self.terminate_on(seat, &mut texts.closing),
             Call::Close(handle) => self.close_kept(*handle, &mut texts.closing),

@@ -8,12 +8,12 @@ ghost use Rattle.login_model.specs.declared.fact.Key.TheVariants.{Lock};
 ghost use Rattle.login_model.specs.declared.fact.Fact.TheVariants.{Absent};
 ghost use Rattle.login_laws.proofs.Grows.{put-grows, release-grows};
 ghost use Rattle.login_core.specs.Kept.{AreClosing};
-ghost use Rattle.login_core.specs.Draft.{marked_by, Fits};
+ghost use Rattle.login_core.specs.inner.Draft.{marked_by, Fits};
 
 use crate::board::Draft;
 use crate::board::choosing::{ControlledBy, HeldBy};
 use crate::board::rounds::Task;
-use crate::room::kept::Kept;
+use crate::room::kept::Spares;
 use login_base::{ConnId, LockNo, SessId};
 use login_model::Key;
 
@@ -67,7 +67,7 @@ impl Draft {
 
     /// A connection ends: it gives back what it controls, the sessions that it keeps open are shut, and
     /// its locks are gone.
-    pub fn disconnect(&mut self, who: ConnId, closing: &mut Kept)
+    pub fn disconnect(&mut self, who: ConnId, closing: &mut Spares)
         requires copies { AreClosing closing.old.items self.old.trail }
         requires room { Fits (disconnect who) self.old }
         ensures marked { self.new ≡ marked_by (disconnect who) self.old }

@@ -5,14 +5,14 @@ ghost use Rattle.login_model.specs.Where.{is_open, is_on_seat, sessions_of, sess
 ghost use Rattle.login_model.specs.Procedure.{each, shut};
 ghost use Rattle.login_model.specs.Direct.{is_fifo_of, fifo_of, end_sessions};
 ghost use Rattle.login_core.specs.Kept.{AreClosing};
-ghost use Rattle.login_core.specs.Ending.{sessions_such, StaysAbove, is_kept_open_by};
-ghost use Rattle.login_core.specs.Draft.{marked_by, Fits};
+ghost use Rattle.login_core.specs.inner.Ending.{sessions_such, StaysAbove, is_kept_open_by};
+ghost use Rattle.login_core.specs.inner.Draft.{marked_by, Fits};
 
 use crate::board::Draft;
-use crate::room::kept::Kept;
+use crate::room::kept::Spares;
 use login_base::{ConnId, HandleNo, SeatName, SessId, Uid};
 use login_model::{Fact, Key, Look, Owner};
-use login_table::{OfUser, Test, seat_of_session};
+use login_table::{OfUser, Test, is_on_seat};
 
 /// It is on a seat.
 #[derive(Drop)]
@@ -22,10 +22,7 @@ impl Test<SessId> for OnSeat {
     ghost meets = { λ test t s. is_on_seat t test.0 s };
 
     fn is_met<F: Look>(&self, facts: &F, session: SessId) -> bool {
-        match seat_of_session(facts, session) {
-            Some(name) => name.as_slice() == self.0.as_slice(),
-            None => false,
-        }
+        is_on_seat(facts, self.0.as_slice(), session)
     }
 }
 
@@ -44,7 +41,7 @@ impl Test<SessId> for KeptOpenBy {
 
 impl Draft {
     /// An open session closes, by the copies that are kept of its texts.
-    pub fn shut_kept(&mut self, session: SessId, closing: &mut Kept)
+    pub fn shut_kept(&mut self, session: SessId, closing: &mut Spares)
         requires copies { AreClosing closing.old.items self.old.trail }
         requires room { Fits (shut session) self.old }
         ensures marked { self.new ≡ marked_by (shut session) self.old }
@@ -55,7 +52,7 @@ impl Draft {
     }
 
     /// The sessions that meet a test close, in order.
-    fn shut_such<T: Test<SessId>>(&mut self, test: &T, closing: &mut Kept)
+    fn shut_such<T: Test<SessId>>(&mut self, test: &T, closing: &mut Spares)
         requires stays { StaysAbove (T.meets test.now) }
         requires copies { AreClosing closing.old.items self.old.trail }
         requires room { Fits (λ t. each shut (sessions_such (T.meets test.now) t) t) self.old }
@@ -70,7 +67,7 @@ impl Draft {
     }
 
     /// The sessions of a user close.
-    pub fn terminate_user(&mut self, user: Uid, closing: &mut Kept)
+    pub fn terminate_user(&mut self, user: Uid, closing: &mut Spares)
         requires copies { AreClosing closing.old.items self.old.trail }
         requires room { Fits (λ t. each shut (sessions_of t user.0) t) self.old }
         ensures marked { self.new ≡ marked_by (λ t. each shut (sessions_of t user.0) t) self.old }
@@ -80,7 +77,7 @@ impl Draft {
     }
 
     /// The sessions on a seat close.
-    pub fn terminate_seat(&mut self, seat: SeatName, closing: &mut Kept)
+    pub fn terminate_seat(&mut self, seat: SeatName, closing: &mut Spares)
         requires copies { AreClosing closing.old.items self.old.trail }
         requires room { Fits (λ t. each shut (sessions_on t seat) t) self.old }
         ensures marked { self.new ≡ marked_by (λ t. each shut (sessions_on t seat) t) self.old }
@@ -90,7 +87,7 @@ impl Draft {
     }
 
     /// The sessions that a connection keeps open close.
-    pub fn end_sessions(&mut self, who: ConnId, closing: &mut Kept)
+    pub fn end_sessions(&mut self, who: ConnId, closing: &mut Spares)
         requires copies { AreClosing closing.old.items self.old.trail }
         requires room { Fits (end_sessions who) self.old }
         ensures marked { self.new ≡ marked_by (end_sessions who) self.old }

@@ -12,9 +12,9 @@ ghost use Rattle.login_model.specs.Policy.{verdict as policy_verdict};
 ghost use Rattle.login_model.specs.declared.rule.Verdict.TheVariants.{Granted};
 ghost use Rattle.login_model.specs.Built.{is_built, is_built_hardware};
 ghost use Rattle.login_laws.specs.Sound.{IsSound};
-ghost use Rattle.login_core.specs.Calls.{ExitsHere};
+ghost use Rattle.login_core.specs.inner.Calls.{ExitsHere};
 ghost use Rattle.login_core.specs.Kept.{AreReady, AreReadyFor, HaveTexts};
-ghost use Rattle.login_core.specs.Draft.{marked_by, Fits};
+ghost use Rattle.login_core.specs.inner.Draft.{marked_by, Fits};
 
 use crate::board::Draft;
 use crate::room::texts::{FreshTexts, Texts};

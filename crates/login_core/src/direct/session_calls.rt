@@ -11,7 +11,7 @@ ghost use Rattle.login_model.specs.declared.session.KillWhom.TheVariants.{All};
 ghost use Rattle.login_model.specs.declared.mark.Notice.TheVariants.{Lock, Unlock};
 ghost use Rattle.login_laws.proofs.Grows.{put-grows, tell_all-grows};
 ghost use Rattle.login_model.specs.Direct.{lock_session, unlock_session};
-ghost use Rattle.login_core.specs.Draft.{marked_by, Fits};
+ghost use Rattle.login_core.specs.inner.Draft.{marked_by, Fits};
 
 use crate::board::Draft;
 use crate::board::rounds::Task;

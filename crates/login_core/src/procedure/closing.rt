@@ -6,12 +6,12 @@ ghost use Rattle.login_model.specs.Where.{is_open, is_active, seat_of_session};
 ghost use Rattle.login_model.specs.Devices.{taken_devices};
 ghost use Rattle.login_model.specs.Procedure.{if_some, release, in_phase, set_phase, vacate, leave_seat, shut};
 ghost use Rattle.login_core.specs.Texts.{HasTexts, AreCopies, AreSome};
-ghost use Rattle.login_core.specs.Draft.{marked_by, Fits};
+ghost use Rattle.login_core.specs.inner.Draft.{marked_by, Fits};
 
 use crate::board::Draft;
 use crate::room::copies::Copies;
 use login_base::{SeatName, SessId};
-use login_model::{Fact, Key, Look, Notice, Phase, Session, SessionTexts, is_seat0};
+use login_model::{Fact, Key, Look, Notice, Phase, Session, SessionTexts};
 use login_table::{is_active, seat_of_session};
 
 /// A session's fact in another phase, with a copy of its texts.
@@ -55,7 +55,7 @@ impl Draft {
         requires room { Fits (vacate seat) self.old }
         ensures marked { self.new ≡ marked_by (vacate seat) self.old }
     {
-        if !is_seat0(seat.as_slice()) {
+        if !seat.is_seat0() {
             self.put_absent(Key::Act(seat));
         }
     }

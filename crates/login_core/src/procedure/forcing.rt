@@ -7,9 +7,9 @@ ghost use Rattle.login_model.specs.Devices.{taken_devices};
 ghost use Rattle.login_model.specs.Procedure.{yes, no, tell_controller, force_handle, force_device, force, renew, revive, resume_handle, resume_device, resume};
 ghost use Rattle.login_model.specs.declared.fact.Key.TheVariants.{Taken};
 ghost use Rattle.login_laws.proofs.Grows.{force_handle-grows, resume_handle-grows};
-ghost use Rattle.login_core.specs.Told.{handle_fact, controller_fact, kind_fact};
+ghost use Rattle.login_core.specs.inner.Told.{handle_fact, controller_fact, kind_fact};
 ghost use Rattle.login_model.specs.Facts.{kind_in};
-ghost use Rattle.login_core.specs.Draft.{marked_by, Fits};
+ghost use Rattle.login_core.specs.inner.Draft.{marked_by, Fits};
 
 use crate::board::Draft;
 use crate::board::rounds::{TakenBy, Task};

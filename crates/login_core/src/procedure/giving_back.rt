@@ -4,8 +4,8 @@ ghost use Rattle.std.specs.Prelude.{◌≡◌};
 ghost use Rattle.login_model.specs.Devices.{taken_devices};
 ghost use Rattle.login_model.specs.Procedure.{kill, untake, release, revoke, oust};
 ghost use Rattle.login_laws.proofs.Grows.{untake-grows, revoke-grows};
-ghost use Rattle.login_core.specs.Told.{handle_fact};
-ghost use Rattle.login_core.specs.Draft.{marked_by, Fits};
+ghost use Rattle.login_core.specs.inner.Told.{handle_fact};
+ghost use Rattle.login_core.specs.inner.Draft.{marked_by, Fits};
 
 use crate::board::Draft;
 use crate::board::rounds::{TakenBy, Task};

@@ -3,9 +3,9 @@
 ghost use Rattle.std.specs.Prelude.{◌≡◌};
 ghost use Rattle.login_model.specs.Trail.{put};
 ghost use Rattle.login_model.specs.Procedure.{tell_new_user, know, forget};
-ghost use Rattle.login_core.specs.Told.{absent_or_known};
+ghost use Rattle.login_core.specs.inner.Told.{absent_or_known};
 ghost use Rattle.login_model.specs.Facts.{is_absent};
-ghost use Rattle.login_core.specs.Draft.{marked_by, Fits};
+ghost use Rattle.login_core.specs.inner.Draft.{marked_by, Fits};
 
 use crate::board::Draft;
 use login_base::{Millis, Uid};

@@ -3,7 +3,7 @@
 ghost use Rattle.std.specs.Prelude.{◌≡◌, ◌+◌, ◌<◌, ◌≤◌, ◌^◌};
 ghost use Rattle.login_model.specs.Full.{marks_needed};
 ghost use Rattle.login_model.specs.Trail.{Trail};
-ghost use Rattle.login_core.specs.Counts.{AreCounted, Fit, Follow, HoldersAreThere, counts_of, one_if};
+ghost use Rattle.login_core.specs.inner.Counts.{AreCounted, CanAllMove, Follow, HoldersAreThere, counts_of, one_if};
 
 use login_model::{Fact, Key};
 
@@ -90,7 +90,7 @@ impl Counts {
 
     /// The counts when so many are lost and so many are gained.
     pub fn moved(self, lost: Counts, gained: Counts) -> Counts
-        requires { Fit self lost gained }
+        requires { CanAllMove self lost gained }
         ensures { Follow self lost gained result }
     {
         Counts {

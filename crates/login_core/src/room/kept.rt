@@ -17,11 +17,11 @@ pub struct KeptRow {
 
 /// Copies of the texts of sessions. A session ends without memory, so they are made when it is created.
 #[derive(Drop)]
-pub struct Kept {
+pub struct Spares {
     rows: Vec<KeptRow>,
 }
 
-impl Model for Kept {
+impl Model for Spares {
     ghost use Rattle.std.specs.Prelude.{◌-◌, vec_len, vec_capacity};
     ghost use Rattle.login_base.specs.Room.{Room};
     ghost use Rattle.login_core.specs.declared.room.kept.KeptRow.{KeptRow};
@@ -38,12 +38,12 @@ fn place_of(rows: &[KeptRow], session: SessId) -> Option<usize>
     rows.iter().position(|row| row.session.0 == session.0)
 }
 
-impl Kept {
+impl Spares {
     /// No copies. It takes no memory.
-    pub fn new(alloc: Global) -> Kept
+    pub fn new(alloc: Global) -> Spares
         ensures { (s : SessId) → copies_in result.items s ≡ None }
     {
-        Kept {
+        Spares {
             rows: Vec::new(alloc),
         }
     }

@@ -1,7 +1,7 @@
 // The journal, and the room that is kept for its next entries.
 
 ghost use Rattle.std.specs.Prelude.{◌≡◌, ◌+◌, ◌<◌, ◌≤◌, ◌^◌, ◌-◌, ◌++◌, [], ◌∷◌, OnOk, length, ℕ};
-ghost use Rattle.login_core.specs.Ledger.{HaveRoom};
+ghost use Rattle.login_core.specs.inner.Ledger.{HaveRoom};
 
 use login_base::{NoMemory, Reserved};
 use login_model::{Entry, Journal, Mark};
@@ -16,28 +16,28 @@ pub struct Ledger {
     blanks: Vec<Reserved<Mark>>,
     alloc: Global,
     entries: u32,
-    room: u32,
+    marks: u32,
 }
 
 impl Model for Ledger {
     ghost use Rattle.std.specs.Prelude.{◌≤◌, length};
-    ghost use Rattle.login_core.specs.Ledger.{LedgerState, IsLedger};
+    ghost use Rattle.login_core.specs.inner.Ledger.{LedgerState, IsLedger};
 
     ghost Value = { LedgerState };
 
-    ghost view = { λ l. record { items = l.journal.items; entries = l.entries; room = l.room } };
+    ghost view = { λ l. record { items = l.journal.items; entries = l.entries; marks = l.marks } };
 
-    ghost invariant = { λ l. IsLedger l.entries l.room l.journal.spare l.blanks.items };
+    ghost invariant = { λ l. IsLedger l.entries l.marks l.journal.spare l.blanks.items };
 }
 
 /// Each of these lists gets room for so many. What there is room for already stays.
-fn widen_each(blanks: &mut [Reserved<Mark>], room: u32) -> Result<(), NoMemory>
+fn widen_each(blanks: &mut [Reserved<Mark>], marks: u32) -> Result<(), NoMemory>
     ensures len { length blanks.new ≡ length blanks.old }
     ensures keeps { (n : ℕ) → HaveRoom n blanks.old → HaveRoom n blanks.new }
-    ensures wider { OnOk result (HaveRoom 0 blanks.old → HaveRoom room blanks.new) }
+    ensures wider { OnOk result (HaveRoom 0 blanks.old → HaveRoom marks blanks.new) }
 {
     for blank in blanks.iter_mut() {
-        blank.reserve(room as usize)?;
+        blank.reserve(marks as usize)?;
     }
     Ok(())
 }
@@ -47,14 +47,14 @@ impl Ledger {
     pub fn new(alloc: Global) -> Ledger
         ensures items { result.items ≡ [] }
         ensures entries { result.entries ≡ 0 }
-        ensures room { result.room ≡ 0 }
+        ensures marks { result.marks ≡ 0 }
     {
         Ledger {
             journal: Journal::new(alloc),
             blanks: Vec::new(alloc),
             alloc,
             entries: 0,
-            room: 0,
+            marks: 0,
         }
     }
 
@@ -66,17 +66,17 @@ impl Ledger {
     }
 
     /// Each of the lists of marks gets room for so many.
-    fn widen(&mut self, room: u32) -> Result<(), NoMemory>
-        ensures room { OnOk result (room ≤ self.new.room) }
-        ensures keeps_room { self.old.room ≤ self.new.room }
+    fn widen(&mut self, marks: u32) -> Result<(), NoMemory>
+        ensures marks { OnOk result (marks ≤ self.new.marks) }
+        ensures keeps_marks { self.old.marks ≤ self.new.marks }
         ensures items { self.new.items ≡ self.old.items }
         ensures entries { self.new.entries ≡ self.old.entries }
     {
-        if room <= self.room {
+        if marks <= self.marks {
             return Ok(());
         }
-        widen_each(&mut self.blanks, room)?;
-        self.room = room;
+        widen_each(&mut self.blanks, marks)?;
+        self.marks = marks;
         Ok(())
     }
 
@@ -84,27 +84,27 @@ impl Ledger {
     fn add_blank(&mut self) -> Result<(), NoMemory>
         requires { self.old.entries < 2 ^ 32 - 1 }
         ensures items { self.new.items ≡ self.old.items }
-        ensures room { self.new.room ≡ self.old.room }
+        ensures marks { self.new.marks ≡ self.old.marks }
         ensures keeps { self.old.entries ≤ self.new.entries }
         ensures more { OnOk result (self.new.entries ≡ self.old.entries + 1) }
     {
         self.journal.reserve(self.entries as usize + 1)?;
         let mut blank = Reserved::new(self.alloc);
-        blank.reserve(self.room as usize)?;
+        blank.reserve(self.marks as usize)?;
         self.blanks.push(blank)?;
         self.entries += 1;
         Ok(())
     }
 
     /// Makes room for so many more entries, each with so many marks. What there is room for already stays.
-    pub fn reserve(&mut self, entries: u32, room: u32) -> Result<(), NoMemory>
+    pub fn reserve(&mut self, entries: u32, marks: u32) -> Result<(), NoMemory>
         ensures entries { OnOk result (entries ≤ self.new.entries) }
-        ensures room { OnOk result (room ≤ self.new.room) }
+        ensures marks { OnOk result (marks ≤ self.new.marks) }
         ensures keeps_entries { self.old.entries ≤ self.new.entries }
-        ensures keeps_room { self.old.room ≤ self.new.room }
+        ensures keeps_marks { self.old.marks ≤ self.new.marks }
         ensures items { self.new.items ≡ self.old.items }
     {
-        self.widen(room)?;
+        self.widen(marks)?;
         while self.entries < entries {
             self.add_blank()?;
         }
@@ -116,9 +116,9 @@ impl Ledger {
         requires { 0 < self.old.entries }
         ensures items { self.new.items ≡ self.old.items ++ entry ∷ [] }
         ensures entries { self.new.entries + 1 ≡ self.old.entries }
-        ensures room { self.new.room ≡ self.old.room }
+        ensures marks { self.new.marks ≡ self.old.marks }
         ensures blank { result.items ≡ [] }
-        ensures blank_room { self.old.room ≤ result.spare }
+        ensures blank_marks { self.old.marks ≤ result.spare }
     {
         self.entries -= 1;
         self.journal.push(entry);

@@ -5,7 +5,7 @@ ghost use Rattle.login_base.specs.declared.ids.SessId.{SessId as SessionId};
 ghost use Rattle.login_core.specs.Kept.{AreReady, AreFresh, copies_in};
 
 use crate::room::copies::{Copies, copies_of};
-use crate::room::kept::Kept;
+use crate::room::kept::Spares;
 use login_base::NoMemory;
 use login_model::{Call, Creation, Event};
 use std::alloc::Global;
@@ -22,8 +22,8 @@ pub struct FreshTexts {
 /// that is created next.
 #[derive(Drop)]
 pub struct Texts {
-    pub closing: Kept,
-    pub gone: Kept,
+    pub closing: Spares,
+    pub gone: Spares,
     pub fresh: Option<FreshTexts>,
 }
 
@@ -48,8 +48,8 @@ impl Texts {
         ensures gone { (s : SessionId) → copies_in result.gone.items s ≡ None }
     {
         Texts {
-            closing: Kept::new(alloc),
-            gone: Kept::new(alloc),
+            closing: Spares::new(alloc),
+            gone: Spares::new(alloc),
             fresh: None,
         }
     }

@@ -6,16 +6,17 @@ ghost use Rattle.login_model.specs.Start.{seat0};
 ghost use Rattle.login_model.specs.Where.{active_on};
 ghost use Rattle.login_model.specs.Devices.{taken_devices};
 ghost use Rattle.login_model.specs.Procedure.{if_some, yes, no, tell_controller, resume};
-ghost use Rattle.login_model.specs.Switching.{await_handle, await_device, await_devices, unawait_devices, is_pending_fact, ask_switch, withdraw_switch, request};
+ghost use Rattle.login_model.specs.Facts.{is_number_fact};
+ghost use Rattle.login_model.specs.Switching.{await_handle, await_device, await_devices, unawait_devices, ask_switch, withdraw_switch, request};
 ghost use Rattle.login_model.specs.declared.fact.Key.TheVariants.{Taken, Awaited};
 ghost use Rattle.login_laws.proofs.Grows.{put-grows, await_handle-grows};
-ghost use Rattle.login_core.specs.Told.{handle_fact};
-ghost use Rattle.login_core.specs.Draft.{marked_by, Fits};
+ghost use Rattle.login_core.specs.inner.Told.{handle_fact};
+ghost use Rattle.login_core.specs.inner.Draft.{marked_by, Fits};
 
 use crate::board::Draft;
 use crate::board::rounds::{TakenBy, Task};
-use login_base::{DevNo, HandleNo, SessId};
-use login_model::{Fact, Key, Look, Notice, PauseKind, seat0};
+use login_base::{DevNo, HandleNo, SeatName, SessId};
+use login_model::{Fact, Key, Look, Notice, PauseKind};
 use login_table::{active_on, current_vt};
 
 /// The pause of a session's device is awaited, if it is live.
@@ -118,7 +119,7 @@ impl Draft {
         requires room { Fits (λ t. if_some await_devices (active_on t seat0) (put Key.Pending (Fact.Number vt) t)) self.old }
         ensures marked { self.new ≡ marked_by (λ t. if_some await_devices (active_on t seat0) (put Key.Pending (Fact.Number vt) t)) self.old }
     {
-        let active = active_on(self, seat0());
+        let active = active_on(self, SeatName::SEAT0);
         self.put_number(Key::Pending, vt);
         self.await_some(active);
     }
@@ -140,7 +141,7 @@ impl Draft {
         requires room { Fits withdraw_switch self.old }
         ensures marked { self.new ≡ marked_by withdraw_switch self.old }
     {
-        let active = active_on(self, seat0());
+        let active = active_on(self, SeatName::SEAT0);
         self.put_absent(Key::Pending);
         self.unawait_some(active);
         self.resume_some(active);
@@ -148,7 +149,7 @@ impl Draft {
 
     /// Whether a switch of virtual terminals is pending.
     fn is_pending(&self) -> bool
-        ensures { result ≡ is_pending_fact (value self.now.trail Key.Pending) }
+        ensures { result ≡ is_number_fact (value self.now.trail Key.Pending) }
     {
         self.fact(&Key::Pending).is_number()
     }

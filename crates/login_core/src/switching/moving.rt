@@ -4,14 +4,14 @@ ghost use Rattle.std.specs.Prelude.{◌≡◌};
 ghost use Rattle.login_model.specs.Start.{seat0};
 ghost use Rattle.login_model.specs.Where.{active_on};
 ghost use Rattle.login_model.specs.Switching.{ask_getty, tell_change, arrive, move_to, complete, settle_switch};
-ghost use Rattle.login_core.specs.Told.{terminal_fact};
+ghost use Rattle.login_core.specs.inner.Told.{terminal_fact};
 ghost use Rattle.login_model.specs.Facts.{number_in_fact};
 ghost use Rattle.login_model.specs.Trail.{value};
-ghost use Rattle.login_core.specs.Draft.{marked_by, Fits};
+ghost use Rattle.login_core.specs.inner.Draft.{marked_by, Fits};
 
 use crate::board::Draft;
-use login_base::SessId;
-use login_model::{Fact, Key, Look, Notice, Setup, seat0};
+use login_base::{SeatName, SessId};
+use login_model::{Fact, Key, Look, Notice, Setup};
 use login_table::{active_on, session_on};
 
 #[tactic(auto, using(crate::proofs::Growing::growing))]
@@ -33,7 +33,7 @@ impl Draft {
     {
         match (old, new) {
             (None, None) => {}
-            _ => self.tell_all(Notice::Active(seat0(), old, new)),
+            _ => self.tell_all(Notice::Active(SeatName::SEAT0, old, new)),
         }
     }
 
@@ -42,7 +42,7 @@ impl Draft {
         requires room { Fits (arrive old) self.old }
         ensures marked { self.new ≡ marked_by (arrive old) self.old }
     {
-        let new = active_on(self, seat0());
+        let new = active_on(self, SeatName::SEAT0);
         self.tell_change(old, new);
         self.resume_some(new);
     }
@@ -70,7 +70,7 @@ impl Draft {
         requires room { Fits (λ t. move_to setup.now vt (active_on t seat0) t) self.old }
         ensures marked { self.new ≡ marked_by (λ t. move_to setup.now vt (active_on t seat0) t) self.old }
     {
-        let old = active_on(self, seat0());
+        let old = active_on(self, SeatName::SEAT0);
         self.move_to(setup, vt, old);
     }
 

@@ -11,8 +11,8 @@ use Rattle.replay.specs.declared.early.Early.{Early}
 use Rattle.replay.specs.declared.early.Early.TheVariants.{Script, ReadFault, NoMemory}
 use Rattle.replay.specs.declared.preamble.Opening.{Opening}
 use Rattle.replay.specs.declared.preamble.Preamble.{Preamble}
-use Rattle.replay.specs.declared.preamble.Taken.{Taken}
-use Rattle.replay.specs.declared.preamble.Taken.TheVariants.{Row, Go, Refused}
+use Rattle.replay.specs.declared.preamble.Said.{Said}
+use Rattle.replay.specs.declared.preamble.Said.TheVariants.{Row, Go, Refused}
 
 -- this is what the lines say
 pub record SaySo (lines : List Line) (p : Preamble) : Type 0 where
@@ -20,13 +20,13 @@ pub record SaySo (lines : List Line) (p : Preamble) : Type 0 where
   pub users : p.users ≡ users_in lines
 
 -- an identity or a user is added, or the preamble ends, or the line may not come next
-abbrev pub Takes : Preamble → Line → Preamble → Taken → Type 0
+abbrev pub Takes : Preamble → Line → Preamble → Said → Type 0
 Takes old line new Row = (lines : List Line) → SaySo lines old → SaySo (lines ++ line ∷ []) new × MayFollow lines line
 Takes old line new Go = (line ≡ GoLine) × (new ≡ old)
 Takes old line new Refused = (lines : List Line) → SaySo lines old → takes_at headed lines [] line → ⊥
 
 -- the same, where there may be no memory
-abbrev pub TakesLine : {E : Type 0} → Preamble → Line → Preamble → Result Taken E → Type 0
+abbrev pub TakesLine : {E : Type 0} → Preamble → Line → Preamble → Result Said E → Type 0
 TakesLine old line new (Ok taken) = Takes old line new taken
 TakesLine old line new (Err e) = Unit {0}
 

@@ -1,7 +1,7 @@
 use Rattle.std.proofs.Common.{◌∙◌, sym, ap, length, arith}
 use Rattle.login_model.specs.Legal.{trail_of}
-use Rattle.login_core.specs.Draft.{DraftState}
-use Rattle.login_core.specs.UnderWay.{so_far, entry_of}
+use Rattle.login_core.specs.inner.Draft.{DraftState}
+use Rattle.login_core.specs.inner.UnderWay.{so_far, entry_of}
 use Rattle.login_core.proofs.Standing.{so_far-none}
 use Rattle.login_core.proofs.Drafting.{ClosesBehind, closed-trail, draft-closed, so_far-longer, so_far-same}
 use Rattle.login_core.proofs.board.Board.close_entry.Goals as goal
@@ -23,7 +23,7 @@ invariant_of-draft c =
     let n = ap (λ (d : DraftState). length d.before) c.draft.view_is in
     let r = ap (λ (d : DraftState). d.reach) c.draft.view_is in
     let fit = c.requires.begun.blanks_fit in
-    draft-closed before m.journal.items new e f.marks c.close.result f.facts f.made f.reach m.journal.room c.draft.invariant b (omega arith) c.close.ensures.blank_room
+    draft-closed before m.journal.items new e f.marks c.close.result f.facts f.made f.reach m.journal.marks c.draft.invariant b (omega arith) c.close.ensures.blank_marks
 
 pub returns-clause-closes : goal.returns-clause-closes
 returns-clause-closes c =
@@ -61,7 +61,7 @@ returns-clause-begun c =
     let longer = so_far-longer before f.marks.items in
     let same = ap length (closed-trail before m.journal.items new e f.marks c.close.result b) in
     let last = ap length (ap (so_far new) c.close.ensures.blank ∙ so_far-none new) in
-    let room = c.close.ensures.room in
+    let room = c.close.ensures.marks in
     let fit = c.requires.begun.blanks_fit in
     record {
       before = ap trail_of (ap (λ j. j.items) c.of.ensures ∙ c.journal.ensures);

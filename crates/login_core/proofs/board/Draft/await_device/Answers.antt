@@ -3,8 +3,8 @@ use Rattle.login_base.specs.declared.ids.HandleNo.{HandleNo}
 use Rattle.login_model.specs.declared.fact.Key.TheVariants as key
 use Rattle.login_model.specs.Trail.{value}
 use Rattle.login_model.specs.Switching.{await_handle}
-use Rattle.login_core.specs.Told.{handle_fact}
-use Rattle.login_core.specs.Draft.{with_trail}
+use Rattle.login_core.specs.inner.Told.{handle_fact}
+use Rattle.login_core.specs.inner.Draft.{with_trail}
 use Rattle.login_core.proofs.Told.{paused}
 use Rattle.login_core.proofs.board.Draft.await_device.Goals as goal
 

@@ -5,8 +5,8 @@ use Rattle.login_model.specs.declared.mark.PauseKind.TheVariants as pause
 use Rattle.login_model.specs.declared.mark.Notice.TheVariants.{Pause}
 use Rattle.login_model.specs.Trail.{value, put}
 use Rattle.login_model.specs.Procedure.{yes, tell_controller}
-use Rattle.login_core.specs.Told.{controller_fact}
-use Rattle.login_core.specs.Draft.{with_trail, marked_by}
+use Rattle.login_core.specs.inner.Told.{controller_fact}
+use Rattle.login_core.specs.inner.Draft.{with_trail, marked_by}
 use Rattle.login_core.proofs.Told.{told}
 use Rattle.login_core.proofs.board.Draft.await_live.Goals as goal
 

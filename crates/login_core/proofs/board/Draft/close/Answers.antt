@@ -3,9 +3,9 @@ use Rattle.login_model.specs.declared.fact.Owner.{Owner as OwnerFact}
 use Rattle.login_model.specs.declared.fact.Key.TheVariants.{Owner}
 use Rattle.login_model.specs.Trail.{value}
 use Rattle.login_model.specs.Direct.{close_owned, close}
-use Rattle.login_core.specs.Handles.{owner_fact, AreForClosing}
+use Rattle.login_core.specs.inner.Handles.{owner_fact, AreForClosing}
 use Rattle.login_model.specs.Facts.{owner_in}
-use Rattle.login_core.specs.Draft.{with_trail}
+use Rattle.login_core.specs.inner.Draft.{with_trail}
 use Rattle.login_core.proofs.Growing.{fits}
 use Rattle.login_core.proofs.ClosedHandles.{closed, told-closing}
 use Rattle.login_core.proofs.board.Draft.close.Goals as goal

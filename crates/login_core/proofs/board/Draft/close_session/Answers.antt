@@ -1,7 +1,7 @@
 use Rattle.std.proofs.Common.{◌∙◌, ap, Option, List, ℕ}
 use Rattle.login_model.specs.declared.session.Phase.TheVariants.{Closing}
 use Rattle.login_model.specs.Procedure.{if_some, leave_seat, set_phase, release}
-use Rattle.login_core.specs.Draft.{with_trail, marked_by}
+use Rattle.login_core.specs.inner.Draft.{with_trail, marked_by}
 use Rattle.login_core.proofs.Released.{released-copies}
 use Rattle.login_core.proofs.Growing.{trails}
 use Rattle.login_core.proofs.board.Draft.close_session.Goals as goal

@@ -2,7 +2,7 @@ use Rattle.std.proofs.Common.{◌∙◌, ap, Option, length, arith}
 use Rattle.login_base.specs.declared.ids.SessId.{SessId}
 use Rattle.login_model.specs.Where.{active_on}
 use Rattle.login_model.specs.Procedure.{take_seat, resume}
-use Rattle.login_core.specs.Draft.{with_trail, marked_by}
+use Rattle.login_core.specs.inner.Draft.{with_trail, marked_by}
 use Rattle.login_core.proofs.Growing.{fits}
 use Rattle.login_laws.proofs.Grows.{resume-grows}
 use Rattle.login_core.proofs.board.Draft.come_front.Goals as goal

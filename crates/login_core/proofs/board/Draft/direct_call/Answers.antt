@@ -12,7 +12,7 @@ pub returns-in-Terminate-clause-texts : goal.returns-in-Terminate-clause-texts
 returns-in-Terminate-clause-texts c =
     let t = c.args.self.now.trail in
     let P : Trail → Type 0 = Tame t in
-    let p = subst P (sym (trails c.terminate_some.ensures.marked)) (if_some-carried tame shut (shut-carried tame) c.session_in.result t) in
+    let p = subst P (sym (trails c.terminate_some.ensures.marked)) (if_some-carried tame shut (shut-carried tame) c.session.result t) in
     record { closing = c.terminate_some.ensures.copies; gone = going-later c.args.texts.now.gone.items t c.terminate_some.new.self.trail p.sessions c.requires.texts.gone }
 
 pub returns-in-TerminateUser-clause-texts : goal.returns-in-TerminateUser-clause-texts

@@ -8,7 +8,7 @@ use Rattle.login_laws.proofs.Grows.{Grows, each-grows, shut-grows, put-grows, gr
 use Rattle.login_laws.proofs.Carried.{each-carried, release-carried}
 use Rattle.login_laws.proofs.Tame.{Tame, tame, later-along, other, tame-unlocks}
 use Rattle.login_base.specs.declared.ids.ConnId.{ConnId}
-use Rattle.login_core.specs.Draft.{DraftState, marked_by, with_trail}
+use Rattle.login_core.specs.inner.Draft.{DraftState, marked_by, with_trail}
 use Rattle.login_core.proofs.Growing.{fits, trails}
 use Rattle.login_core.proofs.TextsKept.{AllLater, closing-later}
 use Rattle.login_core.proofs.board.Draft.disconnect.Goals as goal

@@ -1,7 +1,7 @@
 use Rattle.std.proofs.Common.{◌∙◌, List, length, ap, arith}
 use Rattle.login_base.specs.declared.ids.SessId.{SessId}
 use Rattle.login_model.specs.Procedure.{each, shut}
-use Rattle.login_core.specs.Draft.{with_trail}
+use Rattle.login_core.specs.inner.Draft.{with_trail}
 use Rattle.login_core.proofs.ShutLaws.{fifo-stays, kept-list}
 use Rattle.login_core.proofs.board.Draft.end_sessions.Goals as goal
 

@@ -7,7 +7,7 @@ use Rattle.login_model.specs.Trail.{value, tell_all}
 use Rattle.login_model.specs.Procedure.{leave, set_phase, shut}
 use Rattle.login_model.specs.Direct.{exit, owner_of}
 use Rattle.login_laws.proofs.Grows.{leave-grows}
-use Rattle.login_core.specs.Draft.{with_trail, marked_by}
+use Rattle.login_core.specs.inner.Draft.{with_trail, marked_by}
 use Rattle.login_core.proofs.Growing.{fits}
 use Rattle.login_core.proofs.board.Draft.exit.Goals as goal
 

@@ -2,7 +2,7 @@ use Rattle.std.proofs.Common.{◌∙◌, length, ap, arith}
 use Rattle.login_model.specs.Names.{names, insert_some}
 use Rattle.login_model.specs.Procedure.{each}
 use Rattle.login_table.specs.Listed.{is_there}
-use Rattle.login_core.specs.Draft.{marked_by}
+use Rattle.login_core.specs.inner.Draft.{marked_by}
 use Rattle.login_core.proofs.Chosen.{filter-chosen}
 use Rattle.login_core.proofs.board.Draft.for_each_that.Goals as goal
 

@@ -11,7 +11,7 @@ use Rattle.login_laws.proofs.Grows.{settle-grows}
 use Rattle.login_laws.proofs.Quiet.{direct-quiet, settle-quiet}
 use Rattle.login_laws.proofs.Tame.{Tame, tame, tame-switched}
 use Rattle.login_laws.specs.Quiet.{IsQuiet}
-use Rattle.login_core.specs.Draft.{DraftState, with_trail, marked_by}
+use Rattle.login_core.specs.inner.Draft.{DraftState, with_trail, marked_by}
 use Rattle.login_core.proofs.TextsKept.{texts-later}
 use Rattle.login_core.proofs.Growing.{trails}
 use Rattle.login_core.proofs.board.Draft.grant.Goals as goal

@@ -4,7 +4,7 @@ use mir.Syntax.{w32}
 use mir.Val.{to_z, of_z}
 use Rattle.login_model.specs.Where.{sessions, sessions_of}
 use Rattle.login_model.specs.Procedure.{each}
-use Rattle.login_core.specs.Draft.{with_trail}
+use Rattle.login_core.specs.inner.Draft.{with_trail}
 use Rattle.login_core.proofs.Growing.{fits}
 use Rattle.login_core.proofs.Sessions.{kill_all, kill-above}
 use Rattle.login_core.proofs.board.Draft.kill_user.Goals as goal

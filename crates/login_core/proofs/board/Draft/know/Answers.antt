@@ -3,9 +3,9 @@ use Rattle.login_model.specs.declared.fact.Key.TheVariants.{User}
 use Rattle.login_model.specs.declared.fact.Fact.TheVariants.{Known}
 use Rattle.login_model.specs.Trail.{value, put}
 use Rattle.login_model.specs.Procedure.{know, tell_new_user}
-use Rattle.login_core.specs.Told.{absent_or_known}
+use Rattle.login_core.specs.inner.Told.{absent_or_known}
 use Rattle.login_model.specs.Facts.{is_absent}
-use Rattle.login_core.specs.Draft.{with_trail, marked_by}
+use Rattle.login_core.specs.inner.Draft.{with_trail, marked_by}
 use Rattle.login_core.proofs.Told.{greeted}
 use Rattle.login_core.proofs.Growing.{fits}
 use Rattle.login_laws.proofs.Grows.{tell_new_user-grows}

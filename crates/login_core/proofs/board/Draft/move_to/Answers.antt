@@ -4,7 +4,7 @@ use Rattle.login_model.specs.declared.fact.Fact.TheVariants.{Absent, Number}
 use Rattle.login_model.specs.Trail.{put}
 use Rattle.login_model.specs.Procedure.{if_some, force}
 use Rattle.login_model.specs.Switching.{ask_getty, arrive}
-use Rattle.login_core.specs.Draft.{marked_by}
+use Rattle.login_core.specs.inner.Draft.{marked_by}
 use Rattle.login_core.proofs.Growing.{fits}
 use Rattle.login_core.proofs.board.Draft.move_to.Goals as goal
 

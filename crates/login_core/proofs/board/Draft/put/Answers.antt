@@ -3,9 +3,9 @@ use Rattle.login_model.specs.Same.{same_fact}
 use Rattle.login_model.specs.Trail.{value}
 use Rattle.login_model.specs.declared.fact.Fact.{Fact}
 use Rattle.login_model.specs.declared.mark.Mark.TheVariants.{Set}
-use Rattle.login_core.specs.Facts.{StandFor}
-use Rattle.login_core.specs.UnderWay.{so_far}
-use Rattle.login_core.specs.Draft.{with_trail}
+use Rattle.login_core.specs.inner.Facts.{StandFor}
+use Rattle.login_core.specs.inner.UnderWay.{so_far}
+use Rattle.login_core.specs.inner.Draft.{with_trail}
 use Rattle.login_core.proofs.Standing.{put-same, put-other}
 use Rattle.login_core.proofs.Drafting.{draft-more, one-more, room-inside, seen-more}
 use Rattle.login_core.proofs.board.Draft.put.Goals as goal

@@ -5,8 +5,8 @@ use Rattle.login_model.specs.declared.fact.Key.TheVariants as key
 use Rattle.login_model.specs.Trail.{value}
 use Rattle.login_model.specs.Fresh.{next_handle}
 use Rattle.login_model.specs.Procedure.{renew}
-use Rattle.login_core.specs.Told.{controller_fact}
-use Rattle.login_core.specs.Draft.{with_trail}
+use Rattle.login_core.specs.inner.Told.{controller_fact}
+use Rattle.login_core.specs.inner.Draft.{with_trail}
 use Rattle.login_core.proofs.Told.{renewed}
 use Rattle.login_core.proofs.board.Draft.renew_dead.Goals as goal
 

@@ -3,9 +3,9 @@ use Rattle.login_model.specs.declared.fact.Key.TheVariants as key
 use Rattle.login_model.specs.Trail.{value}
 use Rattle.login_model.specs.declared.hardware.DevKind.{DevKind}
 use Rattle.login_model.specs.Procedure.{revive}
-use Rattle.login_core.specs.Told.{kind_fact}
+use Rattle.login_core.specs.inner.Told.{kind_fact}
 use Rattle.login_model.specs.Facts.{kind_in}
-use Rattle.login_core.specs.Draft.{with_trail}
+use Rattle.login_core.specs.inner.Draft.{with_trail}
 use Rattle.login_core.proofs.Told.{revived}
 use Rattle.login_core.proofs.board.Draft.revive_device.Goals as goal
 

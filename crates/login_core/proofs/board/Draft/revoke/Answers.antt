@@ -5,8 +5,8 @@ use Rattle.login_model.specs.declared.mark.PauseKind.TheVariants as pause
 use Rattle.login_model.specs.declared.mark.Notice.TheVariants.{Pause}
 use Rattle.login_model.specs.Trail.{value}
 use Rattle.login_model.specs.Procedure.{tell_controller, untake}
-use Rattle.login_core.specs.Told.{controller_fact}
-use Rattle.login_core.specs.Draft.{with_trail, marked_by}
+use Rattle.login_core.specs.inner.Told.{controller_fact}
+use Rattle.login_core.specs.inner.Draft.{with_trail, marked_by}
 use Rattle.login_core.proofs.Told.{told}
 use Rattle.login_core.proofs.board.Draft.revoke.Goals as goal
 

@@ -2,8 +2,8 @@ use Rattle.std.proofs.Common.{◌∙◌, ℕ, ap, Option, length, arith}
 use Rattle.login_model.specs.declared.fact.Key.TheVariants.{Pending}
 use Rattle.login_model.specs.Trail.{value}
 use Rattle.login_model.specs.Switching.{complete, settle_switch}
-use Rattle.login_core.specs.Told.{terminal_fact}
-use Rattle.login_core.specs.Draft.{with_trail}
+use Rattle.login_core.specs.inner.Told.{terminal_fact}
+use Rattle.login_core.specs.inner.Draft.{with_trail}
 use Rattle.login_core.proofs.Told.{completed}
 use Rattle.login_core.proofs.board.Draft.settle_switch.Goals as goal
 

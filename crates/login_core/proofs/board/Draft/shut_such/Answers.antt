@@ -1,6 +1,6 @@
 use Rattle.login_model.specs.Procedure.{shut}
 use Rattle.login_laws.proofs.Grows.{shut-grows}
-use Rattle.login_core.specs.Ending.{sessions_such}
+use Rattle.login_core.specs.inner.Ending.{sessions_such}
 use Rattle.login_core.proofs.Going.{going-start, going-room, going-less, going-step, going-end}
 use Rattle.login_core.proofs.Sessions.{sessions_that, sessions-all}
 use Rattle.login_core.proofs.ShutLaws.{shut-keeps-above}

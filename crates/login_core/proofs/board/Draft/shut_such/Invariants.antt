@@ -1,7 +1,7 @@
 use Rattle.std.proofs.Common.{length}
 use Rattle.login_model.specs.Procedure.{shut}
 use Rattle.login_core.specs.Kept.{AreClosing}
-use Rattle.login_core.specs.Ending.{sessions_such}
+use Rattle.login_core.specs.inner.Ending.{sessions_such}
 use Rattle.login_core.proofs.Going.{Going, left}
 use Rattle.login_core.proofs.Sessions.{sessions_that}
 use Rattle.login_core.proofs.board.Draft.shut_such.Given as goal

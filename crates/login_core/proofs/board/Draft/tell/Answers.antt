@@ -1,6 +1,6 @@
 use Rattle.std.proofs.Common.{arith}
 use Rattle.login_model.specs.declared.mark.Mark.TheVariants.{Say}
-use Rattle.login_core.specs.UnderWay.{so_far}
+use Rattle.login_core.specs.inner.UnderWay.{so_far}
 use Rattle.login_core.proofs.Standing.{stand-say}
 use Rattle.login_core.proofs.Drafting.{draft-more, room-inside, said-room, seen-more}
 use Rattle.login_core.proofs.board.Draft.tell.Goals as goal

@@ -4,8 +4,8 @@ use Rattle.login_model.specs.declared.fact.Key.TheVariants as key
 use Rattle.login_model.specs.declared.mark.Notice.TheVariants.{Resume}
 use Rattle.login_model.specs.Trail.{value}
 use Rattle.login_model.specs.Procedure.{tell_controller}
-use Rattle.login_core.specs.Told.{controller_fact}
-use Rattle.login_core.specs.Draft.{with_trail}
+use Rattle.login_core.specs.inner.Told.{controller_fact}
+use Rattle.login_core.specs.inner.Draft.{with_trail}
 use Rattle.login_core.proofs.Told.{told}
 use Rattle.login_core.proofs.board.Draft.tell_resumed.Goals as goal
 

@@ -6,7 +6,7 @@ use Rattle.login_model.specs.Trail.{put}
 use Rattle.login_model.specs.Procedure.{each, forget}
 use Rattle.login_model.specs.Direct.{overdue, tick}
 use Rattle.login_laws.proofs.Grows.{each-grows, forget-grows}
-use Rattle.login_core.specs.Draft.{with_trail, marked_by}
+use Rattle.login_core.specs.inner.Draft.{with_trail, marked_by}
 use Rattle.login_core.proofs.Departing.{late-then}
 use Rattle.login_core.proofs.Growing.{fits}
 use Rattle.login_core.proofs.board.Draft.tick.Goals as goal

@@ -1,7 +1,7 @@
 use Rattle.std.proofs.Common.{◌∙◌, ℕ, ap, length, arith, Option}
 use Rattle.login_model.specs.Procedure.{if_some}
-use Rattle.login_core.specs.Places.{turn_to_place}
-use Rattle.login_core.specs.Draft.{with_trail}
+use Rattle.login_core.specs.inner.Places.{turn_to_place}
+use Rattle.login_core.specs.inner.Draft.{with_trail}
 use Rattle.login_core.proofs.Turned.{turned}
 use Rattle.login_core.proofs.board.Draft.turn_to.Goals as goal
 

@@ -4,8 +4,8 @@ use Rattle.login_model.specs.declared.fact.Key.TheVariants as key
 use Rattle.login_model.specs.declared.fact.Fact.TheVariants as fact
 use Rattle.login_model.specs.Trail.{value, put}
 use Rattle.login_model.specs.Procedure.{no, kill}
-use Rattle.login_core.specs.Told.{handle_fact}
-use Rattle.login_core.specs.Draft.{with_trail, marked_by}
+use Rattle.login_core.specs.inner.Told.{handle_fact}
+use Rattle.login_core.specs.inner.Draft.{with_trail, marked_by}
 use Rattle.login_core.proofs.Told.{killed}
 use Rattle.login_core.proofs.board.Draft.untake.Goals as goal
 

@@ -7,7 +7,7 @@ use Rattle.login_model.specs.Trail.{put}
 use Rattle.login_model.specs.Where.{active_on}
 use Rattle.login_model.specs.Procedure.{if_some, resume}
 use Rattle.login_model.specs.Switching.{unawait_devices}
-use Rattle.login_core.specs.Draft.{with_trail, marked_by}
+use Rattle.login_core.specs.inner.Draft.{with_trail, marked_by}
 use Rattle.login_core.proofs.Growing.{fits}
 use Rattle.login_laws.proofs.Grows.{if_some-grows, resume-grows, unawait_devices-grows}
 use Rattle.login_core.proofs.board.Draft.withdraw_switch.Goals as goal
@@ -18,7 +18,7 @@ unawait_some-requires c =
     let o = c.active_on-active.result in
     let u = if_some unawait_devices o c.put_absent.new.self.trail in
     let e = ap (marked_by (if_some resume o)) (ap (marked_by (if_some unawait_devices o)) c.put_absent.ensures.marked)
-    ∙ ap (with_trail c.args.self.now) (ap (λ (p : Option SessId). if_some resume p (if_some unawait_devices p (put Pending Absent t))) (c.active_on-active.ensures ∙ ap (active_on t) c.seat0.ensures)) in
+    ∙ ap (with_trail c.args.self.now) (ap (λ (p : Option SessId). if_some resume p (if_some unawait_devices p (put Pending Absent t))) c.active_on-active.ensures) in
     let h = fits _ _ c.args.self.now c.put_absent.new.self e c.requires.room in
     let g = if_some-grows resume resume-grows o u in
     record { room = omega arith }
@@ -28,7 +28,7 @@ resume_some-requires c =
     let t = c.args.self.now.trail in
     let o = c.active_on-active.result in
     let e = ap (marked_by (if_some resume o)) (c.unawait_some.ensures.marked ∙ ap (marked_by (if_some unawait_devices o)) c.put_absent.ensures.marked)
-    ∙ ap (with_trail c.args.self.now) (ap (λ (p : Option SessId). if_some resume p (if_some unawait_devices p (put Pending Absent t))) (c.active_on-active.ensures ∙ ap (active_on t) c.seat0.ensures)) in
+    ∙ ap (with_trail c.args.self.now) (ap (λ (p : Option SessId). if_some resume p (if_some unawait_devices p (put Pending Absent t))) c.active_on-active.ensures) in
     record { room = fits _ _ c.args.self.now c.unawait_some.new.self e c.requires.room }
 
 pub returns : goal.returns
@@ -37,7 +37,7 @@ returns c =
     record {
       marked = c.resume_some.ensures.marked
           ∙ ap (marked_by (if_some resume c.active_on-active.result)) (c.unawait_some.ensures.marked ∙ ap (marked_by (if_some unawait_devices c.active_on-active.result)) c.put_absent.ensures.marked)
-          ∙ ap (with_trail c.args.self.now) (ap (λ (o : Option SessId). if_some resume o (if_some unawait_devices o (put Pending Absent t))) (c.active_on-active.ensures ∙ ap (active_on t) c.seat0.ensures));
+          ∙ ap (with_trail c.args.self.now) (ap (λ (o : Option SessId). if_some resume o (if_some unawait_devices o (put Pending Absent t))) c.active_on-active.ensures);
     }
 
 pub put_absent-requires : goal.put_absent-requires

@@ -14,5 +14,5 @@ loop-blank-preserved c =
     let d = c.blank-item.result in (
       length-set xs i b ∙ c.loop-blank.invariant.0,
       (λ n h. set-keeps n xs i b d (omega arith) (c.loop-blank.invariant.1 n h) c.reserve.ensures.items c.reserve.ensures.spare),
-      λ h. set-wider c.args.room 0 xs i b d (omega arith) (c.loop-blank.invariant.1 0 h) c.reserve.ensures.items c.in_ok-reserve.ensures.ok (c.loop-blank.invariant.2 h),
+      λ h. set-wider c.args.marks 0 xs i b d (omega arith) (c.loop-blank.invariant.1 0 h) c.reserve.ensures.items c.in_ok-reserve.ensures.ok (c.loop-blank.invariant.2 h),
     )

@@ -13,10 +13,10 @@ use Rattle.login_model.specs.declared.setup.Setup.{Setup}
 use Rattle.login_model.specs.declared.rule.Verdict.{Verdict}
 use Rattle.login_laws.proofs.SoundLaws.{sound-journal}
 use Rattle.login_laws.proofs.LawfulLaws.{legal-is-lawful}
-use Rattle.login_core.specs.Draft.{DraftState, marked_by}
-use Rattle.login_core.specs.Inside.{IsCore}
+use Rattle.login_core.specs.inner.Draft.{DraftState, marked_by}
+use Rattle.login_core.specs.inner.Inside.{IsCore}
 use Rattle.login_core.specs.Kept.{HaveTexts}
-use Rattle.login_core.specs.UnderWay.{so_far, entry_of}
+use Rattle.login_core.specs.inner.UnderWay.{so_far, entry_of}
 use Rattle.login_core.specs.State.{CoreState, IsReady, answer_next, stop_next}
 use Rattle.login_core.specs.declared.board.Board.{Board}
 use Rattle.login_core.specs.declared.room.ready.Ready.{Ready}

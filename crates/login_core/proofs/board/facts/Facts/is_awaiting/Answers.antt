@@ -1,5 +1,5 @@
 use Rattle.std.proofs.Common.{◌∙◌, sym, subst}
-use Rattle.login_core.specs.Facts.{Tables, StandFor}
+use Rattle.login_core.specs.inner.Facts.{Tables, StandFor}
 use Rattle.login_core.proofs.Standing.{opened}
 use Rattle.login_core.proofs.Awaiting.{any-awaited, awaiting-standing}
 use Rattle.login_core.proofs.board.facts.Facts.is_awaiting.Goals as goal

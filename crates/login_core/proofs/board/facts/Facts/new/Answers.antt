@@ -1,7 +1,7 @@
 use Rattle.std.proofs.Common.{◌≡◌, sym, [], ap}
 use Rattle.login_model.specs.declared.fact.Key.{Key}
 use Rattle.login_model.specs.Trail.{Trail, value}
-use Rattle.login_core.specs.Facts.{Tables}
+use Rattle.login_core.specs.inner.Facts.{Tables}
 use Rattle.login_core.proofs.CountedLaws.{counted-none}
 use Rattle.login_core.proofs.Counting.{sessions-none, handles-none}
 use Rattle.login_core.proofs.HomeLaws.{all-stand}

@@ -1,5 +1,5 @@
 use Rattle.std.proofs.Common.{sym, subst}
-use Rattle.login_core.specs.Facts.{Tables, StandFor}
+use Rattle.login_core.specs.inner.Facts.{Tables, StandFor}
 use Rattle.login_core.proofs.HomeLaws.{users-stand}
 use Rattle.login_core.proofs.Standing.{opened}
 use Rattle.login_core.proofs.board.facts.Facts.next_user.Goals as goal

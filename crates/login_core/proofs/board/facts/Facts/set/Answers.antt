@@ -5,18 +5,18 @@ use Rattle.login_model.specs.Fresh.{fresh_session, fresh_handle}
 use Rattle.login_model.specs.Trail.{value}
 use Rattle.login_core.specs.declared.board.home.Home.TheVariants.{Users, Sessions, Seats, Takes, Connections, Controls, Owners, Lives, Others}
 use Rattle.login_core.specs.declared.room.counts.Counts.{Counts}
-use Rattle.login_core.specs.Counts.{Fit, Follow, counts_of}
-use Rattle.login_core.specs.Facts.{Tables, StandFor}
+use Rattle.login_core.specs.inner.Counts.{CanAllMove, Follow, counts_of}
+use Rattle.login_core.specs.inner.Facts.{Tables, StandFor, opens}
 use Rattle.login_core.proofs.CountedLaws.{counted-fit}
 use Rattle.login_core.proofs.Counting.{opens-bound, gives-bound, sessions-bound, handles-bound}
 use Rattle.login_core.proofs.Placed.{Moves, Places, stands-placed, but-users, but-sessions, but-seats, but-takes, but-connections, but-controls, but-owners, but-lives, but-others}
 use Rattle.login_core.proofs.Standing.{opened}
 use Rattle.login_core.proofs.board.facts.Facts.set.Goals as goal
 
-fit : (n lost gained : Counts) (k : Key) (x y v : Fact) → lost ≡ counts_of k y → y ≡ v → gained ≡ counts_of k x → Fit n (counts_of k v) (counts_of k x) → Fit n lost gained
+fit : (n lost gained : Counts) (k : Key) (x y v : Fact) → lost ≡ counts_of k y → y ≡ v → gained ≡ counts_of k x → CanAllMove n (counts_of k v) (counts_of k x) → CanAllMove n lost gained
 fit n lost gained k x y v l e g h =
-    let P : Counts → Type 0 = λ m. Fit n m (counts_of k x) in
-    let Q : Counts → Type 0 = λ m. Fit n lost m in
+    let P : Counts → Type 0 = λ m. CanAllMove n m (counts_of k x) in
+    let Q : Counts → Type 0 = λ m. CanAllMove n lost m in
     subst Q (sym g) (subst P (sym (l ∙ ap (counts_of k) e)) h)
 
 follow : (n lost gained m : Counts) (k : Key) (x y v : Fact) → lost ≡ counts_of k y → y ≡ v → gained ≡ counts_of k x → Follow n lost gained m → Follow n (counts_of k v) (counts_of k x) m
@@ -30,8 +30,8 @@ moved-self-inside-requires c =
     let few = c.requires.few in
     let now = c.args.self.now in
     let counted = counted-fit now.counts c.args.key c.args.fact few.marks (opened now few.marks few.stand).counts few.few in
-    let P : Counts → Type 0 = λ n. Fit n (counts_of c.args.key (value few.marks c.args.key)) (counts_of c.args.key c.args.fact) in
-    fit c.self.inside.counts c.of-lost.result c.of.result c.args.key c.args.fact c.fact.result.now (value few.marks c.args.key) c.of-lost.ensures (c.fact.ensures few.marks few.stand) c.of.ensures
+    let P : Counts → Type 0 = λ n. CanAllMove n (counts_of c.args.key (value few.marks c.args.key)) (counts_of c.args.key c.args.fact) in
+    fit c.self.inside.counts c.of-lost.result c.of-gained.result c.args.key c.args.fact c.fact.result.now (value few.marks c.args.key) c.of-lost.ensures (c.fact.ensures few.marks few.stand) c.of-gained.ensures
     (subst P (sym (ap (λ (f : Tables). f.counts) c.self.view_is)) counted)
 
 pub overflow_add-self : goal.overflow_add-self
@@ -43,7 +43,7 @@ overflow_add-self c =
     let same : now.session ≡ fresh_session few.marks = (opened now few.marks few.stand).session in
     let most = sessions-bound few.marks in
     let one = opens-bound c.args.key c.args.fact in
-    let opens = c.opened.ensures in
+    let more : c.of-gained.result.opened ≡ opens c.args.key c.args.fact = ap (λ (n : Counts). n.opened) c.of-gained.ensures in
     omega arith
 
 pub overflow_add-self-2 : goal.overflow_add-self-2
@@ -66,14 +66,14 @@ returns-in-Users-clause-stands c = λ t s.
     let f : Tables = record { users = c.self.inside.users.trail; sessions = c.self.inside.sessions.trail; seats = c.self.inside.seats.trail; takes = c.self.inside.takes.trail; connections = c.self.inside.connections.trail; controls = c.self.inside.controls.trail; owners = c.self.inside.owners.trail; lives = c.self.inside.lives.trail; others = c.self.inside.others.trail; counts = c.self.inside.counts; session = c.self.inside.session; handle = c.self.inside.handle; spare = c.self.inside.spare } in
     let rows = c.set.new.self.trail in
     let counts = c.moved-self-inside.result in
-    let session = c.self.inside.session + c.opened.result in
+    let session = c.self.inside.session + c.of-gained.result.opened in
     let handle = c.self.inside.handle + c.given.result in
     let spare = c.self.inside.spare - 1 in
     let g : Tables = record f { users = rows; counts = counts; session = session; handle = handle; spare = spare } in
-    let places : Places f g k x Users = record { at_home = sym c.of-2.ensures ∙ c.in-Users.is; set = c.set.ensures.facts; stays = but-users f rows counts session handle spare } in
+    let places : Places f g k x Users = record { at_home = sym c.of.ensures ∙ c.in-Users.is; set = c.set.ensures.facts; stays = but-users f rows counts session handle spare } in
     let moves : Moves f g k x t = record {
-      counts = follow c.self.inside.counts c.of-lost.result c.of.result counts k x c.fact.result.now (value t k) c.of-lost.ensures (c.fact.ensures t s) c.of.ensures c.moved-self-inside.ensures;
-      session = ap (λ (n : ℕ). c.self.inside.session + n) c.opened.ensures;
+      counts = follow c.self.inside.counts c.of-lost.result c.of-gained.result counts k x c.fact.result.now (value t k) c.of-lost.ensures (c.fact.ensures t s) c.of-gained.ensures c.moved-self-inside.ensures;
+      session = ap (λ (n : Counts). c.self.inside.session + n.opened) c.of-gained.ensures;
       handle = ap (λ (n : ℕ). c.self.inside.handle + n) c.given.ensures;
     } in
     stands-placed f g k x Users t places moves (subst P (sym c.self.view_is) s)
@@ -86,14 +86,14 @@ returns-in-Sessions-clause-stands c = λ t s.
     let f : Tables = record { users = c.self.inside.users.trail; sessions = c.self.inside.sessions.trail; seats = c.self.inside.seats.trail; takes = c.self.inside.takes.trail; connections = c.self.inside.connections.trail; controls = c.self.inside.controls.trail; owners = c.self.inside.owners.trail; lives = c.self.inside.lives.trail; others = c.self.inside.others.trail; counts = c.self.inside.counts; session = c.self.inside.session; handle = c.self.inside.handle; spare = c.self.inside.spare } in
     let rows = c.set-in-Sessions.new.self.trail in
     let counts = c.moved-self-inside.result in
-    let session = c.self.inside.session + c.opened.result in
+    let session = c.self.inside.session + c.of-gained.result.opened in
     let handle = c.self.inside.handle + c.given.result in
     let spare = c.self.inside.spare - 1 in
     let g : Tables = record f { sessions = rows; counts = counts; session = session; handle = handle; spare = spare } in
-    let places : Places f g k x Sessions = record { at_home = sym c.of-2.ensures ∙ c.in-Sessions.is; set = c.set-in-Sessions.ensures.facts; stays = but-sessions f rows counts session handle spare } in
+    let places : Places f g k x Sessions = record { at_home = sym c.of.ensures ∙ c.in-Sessions.is; set = c.set-in-Sessions.ensures.facts; stays = but-sessions f rows counts session handle spare } in
     let moves : Moves f g k x t = record {
-      counts = follow c.self.inside.counts c.of-lost.result c.of.result counts k x c.fact.result.now (value t k) c.of-lost.ensures (c.fact.ensures t s) c.of.ensures c.moved-self-inside.ensures;
-      session = ap (λ (n : ℕ). c.self.inside.session + n) c.opened.ensures;
+      counts = follow c.self.inside.counts c.of-lost.result c.of-gained.result counts k x c.fact.result.now (value t k) c.of-lost.ensures (c.fact.ensures t s) c.of-gained.ensures c.moved-self-inside.ensures;
+      session = ap (λ (n : Counts). c.self.inside.session + n.opened) c.of-gained.ensures;
       handle = ap (λ (n : ℕ). c.self.inside.handle + n) c.given.ensures;
     } in
     stands-placed f g k x Sessions t places moves (subst P (sym c.self.view_is) s)
@@ -106,14 +106,14 @@ returns-in-Seats-clause-stands c = λ t s.
     let f : Tables = record { users = c.self.inside.users.trail; sessions = c.self.inside.sessions.trail; seats = c.self.inside.seats.trail; takes = c.self.inside.takes.trail; connections = c.self.inside.connections.trail; controls = c.self.inside.controls.trail; owners = c.self.inside.owners.trail; lives = c.self.inside.lives.trail; others = c.self.inside.others.trail; counts = c.self.inside.counts; session = c.self.inside.session; handle = c.self.inside.handle; spare = c.self.inside.spare } in
     let rows = c.set-in-Seats.new.self.trail in
     let counts = c.moved-self-inside.result in
-    let session = c.self.inside.session + c.opened.result in
+    let session = c.self.inside.session + c.of-gained.result.opened in
     let handle = c.self.inside.handle + c.given.result in
     let spare = c.self.inside.spare - 1 in
     let g : Tables = record f { seats = rows; counts = counts; session = session; handle = handle; spare = spare } in
-    let places : Places f g k x Seats = record { at_home = sym c.of-2.ensures ∙ c.in-Seats.is; set = c.set-in-Seats.ensures.facts; stays = but-seats f rows counts session handle spare } in
+    let places : Places f g k x Seats = record { at_home = sym c.of.ensures ∙ c.in-Seats.is; set = c.set-in-Seats.ensures.facts; stays = but-seats f rows counts session handle spare } in
     let moves : Moves f g k x t = record {
-      counts = follow c.self.inside.counts c.of-lost.result c.of.result counts k x c.fact.result.now (value t k) c.of-lost.ensures (c.fact.ensures t s) c.of.ensures c.moved-self-inside.ensures;
-      session = ap (λ (n : ℕ). c.self.inside.session + n) c.opened.ensures;
+      counts = follow c.self.inside.counts c.of-lost.result c.of-gained.result counts k x c.fact.result.now (value t k) c.of-lost.ensures (c.fact.ensures t s) c.of-gained.ensures c.moved-self-inside.ensures;
+      session = ap (λ (n : Counts). c.self.inside.session + n.opened) c.of-gained.ensures;
       handle = ap (λ (n : ℕ). c.self.inside.handle + n) c.given.ensures;
     } in
     stands-placed f g k x Seats t places moves (subst P (sym c.self.view_is) s)
@@ -126,14 +126,14 @@ returns-in-Takes-clause-stands c = λ t s.
     let f : Tables = record { users = c.self.inside.users.trail; sessions = c.self.inside.sessions.trail; seats = c.self.inside.seats.trail; takes = c.self.inside.takes.trail; connections = c.self.inside.connections.trail; controls = c.self.inside.controls.trail; owners = c.self.inside.owners.trail; lives = c.self.inside.lives.trail; others = c.self.inside.others.trail; counts = c.self.inside.counts; session = c.self.inside.session; handle = c.self.inside.handle; spare = c.self.inside.spare } in
     let rows = c.set-in-Takes.new.self.trail in
     let counts = c.moved-self-inside.result in
-    let session = c.self.inside.session + c.opened.result in
+    let session = c.self.inside.session + c.of-gained.result.opened in
     let handle = c.self.inside.handle + c.given.result in
     let spare = c.self.inside.spare - 1 in
     let g : Tables = record f { takes = rows; counts = counts; session = session; handle = handle; spare = spare } in
-    let places : Places f g k x Takes = record { at_home = sym c.of-2.ensures ∙ c.in-Takes.is; set = c.set-in-Takes.ensures.facts; stays = but-takes f rows counts session handle spare } in
+    let places : Places f g k x Takes = record { at_home = sym c.of.ensures ∙ c.in-Takes.is; set = c.set-in-Takes.ensures.facts; stays = but-takes f rows counts session handle spare } in
     let moves : Moves f g k x t = record {
-      counts = follow c.self.inside.counts c.of-lost.result c.of.result counts k x c.fact.result.now (value t k) c.of-lost.ensures (c.fact.ensures t s) c.of.ensures c.moved-self-inside.ensures;
-      session = ap (λ (n : ℕ). c.self.inside.session + n) c.opened.ensures;
+      counts = follow c.self.inside.counts c.of-lost.result c.of-gained.result counts k x c.fact.result.now (value t k) c.of-lost.ensures (c.fact.ensures t s) c.of-gained.ensures c.moved-self-inside.ensures;
+      session = ap (λ (n : Counts). c.self.inside.session + n.opened) c.of-gained.ensures;
       handle = ap (λ (n : ℕ). c.self.inside.handle + n) c.given.ensures;
     } in
     stands-placed f g k x Takes t places moves (subst P (sym c.self.view_is) s)
@@ -146,14 +146,14 @@ returns-in-Connections-clause-stands c = λ t s.
     let f : Tables = record { users = c.self.inside.users.trail; sessions = c.self.inside.sessions.trail; seats = c.self.inside.seats.trail; takes = c.self.inside.takes.trail; connections = c.self.inside.connections.trail; controls = c.self.inside.controls.trail; owners = c.self.inside.owners.trail; lives = c.self.inside.lives.trail; others = c.self.inside.others.trail; counts = c.self.inside.counts; session = c.self.inside.session; handle = c.self.inside.handle; spare = c.self.inside.spare } in
     let rows = c.set-in-Connections.new.self.trail in
     let counts = c.moved-self-inside.result in
-    let session = c.self.inside.session + c.opened.result in
+    let session = c.self.inside.session + c.of-gained.result.opened in
     let handle = c.self.inside.handle + c.given.result in
     let spare = c.self.inside.spare - 1 in
     let g : Tables = record f { connections = rows; counts = counts; session = session; handle = handle; spare = spare } in
-    let places : Places f g k x Connections = record { at_home = sym c.of-2.ensures ∙ c.in-Connections.is; set = c.set-in-Connections.ensures.facts; stays = but-connections f rows counts session handle spare } in
+    let places : Places f g k x Connections = record { at_home = sym c.of.ensures ∙ c.in-Connections.is; set = c.set-in-Connections.ensures.facts; stays = but-connections f rows counts session handle spare } in
     let moves : Moves f g k x t = record {
-      counts = follow c.self.inside.counts c.of-lost.result c.of.result counts k x c.fact.result.now (value t k) c.of-lost.ensures (c.fact.ensures t s) c.of.ensures c.moved-self-inside.ensures;
-      session = ap (λ (n : ℕ). c.self.inside.session + n) c.opened.ensures;
+      counts = follow c.self.inside.counts c.of-lost.result c.of-gained.result counts k x c.fact.result.now (value t k) c.of-lost.ensures (c.fact.ensures t s) c.of-gained.ensures c.moved-self-inside.ensures;
+      session = ap (λ (n : Counts). c.self.inside.session + n.opened) c.of-gained.ensures;
       handle = ap (λ (n : ℕ). c.self.inside.handle + n) c.given.ensures;
     } in
     stands-placed f g k x Connections t places moves (subst P (sym c.self.view_is) s)
@@ -166,14 +166,14 @@ returns-in-Controls-clause-stands c = λ t s.
     let f : Tables = record { users = c.self.inside.users.trail; sessions = c.self.inside.sessions.trail; seats = c.self.inside.seats.trail; takes = c.self.inside.takes.trail; connections = c.self.inside.connections.trail; controls = c.self.inside.controls.trail; owners = c.self.inside.owners.trail; lives = c.self.inside.lives.trail; others = c.self.inside.others.trail; counts = c.self.inside.counts; session = c.self.inside.session; handle = c.self.inside.handle; spare = c.self.inside.spare } in
     let rows = c.set-in-Controls.new.self.trail in
     let counts = c.moved-self-inside.result in
-    let session = c.self.inside.session + c.opened.result in
+    let session = c.self.inside.session + c.of-gained.result.opened in
     let handle = c.self.inside.handle + c.given.result in
     let spare = c.self.inside.spare - 1 in
     let g : Tables = record f { controls = rows; counts = counts; session = session; handle = handle; spare = spare } in
-    let places : Places f g k x Controls = record { at_home = sym c.of-2.ensures ∙ c.in-Controls.is; set = c.set-in-Controls.ensures.facts; stays = but-controls f rows counts session handle spare } in
+    let places : Places f g k x Controls = record { at_home = sym c.of.ensures ∙ c.in-Controls.is; set = c.set-in-Controls.ensures.facts; stays = but-controls f rows counts session handle spare } in
     let moves : Moves f g k x t = record {
-      counts = follow c.self.inside.counts c.of-lost.result c.of.result counts k x c.fact.result.now (value t k) c.of-lost.ensures (c.fact.ensures t s) c.of.ensures c.moved-self-inside.ensures;
-      session = ap (λ (n : ℕ). c.self.inside.session + n) c.opened.ensures;
+      counts = follow c.self.inside.counts c.of-lost.result c.of-gained.result counts k x c.fact.result.now (value t k) c.of-lost.ensures (c.fact.ensures t s) c.of-gained.ensures c.moved-self-inside.ensures;
+      session = ap (λ (n : Counts). c.self.inside.session + n.opened) c.of-gained.ensures;
       handle = ap (λ (n : ℕ). c.self.inside.handle + n) c.given.ensures;
     } in
     stands-placed f g k x Controls t places moves (subst P (sym c.self.view_is) s)
@@ -186,14 +186,14 @@ returns-in-Owners-clause-stands c = λ t s.
     let f : Tables = record { users = c.self.inside.users.trail; sessions = c.self.inside.sessions.trail; seats = c.self.inside.seats.trail; takes = c.self.inside.takes.trail; connections = c.self.inside.connections.trail; controls = c.self.inside.controls.trail; owners = c.self.inside.owners.trail; lives = c.self.inside.lives.trail; others = c.self.inside.others.trail; counts = c.self.inside.counts; session = c.self.inside.session; handle = c.self.inside.handle; spare = c.self.inside.spare } in
     let rows = c.set-in-Owners.new.self.trail in
     let counts = c.moved-self-inside.result in
-    let session = c.self.inside.session + c.opened.result in
+    let session = c.self.inside.session + c.of-gained.result.opened in
     let handle = c.self.inside.handle + c.given.result in
     let spare = c.self.inside.spare - 1 in
     let g : Tables = record f { owners = rows; counts = counts; session = session; handle = handle; spare = spare } in
-    let places : Places f g k x Owners = record { at_home = sym c.of-2.ensures ∙ c.in-Owners.is; set = c.set-in-Owners.ensures.facts; stays = but-owners f rows counts session handle spare } in
+    let places : Places f g k x Owners = record { at_home = sym c.of.ensures ∙ c.in-Owners.is; set = c.set-in-Owners.ensures.facts; stays = but-owners f rows counts session handle spare } in
     let moves : Moves f g k x t = record {
-      counts = follow c.self.inside.counts c.of-lost.result c.of.result counts k x c.fact.result.now (value t k) c.of-lost.ensures (c.fact.ensures t s) c.of.ensures c.moved-self-inside.ensures;
-      session = ap (λ (n : ℕ). c.self.inside.session + n) c.opened.ensures;
+      counts = follow c.self.inside.counts c.of-lost.result c.of-gained.result counts k x c.fact.result.now (value t k) c.of-lost.ensures (c.fact.ensures t s) c.of-gained.ensures c.moved-self-inside.ensures;
+      session = ap (λ (n : Counts). c.self.inside.session + n.opened) c.of-gained.ensures;
       handle = ap (λ (n : ℕ). c.self.inside.handle + n) c.given.ensures;
     } in
     stands-placed f g k x Owners t places moves (subst P (sym c.self.view_is) s)
@@ -206,14 +206,14 @@ returns-in-Lives-clause-stands c = λ t s.
     let f : Tables = record { users = c.self.inside.users.trail; sessions = c.self.inside.sessions.trail; seats = c.self.inside.seats.trail; takes = c.self.inside.takes.trail; connections = c.self.inside.connections.trail; controls = c.self.inside.controls.trail; owners = c.self.inside.owners.trail; lives = c.self.inside.lives.trail; others = c.self.inside.others.trail; counts = c.self.inside.counts; session = c.self.inside.session; handle = c.self.inside.handle; spare = c.self.inside.spare } in
     let rows = c.set-in-Lives.new.self.trail in
     let counts = c.moved-self-inside.result in
-    let session = c.self.inside.session + c.opened.result in
+    let session = c.self.inside.session + c.of-gained.result.opened in
     let handle = c.self.inside.handle + c.given.result in
     let spare = c.self.inside.spare - 1 in
     let g : Tables = record f { lives = rows; counts = counts; session = session; handle = handle; spare = spare } in
-    let places : Places f g k x Lives = record { at_home = sym c.of-2.ensures ∙ c.in-Lives.is; set = c.set-in-Lives.ensures.facts; stays = but-lives f rows counts session handle spare } in
+    let places : Places f g k x Lives = record { at_home = sym c.of.ensures ∙ c.in-Lives.is; set = c.set-in-Lives.ensures.facts; stays = but-lives f rows counts session handle spare } in
     let moves : Moves f g k x t = record {
-      counts = follow c.self.inside.counts c.of-lost.result c.of.result counts k x c.fact.result.now (value t k) c.of-lost.ensures (c.fact.ensures t s) c.of.ensures c.moved-self-inside.ensures;
-      session = ap (λ (n : ℕ). c.self.inside.session + n) c.opened.ensures;
+      counts = follow c.self.inside.counts c.of-lost.result c.of-gained.result counts k x c.fact.result.now (value t k) c.of-lost.ensures (c.fact.ensures t s) c.of-gained.ensures c.moved-self-inside.ensures;
+      session = ap (λ (n : Counts). c.self.inside.session + n.opened) c.of-gained.ensures;
       handle = ap (λ (n : ℕ). c.self.inside.handle + n) c.given.ensures;
     } in
     stands-placed f g k x Lives t places moves (subst P (sym c.self.view_is) s)
@@ -226,14 +226,14 @@ returns-in-Others-clause-stands c = λ t s.
     let f : Tables = record { users = c.self.inside.users.trail; sessions = c.self.inside.sessions.trail; seats = c.self.inside.seats.trail; takes = c.self.inside.takes.trail; connections = c.self.inside.connections.trail; controls = c.self.inside.controls.trail; owners = c.self.inside.owners.trail; lives = c.self.inside.lives.trail; others = c.self.inside.others.trail; counts = c.self.inside.counts; session = c.self.inside.session; handle = c.self.inside.handle; spare = c.self.inside.spare } in
     let rows = c.set-in-Others.new.self.trail in
     let counts = c.moved-self-inside.result in
-    let session = c.self.inside.session + c.opened.result in
+    let session = c.self.inside.session + c.of-gained.result.opened in
     let handle = c.self.inside.handle + c.given.result in
     let spare = c.self.inside.spare - 1 in
     let g : Tables = record f { others = rows; counts = counts; session = session; handle = handle; spare = spare } in
-    let places : Places f g k x Others = record { at_home = sym c.of-2.ensures ∙ c.in-Others.is; set = c.set-in-Others.ensures.facts; stays = but-others f rows counts session handle spare } in
+    let places : Places f g k x Others = record { at_home = sym c.of.ensures ∙ c.in-Others.is; set = c.set-in-Others.ensures.facts; stays = but-others f rows counts session handle spare } in
     let moves : Moves f g k x t = record {
-      counts = follow c.self.inside.counts c.of-lost.result c.of.result counts k x c.fact.result.now (value t k) c.of-lost.ensures (c.fact.ensures t s) c.of.ensures c.moved-self-inside.ensures;
-      session = ap (λ (n : ℕ). c.self.inside.session + n) c.opened.ensures;
+      counts = follow c.self.inside.counts c.of-lost.result c.of-gained.result counts k x c.fact.result.now (value t k) c.of-lost.ensures (c.fact.ensures t s) c.of-gained.ensures c.moved-self-inside.ensures;
+      session = ap (λ (n : Counts). c.self.inside.session + n.opened) c.of-gained.ensures;
       handle = ap (λ (n : ℕ). c.self.inside.handle + n) c.given.ensures;
     } in
     stands-placed f g k x Others t places moves (subst P (sym c.self.view_is) s)

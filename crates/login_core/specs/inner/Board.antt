@@ -6,12 +6,12 @@ use Rattle.login_model.specs.declared.mark.Mark.{Mark}
 use Rattle.login_model.specs.declared.event.Event.{Event}
 use Rattle.login_model.specs.Legal.{trail_of}
 use Rattle.login_core.specs.declared.board.Board.{Board}
-use Rattle.login_core.specs.UnderWay.{so_far, entry_of}
+use Rattle.login_core.specs.inner.UnderWay.{so_far, entry_of}
 
 -- the draft goes on behind the journal, and each empty list for marks has room for all that there may be
 pub record IsBegun (m : Board) : Type 0 where
   pub before : m.draft.before ≡ trail_of m.journal.items
-  pub blanks_fit : m.draft.reach ≤ length m.draft.before + m.journal.room
+  pub blanks_fit : m.draft.reach ≤ length m.draft.before + m.journal.marks
 
 -- the journal has one more entry, whose marks are those that the draft made
 pub record Closes (event : Event) (verdict : Verdict) (answer : Answer) (old new : Board) : Type 0 where

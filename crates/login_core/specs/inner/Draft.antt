@@ -6,7 +6,7 @@ use Rattle.login_model.specs.declared.mark.Mark.TheVariants.{Say}
 use Rattle.login_model.specs.declared.mark.Whom.{Whom}
 use Rattle.login_model.specs.declared.mark.Notice.{Notice}
 use Rattle.login_model.specs.Trail.{Trail}
-use Rattle.login_core.specs.Facts.{Tables, StandFor}
+use Rattle.login_core.specs.inner.Facts.{Tables, StandFor}
 
 -- the marks before the entry under way, and those so far, both the newest first; and how many marks there may
 -- be in all

@@ -1,5 +1,5 @@
 -- Which calls touch the texts of sessions, and which name a seat.
-use Rattle.std.specs.Prelude.{◌≡◌, true, Option, Some, None, IfSome}
+use Rattle.std.specs.Prelude.{◌≡◌, true, IfSome}
 use Rattle.login_base.specs.Seat.{is_seat_name}
 use Rattle.login_base.specs.declared.ids.ConnId.{ConnId}
 use Rattle.login_base.specs.declared.ids.SessId.{SessId}
@@ -9,13 +9,12 @@ use Rattle.login_base.specs.SessionId.{session_of}
 use Rattle.login_model.specs.Trail.{Trail, put}
 use Rattle.login_model.specs.Where.{is_session}
 use Rattle.login_model.specs.Procedure.{release}
-use Rattle.login_model.specs.Direct.{whom_of, activate, lock_session, unlock_session, control}
+use Rattle.login_model.specs.Direct.{activate, lock_session, unlock_session, control}
+use Rattle.login_model.specs.Words.{whom_of}
 use Rattle.login_model.specs.declared.fact.Key.TheVariants.{Sig, Idle, Locked}
 use Rattle.login_model.specs.declared.hardware.Hardware.{Hardware}
 use Rattle.login_model.specs.declared.hardware.Hardware.TheVariants.{Exit}
-use Rattle.login_model.specs.declared.fact.Fact.{Fact}
-use Rattle.login_model.specs.declared.fact.Fact.TheVariants.{Owned, Signal, Flag}
-use Rattle.login_model.specs.declared.fact.Owner.TheVariants.{Fifo}
+use Rattle.login_model.specs.declared.fact.Fact.TheVariants.{Signal, Flag}
 
 -- no session is created by the call, and none closes
 abbrev pub IsPlain : Call → Type 0
@@ -33,21 +32,7 @@ NamesSeat (SwitchToNext seat) = is_seat_name seat ≡ true
 NamesSeat (SwitchToPrevious seat) = is_seat_name seat ≡ true
 NamesSeat _ = Unit {0}
 
--- the session that a call is on, by its id
-abbrev pub session_in : Call → Option SessId
-session_in (Activate id) = session_of id
-session_in (ActivateOnSeat id seat) = session_of id
-session_in (Lock id) = session_of id
-session_in (Unlock id) = session_of id
-session_in (Kill id whom signal) = session_of id
-session_in (Terminate id) = session_of id
-session_in (SetIdle id on) = session_of id
-session_in (SetLocked id on) = session_of id
-session_in (Control id force) = session_of id
-session_in (Uncontrol id) = session_of id
-session_in _ = None
-
--- what a plain call does to it
+-- what a plain call does to the session that it names
 abbrev pub call_on : ConnId → Call → SessId → Trail → Trail
 call_on who (Activate id) s t = activate s t
 call_on who (ActivateOnSeat id seat) s t = activate s t
@@ -64,8 +49,3 @@ call_on who _ s t = t
 abbrev pub ExitsHere : Trail → Hardware → Type 0
 ExitsHere t (Exit id) = IfSome (session_of id) (λ s. is_session t s ≡ true)
 ExitsHere t _ = Unit {0}
-
--- the session whose fifo an owner's fact names
-abbrev pub fifo_session : Fact → Option SessId
-fifo_session (Owned (Fifo c s)) = Some s
-fifo_session _ = None

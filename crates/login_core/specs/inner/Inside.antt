@@ -8,7 +8,7 @@ use Rattle.login_model.specs.Stopping.{stop_from}
 use Rattle.login_model.specs.Where.{connections}
 use Rattle.login_model.specs.declared.setup.Setup.{Setup}
 use Rattle.login_core.specs.Kept.{HaveTexts}
-use Rattle.login_core.specs.Board.{IsBegun}
+use Rattle.login_core.specs.inner.Board.{IsBegun}
 use Rattle.login_core.specs.declared.board.Board.{Board}
 use Rattle.login_core.specs.declared.room.texts.Texts.{Texts}
 use Rattle.login_model.specs.Limits.{entries_limit, marks_limit}
@@ -18,9 +18,9 @@ abbrev pub stop_need : Option ℕ → ℕ
 stop_need None = 1
 stop_need (Some n) = 0
 
--- The setup is one, the journal is legal under it, no operation is asked for, and no entry is under way. There is room for the end of each connection and for the
--- stop: their entries, their marks, the texts of the sessions that close; and with them the journal stays
--- within its limits.
+-- The setup is one, the journal is legal under it, no operation is asked for, and no entry is under way. There
+-- is room for the end of each connection and for the stop: their entries, their marks, the texts of the
+-- sessions that close; and with them the journal stays within its limits.
 pub record IsCore (U : Setup) (m : Board) (texts : Texts) (stop : Option ℕ) : Type 0 where
   pub set_up : IsSetup U
   pub legal : IsLegal U m.journal.items

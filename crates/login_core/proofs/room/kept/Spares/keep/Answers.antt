@@ -2,7 +2,7 @@ use Rattle.std.proofs.Common.{◌≡◌, ◌==◌, ◌++◌, ◌∷◌, [], ◌�
 use Rattle.login_core.specs.declared.room.kept.KeptRow.{KeptRow}
 use Rattle.login_core.specs.Kept.{copies_in}
 use Rattle.login_core.proofs.KeptRows.{copies-own, copies-other}
-use Rattle.login_core.proofs.room.kept.Kept.keep.Goals as goal
+use Rattle.login_core.proofs.room.kept.Spares.keep.Goals as goal
 
 pub returns-clause-own : goal.returns-clause-own
 returns-clause-own c = λ none.

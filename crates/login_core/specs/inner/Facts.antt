@@ -1,15 +1,15 @@
 -- The facts in their tables.
 use Rattle.std.specs.Prelude.{ℕ, ◌≡◌, ◌+◌, ◌<◌, ◌^◌, if◌then◌else◌, length}
 use Rattle.login_model.specs.declared.fact.Key.{Key}
-use Rattle.login_model.specs.declared.fact.Key.TheVariants.{Sess, Owner}
+use Rattle.login_model.specs.declared.fact.Key.TheVariants.{Owner}
 use Rattle.login_model.specs.declared.fact.Fact.{Fact}
 use Rattle.login_model.specs.Trail.{Trail, value}
-use Rattle.login_model.specs.Fresh.{fresh_session, fresh_handle, is_open_fact, is_owned_fact}
+use Rattle.login_model.specs.Fresh.{fresh_session, fresh_handle, is_owned_fact}
 use Rattle.login_core.specs.declared.board.home.Home.{Home}
 use Rattle.login_core.specs.declared.board.home.Home.TheVariants.{Users, Sessions, Seats, Takes, Connections, Controls, Owners, Lives, Others}
 use Rattle.login_core.specs.declared.room.counts.Counts.{Counts}
-use Rattle.login_core.specs.Counts.{AreCounted}
-use Rattle.login_core.specs.Home.{home}
+use Rattle.login_core.specs.inner.Counts.{AreCounted, counts_of}
+use Rattle.login_core.specs.inner.Home.{home}
 
 -- what facts are seen as: what each table has, as settings; how many there are of what needs room; the numbers
 -- of the next session and the next handle; and how many more settings go in without memory
@@ -60,8 +60,7 @@ pub record StandForFew (f : Tables) : Type 0 where
 
 -- how many sessions a setting opens
 abbrev pub opens : Key → Fact → ℕ
-opens (Sess s) x = if is_open_fact x then 1 else 0
-opens _ x = 0
+opens k x = (counts_of k x).opened
 
 -- how many handles a setting gives out
 abbrev pub gives : Key → Fact → ℕ

@@ -5,7 +5,7 @@ use Rattle.login_core.specs.declared.room.copies.Copies.{Copies}
 use Rattle.login_core.specs.declared.room.kept.KeptRow.{KeptRow}
 use Rattle.login_core.specs.Kept.{is_row_of, copies_in}
 use Rattle.login_core.proofs.KeptRows.{copies_at, copies-place, copies-nowhere, removed-others}
-use Rattle.login_core.proofs.room.kept.Kept.take.Goals as goal
+use Rattle.login_core.proofs.room.kept.Spares.take.Goals as goal
 
 pub returns-in_err-at-clause-value : goal.returns-in_err-at-clause-value
 returns-in_err-at-clause-value c =

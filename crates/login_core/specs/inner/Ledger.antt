@@ -9,14 +9,14 @@ use Rattle.login_model.specs.declared.mark.Mark.{Mark}
 pub record LedgerState : Type 0 where
   pub items : List Entry
   pub entries : ℕ
-  pub room : ℕ
+  pub marks : ℕ
 
 -- each of these lists of marks is empty, and has room for so many
 abbrev pub HaveRoom : ℕ → List (Room Mark) → Type 0
-HaveRoom room blanks = AllByRecursion (λ (b : Room Mark). (b.items ≡ []) × (room ≤ b.spare)) blanks
+HaveRoom marks blanks = AllByRecursion (λ (b : Room Mark). (b.items ≡ []) × (marks ≤ b.spare)) blanks
 
 -- the room that is told is there
-pub record IsLedger (entries room spare : ℕ) (blanks : List (Room Mark)) : Type 0 where
+pub record IsLedger (entries marks spare : ℕ) (blanks : List (Room Mark)) : Type 0 where
   pub entries_fit : entries ≤ spare
   pub blanks_fit : entries ≤ length blanks
-  pub have_room : HaveRoom room blanks
+  pub have_room : HaveRoom marks blanks

@@ -86,17 +86,17 @@ counts_of k x = record {
 }
 
 -- a count can lose so many and gain so many
-abbrev pub Fits : ℕ → ℕ → ℕ → Type 0
-Fits count lost gained = (lost ≤ count) × (count + gained < 2 ^ 32)
+abbrev pub CanMove : ℕ → ℕ → ℕ → Type 0
+CanMove count lost gained = (lost ≤ count) × (count + gained < 2 ^ 32)
 
-pub record Fit (c lost gained : Counts) : Type 0 where
-  pub connections : Fits c.connections lost.connections gained.connections
-  pub controlled : Fits c.controlled lost.controlled gained.controlled
-  pub locks : Fits c.locks lost.locks gained.locks
-  pub opened : Fits c.opened lost.opened gained.opened
-  pub present : Fits c.present lost.present gained.present
-  pub taken : Fits c.taken lost.taken gained.taken
-  pub users : Fits c.users lost.users gained.users
+pub record CanAllMove (c lost gained : Counts) : Type 0 where
+  pub connections : CanMove c.connections lost.connections gained.connections
+  pub controlled : CanMove c.controlled lost.controlled gained.controlled
+  pub locks : CanMove c.locks lost.locks gained.locks
+  pub opened : CanMove c.opened lost.opened gained.opened
+  pub present : CanMove c.present lost.present gained.present
+  pub taken : CanMove c.taken lost.taken gained.taken
+  pub users : CanMove c.users lost.users gained.users
 
 -- the counts that come of some when so many are lost and so many are gained
 pub record Follow (c lost gained d : Counts) : Type 0 where

@@ -1,0 +1,17 @@
+pub mod Chosen
+pub mod Rounds
+pub mod Counts
+pub mod Home
+pub mod Facts
+pub mod Told
+pub mod Handles
+pub mod Ledger
+pub mod Ending
+pub mod UnderWay
+pub mod Draft
+pub mod Board
+pub mod Awaiting
+pub mod Leaving
+pub mod Places
+pub mod Calls
+pub mod Inside
