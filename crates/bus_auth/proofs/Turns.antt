@@ -14,7 +14,7 @@ use Rattle.bus_auth.specs.declared.hearing.Outcome.TheVariants.{Ended as ended, 
 use Rattle.bus_auth.specs.Cutting.{Lines, Whole, Open, cut, without_cr, IsFirstEnd}
 use Rattle.bus_auth.specs.Table.{reply_text}
 use Rattle.bus_auth.specs.Greeting.{Greeting, State, Begun, Ended, Talking, run, follow, turn_of, answered, with_no_reply, behind_replies}
-use Rattle.bus_auth.specs.Outcomes.{state_in, open_outcome, IsOpenIn}
+use Rattle.bus_auth.specs.inner.Outcomes.{state_in, open_outcome, IsOpenIn}
 
 -- so many bytes are whole lines, which were answered, and the table is run over the rest; no line
 -- ends in the first bytes of that

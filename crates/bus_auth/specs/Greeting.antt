@@ -9,6 +9,7 @@ use Rattle.bus_auth.specs.declared.table.Turn.{Turn}
 use Rattle.bus_auth.specs.declared.table.Turn.TheVariants.{Answer, Begin, End}
 use Rattle.bus_auth.specs.declared.hearing.Talk.{Talk}
 use Rattle.bus_auth.specs.Cutting.{Lines, Whole, Open, cut, without_cr}
+use Rattle.bus_auth.specs.Limits.{most_bytes, most_lines}
 use Rattle.bus_auth.specs.Commands.{command_of}
 use Rattle.bus_auth.specs.Table.{row, reply_text}
 
@@ -31,11 +32,11 @@ with_no_reply state = record { replies = []; state = state }
 abbrev pub behind_replies : List ℕ → Greeting → Greeting
 behind_replies bytes greeting = record { replies = bytes ++ greeting.replies; state = greeting.state }
 
--- what a whole line leads to: it may have 512 bytes before its CR LF, and may not be the 65th
+-- what a whole line leads to: it may not be too long, and may not be one too many
 unfoldable pub turn_of : Uid → Talk → List ℕ → Turn
 turn_of uid talk line =
-    if nat_lt 512 (length line) then End LineTooLong
-    else if nat_lt talk.lines 64 then row talk.stage (command_of uid line)
+    if nat_lt most_bytes (length line) then End LineTooLong
+    else if nat_lt talk.lines most_lines then row talk.stage (command_of uid line)
     else End TooManyLines
 
 -- a talk after one more line
@@ -51,7 +52,7 @@ follow guid (End ending) behind more = with_no_reply (Ended ending)
 -- the table run over lines: an open line is too long once no bytes can end it in time
 unfoldable pub run : Uid → List ℕ → Talk → Lines → Greeting
 run uid guid talk (Open line) =
-    if nat_lt 512 (length (without_cr line)) then with_no_reply (Ended LineTooLong)
+    if nat_lt most_bytes (length (without_cr line)) then with_no_reply (Ended LineTooLong)
     else with_no_reply (Talking talk line)
 run uid guid talk (Whole line behind more) =
     follow guid (turn_of uid talk line) behind (λ stage. run uid guid (answered talk stage) more)

@@ -5,7 +5,7 @@ ghost use Rattle.bus_auth.specs.Greeting.{WaitingForNul, Begun, Ended, greet, ru
 ghost use Rattle.bus_auth.specs.Standing.{kept, state_of, open_line, IsKept};
 ghost use Rattle.bus_auth.specs.Hearing.{HasHeard, Hears, told, Tells, Gives, IsEnded};
 ghost use Rattle.bus_auth.specs.Cutting.{cut};
-ghost use Rattle.bus_auth.specs.Outcomes.{state_in, IsOpenIn};
+ghost use Rattle.bus_auth.specs.inner.Outcomes.{state_in, IsOpenIn};
 
 use crate::hearing::{Heard, Outcome, Progress, Talk, hear_lines};
 use crate::step::{AuthState, AuthStep};

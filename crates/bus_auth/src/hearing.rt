@@ -3,7 +3,7 @@
 ghost use Rattle.std.specs.Prelude.{◌≡◌, ◌≤◌, ◌<◌, length, take, IfOk, ◌++◌};
 ghost use Rattle.bus_auth.specs.Cutting.{Open, cut};
 ghost use Rattle.bus_auth.specs.Greeting.{turn_of, run};
-ghost use Rattle.bus_auth.specs.Outcomes.{greeting_in, IsOpenIn, HasRoom, open_outcome};
+ghost use Rattle.bus_auth.specs.inner.Outcomes.{greeting_in, IsOpenIn, HasRoom, open_outcome};
 
 use crate::command::read_command;
 use crate::line::{first_end, least_length};

@@ -26,7 +26,7 @@ use Rattle.bus_message.specs.declared.header.Header.{Header}
 use Rattle.bus_message.specs.Faults.{for_cause, Gives}
 use Rattle.bus_message.specs.Headers.{fields_end, body_start}
 use Rattle.bus_message.specs.Reading.{fields_read, body_read}
-use Rattle.bus_message.specs.Names.{Names}
+use Rattle.bus_message.specs.inner.Names.{Names}
 use Rattle.bus_value.specs.Fields.{list_type, listed, fields_in}
 use Rattle.bus_message.specs.Fields.{found, signature, text_at, types_at, name_at}
 

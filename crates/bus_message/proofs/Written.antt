@@ -23,7 +23,7 @@ use Rattle.bus_message.specs.Checks.{Tells}
 use Rattle.bus_value.specs.Fields.{field_type, list_type}
 use Rattle.bus_message.specs.Fields.{found, path_at, u32_at, name_at, is_typed, is_bad, bad_field, has_required, signature}
 use Rattle.bus_message.specs.Spelling.{opening, field, field_if, body_types, fields_of, list_of, list_bytes, behind_list, body_bytes, assembled, message_with, message_bytes}
-use Rattle.bus_message.specs.Named.{IsNameIf, IsU32If, HasNames, HasRanges}
+use Rattle.bus_message.specs.inner.Named.{IsNameIf, IsU32If, HasNames, HasRanges}
 use Rattle.bus_message.specs.Grammar.{HasNumbers, HasFields, IsSpelled}
 use Rattle.bus_message.proofs.NameTexts.{interface_text, member_text, bus_name_text}
 

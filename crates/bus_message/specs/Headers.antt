@@ -31,9 +31,12 @@ size h = body_start h + h.body
 abbrev pub HasRoom : Header → Type 0
 HasRoom h = (h.fields < 2 ^ 32) × (h.body < 2 ^ 32)
 
--- the longest message
+-- how many bytes a message has at most that is cut, and one that is written
 abbrev pub most : ℕ
 most = 1048576
+
+abbrev pub most_written : ℕ
+most_written = 2 ^ 27
 
 -- what the bytes say in an order
 abbrev pub stated : List ℕ → Order → Header

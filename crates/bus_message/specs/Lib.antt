@@ -1,10 +1,7 @@
 pub mod Faults
 pub mod Headers
 pub mod Fields
-pub mod Names
 pub mod Reading
-pub mod Kept
-pub mod Parts
 pub mod Checks
 pub mod Cutting
 pub mod Feeding
@@ -12,5 +9,5 @@ pub mod Outcomes
 pub mod Spelling
 pub mod Grammar
 pub mod Stream
-pub mod Named
 pub mod Laws
+pub mod inner

@@ -11,8 +11,8 @@ ghost use Rattle.bus_value.specs.declared.basic_value.BasicValue.TheVariants.{St
 ghost use Rattle.bus_value.specs.Fields.{field_type};
 ghost use Rattle.bus_message.specs.Fields.{has_required};
 ghost use Rattle.bus_message.specs.Grammar.{IsSpelled};
-ghost use Rattle.bus_message.specs.Headers.{order_letter};
-ghost use Rattle.bus_message.specs.Named.{HasAnswer, HasNames, HasParties, HasRanges, HasTarget, IsNameIf, IsU32If};
+ghost use Rattle.bus_message.specs.Headers.{most_written, order_letter};
+ghost use Rattle.bus_message.specs.inner.Named.{HasAnswer, HasNames, HasParties, HasRanges, HasTarget, IsNameIf, IsU32If};
 ghost use Rattle.bus_message.specs.Spelling.{assembled, answer_fields, body_offset, body_types, field, field_if, fields_of, list_of, message_bytes, opening, party_fields, target_fields};
 
 use crate::message::Message;
@@ -25,10 +25,9 @@ use std::alloc::Global;
 fn field(alloc: Global, number: u8, value: BasicValue) -> Result<Value, NoMemory>
     ensures { IfOk result (λ made. made ≡ field number value) }
 {
-    let mut parts = Vec::new(alloc);
-    parts.push(Value::basic(BasicValue::Byte(number)))?;
-    parts.push(Value::variant(alloc, Value::basic(value))?)?;
-    Ok(Value::structure(parts))
+    let inside = Value::variant(alloc, Value::basic(value))?;
+    let parts = [Value::basic(BasicValue::Byte(number)), inside];
+    Ok(Value::structure(Vec::from_array(alloc, parts)?))
 }
 
 /// Puts a field at the end.
@@ -199,10 +198,8 @@ fn fields_of(alloc: Global, message: &Message) -> Result<Vec<Value>, NoMemory>
 fn field_type(alloc: Global) -> Result<Type, NoMemory>
     ensures { IfOk result (λ made. made ≡ field_type) }
 {
-    let mut parts = Vec::new(alloc);
-    parts.push(Type::basic(Basic::Byte))?;
-    parts.push(Type::variant())?;
-    Type::structure(alloc, parts)
+    let parts = [Type::basic(Basic::Byte), Type::variant()];
+    Type::structure(alloc, Vec::from_array(alloc, parts)?)
 }
 
 /// The one value that the fields are.
@@ -263,7 +260,7 @@ pub fn encode(alloc: Global, message: &Message) -> Result<Bytes, NoMemory>
     requires types { IsWithin (shapes (vals message.now.body)) }
     requires body { AreTyped 0 (shapes (vals message.now.body)) (vals message.now.body) }
     requires body_limits { AllFit message.now.order (body_offset message.now) (vals message.now.body) }
-    requires size { length (message_bytes message.now) ≤ 2 ^ 27 }
+    requires size { length (message_bytes message.now) ≤ most_written }
     ensures written { IfOk result (λ bytes. bytes ≡ message_bytes message.now) }
     // these bytes are the message, however long it is
     ensures spelled { IfOk result (λ bytes. IsSpelled bytes message.now) }

@@ -3,8 +3,8 @@
 ghost use Rattle.std.specs.Prelude.{◌≡◌, ◌<◌, ◌^◌, None, Some, is_some, IfOk, MatchOption};
 ghost use Rattle.bus_names.specs.Reading.{interface_fault, member_fault, bus_name_fault};
 ghost use Rattle.bus_message.specs.Fields.{found, plain, path_at, text_at, u32_at, types_at, name_at, signature, handles};
-ghost use Rattle.bus_message.specs.Kept.{shown};
-ghost use Rattle.bus_message.specs.Names.{Names};
+ghost use Rattle.bus_message.specs.inner.Kept.{shown};
+ghost use Rattle.bus_message.specs.inner.Names.{Names};
 
 use bus_names::{BusName, Interface, Member, NameFault, ObjectPath, Signature};
 use bus_value::{BasicValue, Field};
@@ -38,13 +38,23 @@ fn plain(fields: &[Field], wanted: u8) -> Option<&BasicValue>
     None
 }
 
+/// The object path in a field.
+fn path_in(fields: &[Field], wanted: u8) -> Option<&ObjectPath>
+    ensures { MatchOption result (path_at (found wanted (shown fields.now)) ≡ None) (λ path. path_at (found wanted (shown fields.now)) ≡ Some path.now) }
+{
+    match plain(fields, wanted) {
+        Some(BasicValue::Path(path)) => Some(path),
+        _ => None,
+    }
+}
+
 /// The object path that a field holds.
 pub(crate) fn path(fields: &[Field], wanted: u8) -> Result<Option<ObjectPath>, NoMemory>
     ensures { IfOk result (λ path. path ≡ path_at (found wanted (shown fields.now))) }
 {
-    match plain(fields, wanted) {
-        Some(BasicValue::Path(path)) => Ok(Some(path.copied()?)),
-        _ => Ok(None),
+    match path_in(fields, wanted) {
+        Some(path) => Ok(Some(path.copied()?)),
+        None => Ok(None),
     }
 }
 

@@ -2,7 +2,7 @@
 
 ghost use Rattle.std.specs.Prelude.{◌≡◌, ◌≤◌, ◌<◌, ◌^◌, length, IfOk};
 ghost use Rattle.bus_message.specs.Faults.{Gives};
-ghost use Rattle.bus_message.specs.Headers.{order_of, stated, header_of, fields_end, body_start, size, HasRoom};
+ghost use Rattle.bus_message.specs.Headers.{order_of, stated, header_of, fields_end, body_start, size, most, HasRoom};
 
 use crate::fault::{Cause, Refusal, refuse};
 use bus_value::{Order, pad_size, read_u32};
@@ -85,7 +85,7 @@ fn stated(bytes: &[u8], order: Order) -> Header
 pub(crate) fn read_header(bytes: &[u8]) -> Result<Header, Refusal>
     requires { length bytes.now ≡ 16 }
     ensures value { Gives result (header_of bytes.now) }
-    ensures small { IfOk result (λ header. size header ≤ 1048576) }
+    ensures small { IfOk result (λ header. size header ≤ most) }
 {
     let Some(order) = order_of(bytes[0]) else {
         return refuse(Cause::BadOrder, 0);

@@ -1,12 +1,12 @@
+pub mod Limits
 pub mod Grammar
 pub mod Reading
 pub mod Unescape
 pub mod Types
-pub mod ShapeCode
 pub mod Nodes
 pub mod Letters
-pub mod NodeFalls
 pub mod Frames
 pub mod Parsing
 pub mod Signatures
 pub mod Kinds
+pub mod inner

@@ -3,6 +3,7 @@ use Rattle.std.specs.Prelude.{ℕ, ◌≡◌, ◌≤◌, ◌<◌, ◌+◌, List,
 use Rattle.login_base.specs.Names.{IsFault}
 use Rattle.bus_names.specs.declared.fault.NameFault.{NameFault}
 use Rattle.bus_names.specs.declared.fault.NameFault.TheVariants.{BadName, BadLabel, BadSignature, TooDeep, NoMemory}
+use Rattle.bus_names.specs.Limits.{most_letters}
 use Rattle.bus_names.specs.Types.{Shape, signature_text, arrays_all, structs_all}
 
 -- arrays and structs are nested within a limit, each counted apart
@@ -10,10 +11,10 @@ pub record IsNested (limit : ℕ) (ts : List Shape) : Type 0 where
   pub in_arrays : arrays_all ts ≤ limit
   pub in_structs : structs_all ts ≤ limit
 
--- the types of a signature: up to 32 arrays and up to 32 structs deep, and up to 255 letters long
+-- the types of a signature: up to 32 arrays and up to 32 structs deep, and so many letters long at most
 pub record IsWithin (ts : List Shape) : Type 0 where
   pub nested : IsNested 32 ts
-  pub short : length (signature_text ts) ≤ 255
+  pub short : length (signature_text ts) ≤ most_letters
 
 -- a text of types that are nested within a limit
 pub record IsSignature (limit : ℕ) (text : List ℕ) : Type 0 where
@@ -42,8 +43,8 @@ pub record IsBad (text : List ℕ) (offset : ℕ) : Type 0 where
 -- an opening that is one too many.
 abbrev pub Explains : List ℕ → Result (List Shape) NameFault → Type 0
 Explains text (Ok ts) = (text ≡ signature_text ts) × IsWithin ts
-Explains text (Err (BadSignature offset)) = ((255 < length text) × (offset ≡ 255)) ⊎ ((length text ≤ 255) × IsBad text offset)
-Explains text (Err (TooDeep offset)) = (length text ≤ 255) × IsTooDeep text offset
+Explains text (Err (BadSignature offset)) = ((most_letters < length text) × (offset ≡ most_letters)) ⊎ ((length text ≤ most_letters) × IsBad text offset)
+Explains text (Err (TooDeep offset)) = (length text ≤ most_letters) × IsTooDeep text offset
 Explains text (Err (BadName offset)) = ⊥
 Explains text (Err BadLabel) = ⊥
 Explains text (Err NoMemory) = ⊥

@@ -4,6 +4,9 @@ ghost use Rattle.std.specs.Prelude.{◌≡◌, ◌≤◌, ◌<◌, ◌+◌, ◌^
 ghost use Rattle.login_base.specs.Names.{is_digit, is_word_byte};
 ghost use Rattle.bus_names.specs.Grammar.{stands, begins, separator, repeats, start, next, wanted, is_path, fits, step, fault_from};
 
+/// The longest name, in bytes, unless it is a path.
+const MOST_BYTES: usize = 255;
+
 /// The kinds of names.
 #[derive(Clone, Copy, Debug, PartialEq, Eq)]
 pub enum Grammar {
@@ -116,11 +119,11 @@ fn wanted(place: Place) -> usize
     }
 }
 
-/// Whether a name may have so many bytes: a path always, others up to 255.
+/// Whether a name may have so many bytes. A path may have any number.
 fn fits(grammar: Grammar, count: usize) -> bool
     ensures { result ≡ fits grammar count }
 {
-    matches!(grammar, Grammar::Path) || count <= 255
+    matches!(grammar, Grammar::Path) || count <= MOST_BYTES
 }
 
 /// The place behind the byte at an offset, where a name can still follow.

@@ -1,6 +1,7 @@
 // How signatures are read: letter by letter, with the containers that are open.
 
 ghost use Rattle.std.specs.Prelude.{◌≡◌, ◌<◌, ◌≤◌, ◌^◌, ◌+◌, length, OnOk, IsTrue};
+ghost use Rattle.bus_names.specs.Limits.{most_letters};
 ghost use Rattle.bus_names.specs.Parsing.{complete, open_array, open_struct, open_entry, close_struct, other_letter, first_letter, key_letter, end_letter, step, Steps, is_ready, start, parse_from, Parses};
 
 use crate::basic::Basic;
@@ -232,7 +233,7 @@ impl Parser {
 
 /// The types whose signatures stand in the text one after another.
 pub fn parse(alloc: Global, text: &[u8]) -> Result<Items<Type>, NameFault>
-    requires { length text.now ≤ 255 }
+    requires { length text.now ≤ most_letters }
     ensures { Parses result (parse_from 32 start 0 text.now) }
 {
     let mut parser = Parser::new(alloc);

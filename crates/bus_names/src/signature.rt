@@ -26,7 +26,7 @@ impl Model for Signature {
     ghost use Rattle.std.specs.Prelude.{List};
     ghost use Rattle.std.specs.Coded.{coded_list};
     ghost use Rattle.bus_names.specs.Types.{Shape};
-    ghost use Rattle.bus_names.specs.ShapeCode.{shape_code};
+    ghost use Rattle.bus_names.specs.inner.ShapeCode.{shape_code};
     ghost use Rattle.bus_names.specs.Signatures.{IsWithin};
 
     ghost Value = { List Shape };

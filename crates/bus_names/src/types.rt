@@ -44,7 +44,7 @@ pub enum Kind<'a> {
 
 impl Model for Type {
     ghost use Rattle.bus_names.specs.Types.{Shape, parts};
-    ghost use Rattle.bus_names.specs.ShapeCode.{shape_code};
+    ghost use Rattle.bus_names.specs.inner.ShapeCode.{shape_code};
 
     ghost Value = { Shape };
 
@@ -58,7 +58,7 @@ impl Model for Type {
 
     ghost size = { parts };
 
-    ghost use Rattle.bus_names.specs.NodeFalls.{deep_parts};
+    ghost use Rattle.bus_names.specs.inner.NodeFalls.{deep_parts};
 
     ghost size_decreases = { λ a h. deep_parts a.node h };
 }

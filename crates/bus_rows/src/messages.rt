@@ -5,6 +5,7 @@ ghost use Rattle.std.specs.Prelude.{◌≡◌, [], None, Some};
 mod accepted;
 mod clients;
 mod faults;
+mod header_fields;
 mod limits;
 
 use accepted::{BY_HAND, GLIB, JEEPNEY};
@@ -15,6 +16,7 @@ use clients::{SENT, Sent};
 use faults::{
     BIG_FIELDS, BIG_REST, BIG_VALUES, HEADERS, LITTLE_FIELDS, LITTLE_REST, LITTLE_VALUES, Row,
 };
+use header_fields::are_read;
 use limits::LIMITS;
 use login_base::{Items, NoMemory};
 use std::alloc::Global;
@@ -200,18 +202,41 @@ fn are_cut_byte_by_byte(alloc: Global, text: &[u8], ends: &[usize]) -> Result<bo
     Ok(true)
 }
 
-/// Whether each is accepted, as a whole, in two pieces and byte by byte.
+/// Whether the messages say what was sent.
+fn are_sent(alloc: Global, messages: &[Message], all: &[Sent]) -> Result<bool, NoMemory> {
+    for (message, sent) in messages.iter().zip(all) {
+        if !is_sent(alloc, message, sent)? {
+            return Ok(false);
+        }
+    }
+    Ok(messages.len() == all.len())
+}
+
+/// Whether the messages are cut from one piece, in order.
+fn are_in_one_piece(alloc: Global, all: &[Sent]) -> Result<bool, NoMemory> {
+    let mut text = Vec::new(alloc);
+    for sent in all {
+        text.extend_from_slice(sent.bytes)?;
+    }
+    let mut cutter = Cutter::new(alloc);
+    let cut = cutter.feed(alloc, text.as_slice())?;
+    Ok(cut.malformed.is_none() && are_sent(alloc, cut.messages.as_slice(), all)?)
+}
+
+/// Whether each is accepted, as a whole, in two pieces and byte by byte, and its fields are read apart; and whether all are
+/// accepted in one piece.
 fn are_accepted(alloc: Global, messages: &[Sent]) -> Result<bool, NoMemory> {
     for sent in messages {
         let ends = [sent.bytes.len()];
         if !is_whole(alloc, sent)?
             || !are_cut_in_two(alloc, sent.bytes, &ends)?
             || !are_cut_byte_by_byte(alloc, sent.bytes, &ends)?
+            || !are_read(alloc, sent)?
         {
             return Ok(false);
         }
     }
-    Ok(true)
+    are_in_one_piece(alloc, messages)
 }
 
 #[test]
@@ -261,36 +286,6 @@ fn two_calls_in_any_pieces(rt: HostRuntime) -> Result<(), NoMemory> {
     let ends = [GET_SESSION.len(), text.len()];
     assert!(rt; are_cut_in_two(alloc, text.as_slice(), &ends)?);
     assert!(rt; are_cut_byte_by_byte(alloc, text.as_slice(), &ends)?);
-    Ok(())
-}
-
-/// Whether the messages say what was sent.
-fn are_sent(alloc: Global, messages: &[Message], all: &[Sent]) -> Result<bool, NoMemory> {
-    for (message, sent) in messages.iter().zip(all) {
-        if !is_sent(alloc, message, sent)? {
-            return Ok(false);
-        }
-    }
-    Ok(messages.len() == all.len())
-}
-
-/// Whether the messages are cut from one piece, in order.
-fn are_in_one_piece(alloc: Global, all: &[Sent]) -> Result<bool, NoMemory> {
-    let mut text = Vec::new(alloc);
-    for sent in all {
-        text.extend_from_slice(sent.bytes)?;
-    }
-    let mut cutter = Cutter::new(alloc);
-    let cut = cutter.feed(alloc, text.as_slice())?;
-    Ok(cut.malformed.is_none() && are_sent(alloc, cut.messages.as_slice(), all)?)
-}
-
-#[test]
-fn many_messages_in_one_piece(rt: HostRuntime) -> Result<(), NoMemory> {
-    let alloc = rt.alloc();
-    for all in [SENT, GLIB, JEEPNEY, BY_HAND] {
-        assert!(rt; are_in_one_piece(alloc, all)?);
-    }
     Ok(())
 }
 

@@ -16,7 +16,7 @@ use Rattle.bus_value.specs.Reading.{Reading, Answer, made, read_basic, read_vari
 use Rattle.bus_value.specs.Values.{Val, vals, entries}
 use Rattle.bus_value.specs.Values as values
 use Rattle.bus_value.specs.Faults.{told, and_then, check_padding}
-use Rattle.bus_value.specs.Opening.{Opens, OpensAt}
+use Rattle.bus_value.specs.inner.Opening.{Opens, OpensAt}
 use Rattle.bus_value.proofs.Chains.{and_then_ok, padded_at}
 use Rattle.bus_value.proofs.Levels.{variant_level, array_level, dict_level, entry_level, struct_level}
 

@@ -19,7 +19,7 @@ use Rattle.bus_value.specs.BasicValues.{kind_of}
 use Rattle.bus_value.specs.Faults.{told, and_then, check_padding}
 use Rattle.bus_value.specs.Fields.{basic_in, field_at, field_type, list_type, listed, kept_if, kept_of, kept_by, kept_in, IsSeen}
 use Rattle.bus_value.specs.Reading.{Reading, Answer, made, read, read_basic, in_turn, to_end, levels, ended, read_all}
-use Rattle.bus_value.specs.Opening.{Opens, OpensAt}
+use Rattle.bus_value.specs.inner.Opening.{Opens, OpensAt}
 use Rattle.bus_value.specs.Spelling.{pad_size, spelling, spellings, behind_length, first_element}
 use Rattle.bus_value.specs.Values.{Val, basic, array, struct, dict, variant, shape, vals}
 use Rattle.bus_value.proofs.BasicSound.{bytes_drop}

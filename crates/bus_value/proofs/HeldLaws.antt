@@ -13,6 +13,7 @@ use Rattle.bus_value.specs.declared.values.Held.{Held}
 use Rattle.bus_value.specs.declared.values.Held.TheVariants.{Read}
 use Rattle.bus_value.specs.declared.values.Spelled.{Spelled}
 use Rattle.bus_value.proofs.NumberSound.{AreBytes}
+use Rattle.bus_value.proofs.Typing.{IsComputed}
 use Rattle.bus_value.proofs.ValueSound.{all_values_sound}
 
 pub ok_is : {A E : Type 0} (r : Result A E) (a : A) → r ≡ Ok a → IsOk r
@@ -48,11 +49,15 @@ kept_so o start ts us bytes copy same as_they_were h are =
     subst (λ (ws : List Shape). IsHeld (Read (record { order = o; start = start; types = ws; bytes = copy }))) (sym same)
     (subst (λ (xs : List ℕ). IsHeld (Read (record { order = o; start = start; types = ts; bytes = xs }))) (sym as_they_were) (is_held (record { order = o; start = start; types = ts; bytes = bytes }) h are))
 
+-- bytes that are kept spell their values
+pub held_sound : (s : Spelled) → IsHeld (Read s) → IsComputed s.order s.start s.types (values_in (read_in s)) s.bytes
+held_sound s h =
+    let k = both (is_ok (read_in s)) (are_bytes s.bytes) h in
+    all_values_sound s.order s.start s.types s.bytes (values_in (read_in s)) (are_so s.bytes k.1) (are_in (read_in s) k.0)
+
 -- values that were read are of the types of their signature
 read_shapes : (s : Spelled) → IsHeld (Read s) → shapes (vals (values_in (read_in s))) ≡ s.types
-read_shapes s h =
-    let k = both (is_ok (read_in s)) (are_bytes s.bytes) h in
-    (all_values_sound s.order s.start s.types s.bytes (values_in (read_in s)) (are_so s.bytes k.1) (are_in (read_in s) k.0)).types
+read_shapes s h = (held_sound s h).types
 
 -- the same of what a value holds
 pub held_shapes : (held : Held) (s : Spelled) (vs : List Val) → held ≡ Read s → IsHeld held → held_in held ≡ vs → s.types ≡ shapes (vals vs)

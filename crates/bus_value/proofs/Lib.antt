@@ -25,5 +25,6 @@ pub mod Lasting
 pub mod LengthLaws
 pub mod GrammarLaws
 pub mod HeldLaws
+pub mod Boundaries
 pub mod Letters
 pub mod TypedLaws

@@ -11,7 +11,7 @@ use Rattle.bus_value.specs.Alignment.{alignment}
 use Rattle.bus_value.specs.Answers.{IsAccepted}
 use Rattle.bus_value.specs.BasicReading.{body_size, decoded}
 use Rattle.bus_value.specs.Faults.{check_padding, zeros, and_then}
-use Rattle.bus_value.specs.Plain.{plain_size}
+use Rattle.bus_value.specs.inner.Plain.{plain_size}
 use Rattle.bus_value.specs.Reading.{all_of, to_end, levels, made, read, read_basic}
 use Rattle.bus_value.specs.Spelling.{pad_size}
 use Rattle.bus_value.specs.Values.{Val}

@@ -14,6 +14,7 @@ use Rattle.bus_value.specs.declared.order.Order.{Order}
 use Rattle.bus_value.specs.Values.{Val, Vals, Entries, vals, count}
 use Rattle.bus_value.specs.Values as values
 use Rattle.bus_value.specs.Alignment.{alignment, boundary}
+use Rattle.bus_value.specs.Limits.{most_open}
 use Rattle.bus_value.specs.Nesting.{nesting}
 use Rattle.bus_value.specs.Numbers.{number_bytes}
 use Rattle.bus_value.specs.Texts.{is_text}
@@ -71,8 +72,8 @@ mutual
     dict : {depth at : ℕ} {b : Basic} {t : Shape} {es : Entries} {bytes : List ℕ} → IsSpelled o depth at (types.array (pair_type b t)) (values.array (pair_type b t) (pairs es)) bytes →
         IsSpelled o depth at (types.dict b t) (values.dict b t es) bytes
     -- A variant: the signature of the value's type, and the value. The containers that are open, the variant and those
-    -- in this type are at most 64.
-    variant : {depth at : ℕ} {t : Shape} {v : Val} {letters body : List ℕ} → IsBasic o kinds.Sig (Sig (t ∷ [])) letters → depth + 1 + nesting t ≤ 64 →
+    -- in this type are limited.
+    variant : {depth at : ℕ} {t : Shape} {v : Val} {letters body : List ℕ} → IsBasic o kinds.Sig (Sig (t ∷ [])) letters → depth + 1 + nesting t ≤ most_open →
         IsSpelled o (depth + 1) (at + length letters) t v body → IsSpelled o depth at types.variant (values.variant v) (letters ++ body)
 
   -- the same of values of several types, one behind the other

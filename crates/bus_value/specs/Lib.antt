@@ -1,8 +1,6 @@
 pub mod BasicValues
 pub mod Values
-pub mod ValueCode
 pub mod Nodes
-pub mod NodeFalls
 pub mod Kinds
 pub mod Spelling
 pub mod Alignment
@@ -10,11 +8,9 @@ pub mod Limits
 pub mod Faults
 pub mod Fields
 pub mod BasicReading
-pub mod Plain
 pub mod Reading
 pub mod Answers
 pub mod Held
-pub mod Opening
 pub mod Nesting
 pub mod Numbers
 pub mod Texts
@@ -22,3 +18,4 @@ pub mod Grammar
 pub mod Lengths
 pub mod Typed
 pub mod Laws
+pub mod inner

@@ -8,6 +8,14 @@ use Rattle.bus_value.specs.Values.{Val, Vals, Entries, basic, array, struct, dic
 use Rattle.bus_value.specs.Spelling.{pad_size, first_element, spelling, spellings, entry_spellings, signature_bytes, pair_bytes, value_at}
 use Rattle.bus_value.specs.Alignment.{boundary}
 
+-- how many containers are open at most in a variant's value, the variant among them
+abbrev pub most_open : ℕ
+most_open = 64
+
+-- how many containers can be open at most: 32 arrays with a dict entry in each, 32 structs and a variant
+abbrev pub most_depth : ℕ
+most_depth = 97
+
 -- a text's length is a number of four bytes
 abbrev pub HasRoom : BasicValue → Type 0
 HasRoom (Byte n) = 0 < 1

@@ -9,6 +9,7 @@ use Rattle.bus_value.specs.declared.fault.ValueFault.TheVariants.{BadLength, Bad
 use Rattle.bus_value.specs.declared.order.Order.{Order}
 use Rattle.bus_value.specs.Spelling.{pad_size}
 use Rattle.bus_value.specs.Alignment.{alignment, boundary}
+use Rattle.bus_value.specs.Limits.{most_open, most_depth}
 use Rattle.bus_value.specs.Nesting.{nesting}
 use Rattle.bus_value.specs.Numbers.{number}
 use Rattle.bus_value.specs.BasicReading.{body_size, decoded, types_in}
@@ -81,16 +82,16 @@ unfoldable pub read_pair : Order → Option ℕ → Basic → Reading Val → Re
 read_pair o around b f at bytes =
     padded around 8 (λ at bytes. and_then (read_basic o around b at bytes) (λ k. made (λ v. (k.0, v)) (f k.1.0 k.1.1))) at bytes
 
--- A variant's signature names one type. The containers that are open, the variant and those in this type are at most 64.
+-- A variant's signature names one type. The containers that are open, the variant and those in this type, are limited.
 abbrev pub variant_type : ℕ → ℕ → List Shape → Result Shape ValueFault
 variant_type depth at [] = Err (BadVariant (told at))
-variant_type depth at (t ∷ []) = if nat_le (depth + 1 + nesting t) 64 then Ok t else Err (BadVariant (told at))
+variant_type depth at (t ∷ []) = if nat_le (depth + 1 + nesting t) most_open then Ok t else Err (BadVariant (told at))
 variant_type depth at (t ∷ u ∷ ts) = Err (BadVariant (told at))
 
 -- whether there is one type, which may be nested there
 abbrev pub is_variant_type : ℕ → List Shape → Bool
 is_variant_type depth [] = false
-is_variant_type depth (t ∷ []) = nat_le (depth + 1 + nesting t) 64
+is_variant_type depth (t ∷ []) = nat_le (depth + 1 + nesting t) most_open
 is_variant_type depth (t ∷ u ∷ ts) = false
 
 unfoldable pub read_variant : Order → Option ℕ → ℕ → (Shape → Reading Val) → Reading Val
@@ -116,9 +117,9 @@ unfoldable mutual
   read_entry zero o depth around b t at bytes = Err NoMemory
   read_entry (suc left) o depth around b t at bytes = read_pair o around b (read left o (depth + 1) around t) at bytes
 
--- up to 97 containers can be open: 32 arrays with a dict entry in each, 32 structs and a variant
+-- the levels that are left: one more than containers can be opened
 abbrev pub levels : ℕ → ℕ
-levels depth = 98 - depth
+levels depth = most_depth + 1 - depth
 
 -- nothing is left behind the last value
 abbrev pub ended : Answer (List Val) → Result (List Val) ValueFault

@@ -45,7 +45,7 @@ pub enum ValueKind<'a> {
 
 impl Model for Value {
     ghost use Rattle.bus_value.specs.Values.{Val, parts};
-    ghost use Rattle.bus_value.specs.ValueCode.{value_code};
+    ghost use Rattle.bus_value.specs.inner.ValueCode.{value_code};
 
     ghost Value = { Val };
 
@@ -59,7 +59,7 @@ impl Model for Value {
 
     ghost size = { parts };
 
-    ghost use Rattle.bus_value.specs.NodeFalls.{deep_parts};
+    ghost use Rattle.bus_value.specs.inner.NodeFalls.{deep_parts};
 
     ghost size_decreases = { λ a h. deep_parts a.node };
 }

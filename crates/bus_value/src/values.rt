@@ -1,13 +1,14 @@
 // Value lists.
 
-ghost use Rattle.std.specs.Prelude.{◌≡◌, IfOk, IfSome, IsOk, Ok};
+ghost use Rattle.std.specs.Prelude.{◌≡◌, ◌%◌, ◌↔◌, IfOk, IfSome, IsOk, IsTrue, Ok};
 ghost use Rattle.bus_names.specs.Parsing.{signature_of};
 ghost use Rattle.bus_names.specs.Signatures.{IsWithin};
 ghost use Rattle.bus_value.specs.Limits.{AllFit};
-ghost use Rattle.bus_value.specs.Held.{read_in};
+ghost use Rattle.bus_value.specs.Held.{IsHeld, read_in, values_in};
 ghost use Rattle.bus_value.specs.Reading.{read_all};
 ghost use Rattle.bus_value.specs.Spelling.{spellings};
 ghost use Rattle.bus_value.specs.Values.{shapes, vals};
+ghost use Rattle.bus_value.specs.declared.values.Held.TheVariants.{Read};
 
 use crate::fault::ValueFault;
 use crate::order::Order;
@@ -45,7 +46,7 @@ impl Model for Values {
     ghost use Rattle.std.specs.Prelude.{List};
     ghost use Rattle.std.specs.Coded.{coded_list};
     ghost use Rattle.bus_value.specs.Values.{Val};
-    ghost use Rattle.bus_value.specs.ValueCode.{value_code};
+    ghost use Rattle.bus_value.specs.inner.ValueCode.{value_code};
     ghost use Rattle.bus_value.specs.Held.{held_in, IsHeld};
 
     ghost Value = { List Val };
@@ -74,6 +75,27 @@ impl Spelled {
             Err(ValueFault::NoMemory) => Err(NoMemory),
             Err(_) => unreachable!(),
         }
+    }
+
+    /// Whether the bytes are those of the values in this order, from this offset on.
+    fn stand_at(&self, order: Order, start: usize) -> bool
+        ensures { IsTrue result ↔ ((self.now.order ≡ order) × (self.now.start % 8 ≡ start % 8)) }
+    {
+        self.order == order && self.start % 8 == start % 8
+    }
+
+    /// The bytes of the values, which are to stand from the offset `start` on: those that are kept, where they stand so;
+    /// else the values are made.
+    fn written(&self, alloc: Global, order: Order, start: usize) -> Result<Bytes, NoMemory>
+        requires held { IsHeld (Read self.now) }
+        requires fit { AllFit order start (vals (values_in (read_in self.now))) }
+        ensures { IfOk result (λ bytes. bytes ≡ spellings order start (vals (values_in (read_in self.now)))) }
+    {
+        if self.stand_at(order, start) {
+            return Ok(Bytes::from_vec(Vec::from_slice(alloc, self.bytes.as_slice())?));
+        }
+        let values = self.values(alloc)?;
+        write_each(alloc, order, start, values.as_slice())
     }
 }
 
@@ -178,10 +200,7 @@ impl Values {
     {
         match &self.held {
             Held::Made(values) => write_each(alloc, order, start, values.as_slice()),
-            Held::Read(spelled) => {
-                let values = spelled.values(alloc)?;
-                write_each(alloc, order, start, values.as_slice())
-            }
+            Held::Read(spelled) => spelled.written(alloc, order, start),
         }
     }
 }

@@ -5,7 +5,7 @@ use lib.ListN.{get_elem?}
 use Rattle.desk.specs.declared.view.Numbered.{Numbered}
 use Rattle.desk.specs.History.{AreBelow, AreOf, AtMostOne, entries, numbered, of_pass, of_who, with_number}
 use Rattle.desk.proofs.Lists.{append_nil}
-pub use Rattle.desk.specs.Appended.{entries_append, of_pass_append, of_who_append}
+pub use Rattle.desk.specs.inner.Appended.{entries_append, of_pass_append, of_who_append}
 
 module _ {E : Type 0} where
   pub of_pass_own : (n : ℕ) (es : List E) → of_pass n (numbered n es) ≡ es

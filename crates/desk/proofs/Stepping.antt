@@ -17,7 +17,7 @@ use Rattle.desk.specs.declared.view.Stage.TheVariants.{Spent, Idle, Waiting, Hol
 use Rattle.desk.specs.declared.view.View.{View}
 use Rattle.desk.specs.History.{AreBelow, AtMostOne, HasJoined, entries, numbered, of_pass, of_who}
 use Rattle.desk.specs.Rule.{Covered, FirstView, InStage, Knows, LiveView, Members, Placement, Queued, TurnRule, home, out}
-use Rattle.desk.specs.Steps.{CatchUpTells, DrawTells, LookTells, PublishTells, SeatState, Served, new_entries}
+use Rattle.desk.specs.inner.Steps.{CatchUpTells, DrawTells, LookTells, PublishTells, SeatState, Served, new_entries}
 use Rattle.desk.specs.Views.{at_stage, first_view, live_count, ticket_count, tickets, with_own, with_seen}
 use Rattle.desk.proofs.Histories.{are_of_grown, drop_entries, entries_grown, of_pass_grown, of_pass_same}
 use Rattle.desk.proofs.Lists.{append_nil, at_below, first_of, longer_starts, same_at}

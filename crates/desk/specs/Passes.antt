@@ -1,5 +1,5 @@
 -- What contracts say of a desk and its passes.
-use Rattle.std.specs.Prelude.{◌≡◌, ℕ, ◌<◌, ◌⊎◌, List, [], ◌∷◌, ◌++◌, Option, Some}
+use Rattle.std.specs.Prelude.{◌≡◌, ℕ, ◌<◌, ◌-◌, ◌^◌, ◌⊎◌, List, [], ◌∷◌, ◌++◌, Option, Some}
 use mathlib.Core.Option.{some}
 use lib.ListN.{get_elem?}
 use Rattle.atomic_table.specs.Seated.{TableId}
@@ -11,6 +11,10 @@ use Rattle.desk.specs.declared.view.View.{View}
 use Rattle.desk.specs.History.{AtMostOne, HasMade, StartsWith, entries, of_pass, of_who}
 use Rattle.desk.specs.Rule.{StandsFor}
 use Rattle.desk.specs.Views.{Settled, after_join, at_stage, spent_view, with_own, with_seen}
+
+-- how many passes are split from the first at most
+abbrev pub most_passes : ℕ
+most_passes = 2 ^ 32 - 1
 
 -- a seat at this table that holds no slot, between its turns
 pub record IsSettled {T S E : Type 0} (table : TableId) (p : Seat (Option T) (View S E)) : Type 0 where

@@ -2,8 +2,8 @@
 
 ghost use Rattle.std.specs.Prelude.{◌≡◌, ◌<◌, [], IfOk, Some};
 ghost use Rattle.desk.specs.History.{HasMade, StartsWith, entries, of_pass, of_who};
-ghost use Rattle.desk.specs.Passes.{AreDistinct, Closes, EachJoined, EndsTurn, HasNoOther, HasSeenAll, IsFirst, IsNew, IsSettled, JoinsPass, TakesTurn, Waited};
-ghost use Rattle.desk.specs.Steps.{HoldsTurn};
+ghost use Rattle.desk.specs.Passes.{AreDistinct, Closes, EachJoined, EndsTurn, HasNoOther, HasSeenAll, IsFirst, IsNew, IsSettled, JoinsPass, TakesTurn, Waited, most_passes};
+ghost use Rattle.desk.specs.inner.Steps.{HoldsTurn};
 ghost use Rattle.desk.specs.Views.{first_view, after_split, split_view};
 
 use crate::act::Act;
@@ -67,7 +67,7 @@ impl<V: Kept> Desk<V> {
     ) -> Pass<V::Setup, V::Entry>
         requires desk { pass.old.desk ≡ self.now }
         requires first { IsFirst pass.old.view }
-        requires room { pass.old.view.made < 4294967295 }
+        requires room { pass.old.view.made < most_passes }
         requires who { IsNew who.0 pass.old.view }
         ensures desk { (pass.new.desk ≡ pass.old.desk) × (result.desk ≡ pass.old.desk) }
         ensures first { pass.new.view ≡ after_split who.0 pass.old.view }
@@ -87,7 +87,7 @@ impl<V: Kept> Desk<V> {
         requires picked { N.who ≡ who.0 }
         requires seat { IsSettled self.now seat.old }
         requires first { IsFirst seat.old.me.0 }
-        requires room { seat.old.me.0.made < 4294967295 }
+        requires room { seat.old.me.0.made < most_passes }
         requires who { IsNew who.0 seat.old.me.0 }
         ensures first { IsSettled self.now seat.new × (seat.new.me.0 ≡ after_split who.0 seat.old.me.0) }
         ensures new { IsSettled self.now result × (result.me.0 ≡ split_view who.0 seat.old.me.0) }

@@ -1,7 +1,7 @@
 // What each step tells the seat that makes it.
 
 ghost use Rattle.std.specs.Prelude.{ℕ};
-ghost use Rattle.desk.specs.Steps.{CatchUpTells, DrawTells, LookTells, PublishTells};
+ghost use Rattle.desk.specs.inner.Steps.{CatchUpTells, DrawTells, LookTells, PublishTells};
 ghost use Rattle.desk.specs.Views.{after_split, split_view, after_join, spent_view};
 
 use crate::kept::Kept;

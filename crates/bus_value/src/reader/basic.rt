@@ -3,7 +3,7 @@
 ghost use Rattle.std.specs.Prelude.{◌≡◌, ◌≤◌, ◌<◌, ◌+◌, ◌-◌, length, drop, IfOk, IfSome, IsTrue};
 ghost use Rattle.std.specs.Str.{is_utf8};
 ghost use Rattle.bus_value.specs.Alignment.{IsAlignment};
-ghost use Rattle.bus_value.specs.Plain.{plain_size};
+ghost use Rattle.bus_value.specs.inner.Plain.{plain_size};
 ghost use Rattle.bus_value.specs.Answers.{Accepts, Checks, Gives, Reads};
 ghost use Rattle.bus_value.specs.BasicReading.{size, body_size, least, text_size, types_in, text_at, path_at, decoded, bool_by};
 ghost use Rattle.bus_value.specs.Texts.{has_no_zero, is_text};

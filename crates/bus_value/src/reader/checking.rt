@@ -3,6 +3,7 @@
 ghost use Rattle.std.specs.Prelude.{◌≡◌, ◌≤◌, ◌<◌, ◌+◌, ◌-◌, length, drop, IfOk, IsTrue};
 ghost use Rattle.bus_names.specs.Types.{basic, variant, array, dict, struct_of};
 ghost use Rattle.bus_value.specs.Reading.{levels, read, read_entry, to_end, in_turn};
+ghost use Rattle.bus_value.specs.Limits.{most_depth};
 ghost use Rattle.bus_value.specs.Nesting.{nesting, nesting_all};
 ghost use Rattle.bus_value.specs.Answers.{Accepts, Checks, IsAccepted};
 
@@ -17,7 +18,7 @@ impl Reader {
     /// The place behind the value that stands here, behind its padding.
     #[cycle(checking)]
     pub fn check(self, kind: &Type, bytes: &[u8], at: usize) -> Result<usize, ValueFault>
-        requires depth { self.depth + nesting kind.now ≤ 97 }
+        requires depth { self.depth + nesting kind.now ≤ most_depth }
         requires within { at ≤ length bytes.now }
         ensures value { Checks result self.start bytes.now (read (levels self.depth) self.order self.depth self.array kind.now (self.start + at) (drop at bytes.now)) }
         ensures more { IfOk result (λ next. at < next) }
@@ -37,7 +38,7 @@ impl Reader {
     /// The place behind the variant that stands here.
     #[cycle(checking)]
     fn check_variant(self, bytes: &[u8], at: usize) -> Result<usize, ValueFault>
-        requires depth { self.depth + 1 ≤ 97 }
+        requires depth { self.depth + 1 ≤ most_depth }
         requires within { at ≤ length bytes.now }
         ensures value { Checks result self.start bytes.now (read (levels self.depth) self.order self.depth self.array variant (self.start + at) (drop at bytes.now)) }
         ensures more { IfOk result (λ next. at < next) }
@@ -55,7 +56,7 @@ impl Reader {
     /// The place behind the array that stands here, of elements of this type.
     #[cycle(checking)]
     fn check_array(self, kind: &Type, bytes: &[u8], at: usize) -> Result<usize, ValueFault>
-        requires depth { self.depth + nesting kind.now + 1 ≤ 97 }
+        requires depth { self.depth + nesting kind.now + 1 ≤ most_depth }
         requires within { at ≤ length bytes.now }
         ensures value { Checks result self.start bytes.now (read (levels self.depth) self.order self.depth self.array (array kind.now) (self.start + at) (drop at bytes.now)) }
         ensures more { IfOk result (λ next. at < next) }
@@ -69,7 +70,7 @@ impl Reader {
 
     /// Whether elements of this type stand from here to the end of which any bytes spell one.
     fn is_plain_row(self, kind: Basic, bytes: &[u8], at: usize) -> bool
-        requires depth { self.depth ≤ 97 }
+        requires depth { self.depth ≤ most_depth }
         requires within { at ≤ length bytes.now }
         ensures { IsTrue result → IsAccepted (to_end (read (levels self.depth) self.order self.depth self.array (basic kind)) (self.start + at) (drop at bytes.now)) }
     {
@@ -83,7 +84,7 @@ impl Reader {
 
     /// The same of any type.
     fn is_row(self, kind: &Type, bytes: &[u8], at: usize) -> bool
-        requires depth { self.depth ≤ 97 }
+        requires depth { self.depth ≤ most_depth }
         requires within { at ≤ length bytes.now }
         ensures { IsTrue result → IsAccepted (to_end (read (levels self.depth) self.order self.depth self.array kind.now) (self.start + at) (drop at bytes.now)) }
     {
@@ -96,7 +97,7 @@ impl Reader {
     /// Whether elements stand from here to the end.
     #[cycle(checking)]
     fn check_elements(self, kind: &Type, bytes: &[u8], at: usize) -> Result<(), ValueFault>
-        requires depth { self.depth + nesting kind.now ≤ 97 }
+        requires depth { self.depth + nesting kind.now ≤ most_depth }
         requires within { at ≤ length bytes.now }
         ensures { Accepts result (to_end (read (levels self.depth) self.order self.depth self.array kind.now) (self.start + at) (drop at bytes.now)) }
     {
@@ -120,7 +121,7 @@ impl Reader {
         bytes: &[u8],
         at: usize,
     ) -> Result<usize, ValueFault>
-        requires depth { self.depth + nesting value.now + 2 ≤ 97 }
+        requires depth { self.depth + nesting value.now + 2 ≤ most_depth }
         requires within { at ≤ length bytes.now }
         ensures value { Checks result self.start bytes.now (read (levels self.depth) self.order self.depth self.array (dict key value.now) (self.start + at) (drop at bytes.now)) }
         ensures more { IfOk result (λ next. at < next) }
@@ -141,7 +142,7 @@ impl Reader {
         bytes: &[u8],
         at: usize,
     ) -> Result<(), ValueFault>
-        requires depth { self.depth + nesting value.now + 1 ≤ 97 }
+        requires depth { self.depth + nesting value.now + 1 ≤ most_depth }
         requires within { at ≤ length bytes.now }
         ensures { Accepts result (to_end (read_entry (levels self.depth) self.order self.depth self.array key value.now) (self.start + at) (drop at bytes.now)) }
     {
@@ -162,7 +163,7 @@ impl Reader {
         bytes: &[u8],
         at: usize,
     ) -> Result<usize, ValueFault>
-        requires depth { self.depth + nesting value.now + 1 ≤ 97 }
+        requires depth { self.depth + nesting value.now + 1 ≤ most_depth }
         requires within { at ≤ length bytes.now }
         ensures value { Checks result self.start bytes.now (read_entry (levels self.depth) self.order self.depth self.array key value.now (self.start + at) (drop at bytes.now)) }
         ensures more { IfOk result (λ next. at < next) }
@@ -177,7 +178,7 @@ impl Reader {
     #[cycle(checking)]
     fn check_structure(self, fields: &[Type], bytes: &[u8], at: usize) -> Result<usize, ValueFault>
         requires some { 0 < length fields.now }
-        requires depth { self.depth + nesting (struct_of fields.now) ≤ 97 }
+        requires depth { self.depth + nesting (struct_of fields.now) ≤ most_depth }
         requires within { at ≤ length bytes.now }
         ensures value { Checks result self.start bytes.now (read (levels self.depth) self.order self.depth self.array (struct_of fields.now) (self.start + at) (drop at bytes.now)) }
         ensures more { IfOk result (λ next. at < next) }
@@ -190,7 +191,7 @@ impl Reader {
     /// The place behind values of these types, the first of which stands here.
     #[cycle(checking)]
     pub fn check_all(self, kinds: &[Type], bytes: &[u8], at: usize) -> Result<usize, ValueFault>
-        requires depth { self.depth + nesting_all kinds.now ≤ 97 }
+        requires depth { self.depth + nesting_all kinds.now ≤ most_depth }
         requires within { at ≤ length bytes.now }
         ensures value { Checks result self.start bytes.now (in_turn (read (levels self.depth) self.order self.depth self.array) kinds.now (self.start + at) (drop at bytes.now)) }
         ensures more { IfOk result (λ next. at + length kinds.now ≤ next) }

@@ -4,10 +4,11 @@ ghost use Rattle.std.specs.Prelude.{◌≡◌, ◌≤◌, ◌<◌, ◌+◌, ◌-
 ghost use Rattle.bus_names.specs.Types.{variant, array, dict, struct_of};
 ghost use Rattle.bus_value.specs.Alignment.{IsAlignment};
 ghost use Rattle.bus_value.specs.Reading.{element_bytes, levels, read, read_entry, to_end, in_turn, is_variant_type};
+ghost use Rattle.bus_value.specs.Limits.{most_depth, most_open};
 ghost use Rattle.bus_value.specs.Nesting.{nesting, nesting_all};
 ghost use Rattle.bus_value.specs.Spelling.{pad_size as pad_from};
 ghost use Rattle.bus_value.specs.Answers.{Gives, Reads};
-ghost use Rattle.bus_value.specs.Opening.{Opens};
+ghost use Rattle.bus_value.specs.inner.Opening.{Opens};
 
 use crate::basic_value::BasicValue;
 use crate::fault::ValueFault;
@@ -44,6 +45,15 @@ fn nests_within(kind: &Type, room: usize) -> bool
             true
         }
     }
+}
+
+/// The same items, with no room for more.
+fn without_spare<T>(items: Items<T>) -> Items<T>
+    ensures { result ≡ items }
+{
+    let mut items = items.into_vec();
+    items.shrink_to_fit();
+    Items::from_vec(items)
 }
 
 /// Where the elements of an array stand, and the place in it.
@@ -104,7 +114,7 @@ impl Reader {
     pub fn is_variant_type(self, kinds: &[Type]) -> bool
         ensures value { result ≡ is_variant_type self.depth kinds.now }
         ensures one { IsTrue result → length kinds.now ≡ 1 }
-        ensures depth { IsTrue result → self.depth + 1 + nesting_all kinds.now ≤ 64 }
+        ensures depth { IsTrue result → self.depth + 1 + nesting_all kinds.now ≤ most_open }
     {
         match kinds {
             [kind] => self.depth < MOST_OPEN && nests_within(kind, MOST_OPEN - 1 - self.depth),
@@ -115,7 +125,7 @@ impl Reader {
     /// The value that stands here, behind its padding.
     #[cycle(reading)]
     pub fn value(self, kind: &Type, bytes: &[u8], at: usize) -> Result<(Value, usize), ValueFault>
-        requires depth { self.depth + nesting kind.now ≤ 97 }
+        requires depth { self.depth + nesting kind.now ≤ most_depth }
         requires within { at ≤ length bytes.now }
         ensures value { Reads result self.start bytes.now (read (levels self.depth) self.order self.depth self.array kind.now (self.start + at) (drop at bytes.now)) }
         ensures more { IfOk result (λ r. at < r.1) }
@@ -135,7 +145,7 @@ impl Reader {
     /// The variant that stands here.
     #[cycle(reading)]
     fn variant(self, bytes: &[u8], at: usize) -> Result<(Value, usize), ValueFault>
-        requires depth { self.depth + 1 ≤ 97 }
+        requires depth { self.depth + 1 ≤ most_depth }
         requires within { at ≤ length bytes.now }
         ensures value { Reads result self.start bytes.now (read (levels self.depth) self.order self.depth self.array variant (self.start + at) (drop at bytes.now)) }
         ensures more { IfOk result (λ r. at < r.1) }
@@ -153,7 +163,7 @@ impl Reader {
     /// The array that stands here, of elements of this type.
     #[cycle(reading)]
     fn array(self, kind: &Type, bytes: &[u8], at: usize) -> Result<(Value, usize), ValueFault>
-        requires depth { self.depth + nesting kind.now + 1 ≤ 97 }
+        requires depth { self.depth + nesting kind.now + 1 ≤ most_depth }
         requires within { at ≤ length bytes.now }
         ensures value { Reads result self.start bytes.now (read (levels self.depth) self.order self.depth self.array (array kind.now) (self.start + at) (drop at bytes.now)) }
         ensures more { IfOk result (λ r. at < r.1) }
@@ -168,7 +178,7 @@ impl Reader {
     /// The elements that stand from here to the end.
     #[cycle(reading)]
     fn elements(self, kind: &Type, bytes: &[u8], at: usize) -> Result<Items<Value>, ValueFault>
-        requires depth { self.depth + nesting kind.now ≤ 97 }
+        requires depth { self.depth + nesting kind.now ≤ most_depth }
         requires within { at ≤ length bytes.now }
         ensures { Gives result (to_end (read (levels self.depth) self.order self.depth self.array kind.now) (self.start + at) (drop at bytes.now)) }
     {
@@ -179,7 +189,7 @@ impl Reader {
             elements.push(element)?;
             next = end;
         }
-        Ok(elements)
+        Ok(without_spare(elements))
     }
 
     /// The array of dict entries that stands here, with keys and values of these types.
@@ -191,7 +201,7 @@ impl Reader {
         bytes: &[u8],
         at: usize,
     ) -> Result<(Value, usize), ValueFault>
-        requires depth { self.depth + nesting value.now + 2 ≤ 97 }
+        requires depth { self.depth + nesting value.now + 2 ≤ most_depth }
         requires within { at ≤ length bytes.now }
         ensures value { Reads result self.start bytes.now (read (levels self.depth) self.order self.depth self.array (dict key value.now) (self.start + at) (drop at bytes.now)) }
         ensures more { IfOk result (λ r. at < r.1) }
@@ -215,7 +225,7 @@ impl Reader {
         bytes: &[u8],
         at: usize,
     ) -> Result<Items<(BasicValue, Value)>, ValueFault>
-        requires depth { self.depth + nesting value.now + 1 ≤ 97 }
+        requires depth { self.depth + nesting value.now + 1 ≤ most_depth }
         requires within { at ≤ length bytes.now }
         ensures { Gives result (to_end (read_entry (levels self.depth) self.order self.depth self.array key value.now) (self.start + at) (drop at bytes.now)) }
     {
@@ -226,7 +236,7 @@ impl Reader {
             pairs.push(pair)?;
             next = end;
         }
-        Ok(pairs)
+        Ok(without_spare(pairs))
     }
 
     /// The dict entry that stands here.
@@ -238,7 +248,7 @@ impl Reader {
         bytes: &[u8],
         at: usize,
     ) -> Result<((BasicValue, Value), usize), ValueFault>
-        requires depth { self.depth + nesting value.now + 1 ≤ 97 }
+        requires depth { self.depth + nesting value.now + 1 ≤ most_depth }
         requires within { at ≤ length bytes.now }
         ensures value { Reads result self.start bytes.now (read_entry (levels self.depth) self.order self.depth self.array key value.now (self.start + at) (drop at bytes.now)) }
         ensures more { IfOk result (λ r. at < r.1) }
@@ -258,7 +268,7 @@ impl Reader {
         at: usize,
     ) -> Result<(Value, usize), ValueFault>
         requires some { 0 < length fields.now }
-        requires depth { self.depth + nesting (struct_of fields.now) ≤ 97 }
+        requires depth { self.depth + nesting (struct_of fields.now) ≤ most_depth }
         requires within { at ≤ length bytes.now }
         ensures value { Reads result self.start bytes.now (read (levels self.depth) self.order self.depth self.array (struct_of fields.now) (self.start + at) (drop at bytes.now)) }
         ensures more { IfOk result (λ r. at < r.1) }
@@ -276,13 +286,13 @@ impl Reader {
         bytes: &[u8],
         at: usize,
     ) -> Result<(Items<Value>, usize), ValueFault>
-        requires depth { self.depth + nesting_all kinds.now ≤ 97 }
+        requires depth { self.depth + nesting_all kinds.now ≤ most_depth }
         requires within { at ≤ length bytes.now }
         ensures value { Reads result self.start bytes.now (in_turn (read (levels self.depth) self.order self.depth self.array) kinds.now (self.start + at) (drop at bytes.now)) }
         ensures count { IfOk result (λ r. length r.0 ≡ length kinds.now) }
         ensures more { IfOk result (λ r. at + length kinds.now ≤ r.1) }
     {
-        let mut values = Items::new(self.alloc);
+        let mut values = Items::from_vec(Vec::with_capacity(self.alloc, kinds.len())?);
         let mut next = at;
         for kind in kinds {
             let (value, end) = self.value(kind, bytes, next)?;

@@ -4,6 +4,7 @@ ghost use Rattle.std.specs.Prelude.{◌≡◌, ◌≤◌, ◌<◌, ◌+◌, ◌-
 ghost use Rattle.bus_names.specs.Types.{variant};
 ghost use Rattle.bus_value.specs.Answers.{Gives};
 ghost use Rattle.bus_value.specs.Fields.{basic_in, byte_in, field_at, field_type, inside, kept_by, Sees};
+ghost use Rattle.bus_value.specs.Limits.{most_depth};
 ghost use Rattle.bus_value.specs.Nesting.{nesting};
 ghost use Rattle.bus_value.specs.Reading.{levels, read, to_end};
 
@@ -32,7 +33,7 @@ impl Reader {
         bytes: &[u8],
         at: usize,
     ) -> Result<(Option<BasicValue>, usize), ValueFault>
-        requires depth { self.depth + nesting kind.now ≤ 97 }
+        requires depth { self.depth + nesting kind.now ≤ most_depth }
         requires within { at ≤ length bytes.now }
         ensures value { Sees basic_in result self.start bytes.now (read (levels self.depth) self.order self.depth self.array kind.now (self.start + at) (drop at bytes.now)) }
         ensures more { IfOk result (λ r. at < r.1) }
@@ -51,7 +52,7 @@ impl Reader {
 
     /// What the variant holds that stands here, where that is of a basic type, and the place behind it.
     fn inside(self, bytes: &[u8], at: usize) -> Result<(Option<BasicValue>, usize), ValueFault>
-        requires depth { self.depth + 1 ≤ 97 }
+        requires depth { self.depth + 1 ≤ most_depth }
         requires within { at ≤ length bytes.now }
         ensures value { Sees (λ v. basic_in (inside v)) result self.start bytes.now (read (levels self.depth) self.order self.depth self.array variant (self.start + at) (drop at bytes.now)) }
         ensures more { IfOk result (λ r. at < r.1) }
@@ -68,7 +69,7 @@ impl Reader {
 
     /// The numbered variant that stands here, behind its padding, and the place behind it.
     fn field(self, bytes: &[u8], at: usize) -> Result<(Field, usize), ValueFault>
-        requires depth { self.depth + 2 ≤ 97 }
+        requires depth { self.depth + 2 ≤ most_depth }
         requires within { at ≤ length bytes.now }
         requires room { self.start + length bytes.now < 2 ^ 64 }
         ensures value { Sees (field_at (self.start + at)) result self.start bytes.now (read (levels self.depth) self.order self.depth self.array field_type (self.start + at) (drop at bytes.now)) }
@@ -87,7 +88,7 @@ impl Reader {
 
     /// Those of the numbered variants that stand from here to the end whose number is at most `most`.
     pub fn fields(self, most: u8, bytes: &[u8], at: usize) -> Result<Items<Field>, ValueFault>
-        requires depth { self.depth + 2 ≤ 97 }
+        requires depth { self.depth + 2 ≤ most_depth }
         requires within { at ≤ length bytes.now }
         requires room { self.start + length bytes.now < 2 ^ 64 }
         ensures { Gives result (kept_by most self.order (self.start + at) (to_end (read (levels self.depth) self.order self.depth self.array field_type) (self.start + at) (drop at bytes.now))) }

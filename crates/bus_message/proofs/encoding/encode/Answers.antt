@@ -2,7 +2,7 @@ use Rattle.std.proofs.Common.{◌≡◌, IfOk, refl, rules}
 use Rattle.bus_value.specs.Values.{vals}
 use Rattle.bus_value.specs.Spelling.{spellings}
 use Rattle.bus_value.proofs.TypesHold.{typed_spelled}
-use Rattle.bus_message.specs.Named.{HasRanges}
+use Rattle.bus_message.specs.inner.Named.{HasRanges}
 use Rattle.bus_message.specs.Spelling.{message_bytes, body_offset}
 use Rattle.bus_message.proofs.Written.{written_message}
 use Rattle.bus_message.proofs.encoding.encode.Goals as goal

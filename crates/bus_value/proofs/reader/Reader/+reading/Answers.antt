@@ -21,6 +21,7 @@ elements-loop-next-preserved t c =
 pub elements-returns : goal.elements-returns
 elements-returns t c =
     round_last (read (levels c.args.self.depth) c.args.self.order c.args.self.depth c.args.self.array c.args.kind.now) c.args.self.start c.args.at c.loop-next.next c.args.bytes.now c.loop-next.elements c.loop-next.invariant c.loop-next-test.false
+    ∙ ap (λ (xs : List _). Ok xs) (sym c.without_spare.ensures)
 
 pub elements-returns-in_err-element : goal.elements-returns-in_err-element
 elements-returns-in_err-element t c =
@@ -38,6 +39,7 @@ pairs-loop-next-preserved t c =
 pub pairs-returns : goal.pairs-returns
 pairs-returns t c =
     round_last (read_entry (levels c.args.self.depth) c.args.self.order c.args.self.depth c.args.self.array c.args.key c.args.value.now) c.args.self.start c.args.at c.loop-next.next c.args.bytes.now c.loop-next.pairs c.loop-next.invariant c.loop-next-test.false
+    ∙ ap (λ (xs : List _). Ok xs) (sym c.without_spare.ensures)
 
 pub pairs-returns-in_err-pair : goal.pairs-returns-in_err-pair
 pairs-returns-in_err-pair t c =

@@ -8,6 +8,7 @@ use Rattle.bus_auth.specs.declared.table.Turn.TheVariants.{Answer, Begin, End}
 use Rattle.bus_auth.specs.declared.table.Ending.TheVariants.{LineTooLong}
 use Rattle.bus_auth.specs.declared.hearing.Talk.{Talk}
 use Rattle.bus_auth.specs.Cutting.{Open, cut, without_cr}
+use Rattle.bus_auth.specs.Limits.{most_bytes, most_lines}
 use Rattle.bus_auth.specs.Greeting.{Greeting, State, Talking, Begun, Ended}
 
 -- the state that an outcome of a text is
@@ -18,11 +19,11 @@ state_in text (ended ending) = Ended ending
 
 -- where a text ends at a line that is open, behind so many bytes
 abbrev pub open_outcome : Talk → ℕ → List ℕ → Outcome
-open_outcome talk taken line = if nat_lt 512 (length (without_cr line)) then ended LineTooLong else talking talk taken
+open_outcome talk taken line = if nat_lt most_bytes (length (without_cr line)) then ended LineTooLong else talking talk taken
 
--- an answered line was not the 65th
+-- an answered line was not one too many
 abbrev pub HasRoom : Turn → ℕ → Type 0
-HasRoom (Answer reply stage) lines = lines < 64
+HasRoom (Answer reply stage) lines = lines < most_lines
 HasRoom Begin lines = ⊤
 HasRoom (End ending) lines = ⊤
 

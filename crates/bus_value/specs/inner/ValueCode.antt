@@ -6,7 +6,7 @@ use Rattle.bus_names.specs.declared.basic.Basic.{Basic}
 use Rattle.bus_names.specs.declared.basic.Basic.TheVariants as kinds
 use Rattle.bus_names.specs.Types.{Shape}
 use Rattle.bus_names.specs.Types as types
-use Rattle.bus_names.specs.ShapeCode.{shape_code}
+use Rattle.bus_names.specs.inner.ShapeCode.{shape_code}
 use Rattle.bus_value.specs.declared.basic_value.BasicValue.{BasicValue}
 use Rattle.bus_value.specs.declared.basic_value.BasicValue.TheVariants as plain
 use Rattle.bus_value.specs.contracts.basic_value.BasicValue as row

@@ -1,0 +1,3 @@
+-- What serves private functions: the steps of a turn.
+pub mod Appended
+pub mod Steps
