@@ -1,10 +1,12 @@
 // A list of the project's own over a vector, seen by contracts as the list of its items.
 
-ghost use Rattle.std.specs.Prelude.{◌≡◌, ◌<◌, ◌^◌, ◌++◌, [], ◌∷◌, ◌↔◌, IsTrue, length, OnOk, OnErr};
+ghost use Rattle.std.specs.Prelude.{◌≡◌, ◌<◌, ◌^◌, ◌++◌, [], ◌∷◌, ◌↔◌, IsTrue, length, OnOk, OnErr, IfOk};
 
 use crate::memory::NoMemory;
+use crate::reserved::Reserved;
 use std::alloc::Global;
 use std::marker::Model;
+use std::mem;
 
 /// A list. It keeps the allocator that it was made with.
 #[derive(Debug, Drop)]
@@ -79,5 +81,22 @@ impl<T> Items<T> {
     {
         self.items.push(item)?;
         Ok(())
+    }
+
+    /// Puts the items in memory of their size. The answer is the memory that they had, for other items.
+    /// Where memory is wanting they stay where they are.
+    pub fn trim(&mut self, alloc: Global) -> Result<Reserved<T>, NoMemory>
+    where
+        T: Drop,
+        ensures items { self.new ≡ self.old }
+        ensures empty { IfOk result (λ had. had.items ≡ []) }
+    {
+        let mut had = Vec::with_capacity(alloc, self.items.len())?;
+        match had.append(&mut self.items) {
+            Ok(()) => {}
+            Err(_) => unreachable!(),
+        }
+        mem::swap(&mut had, &mut self.items);
+        Ok(Reserved::from_vec(had))
     }
 }

@@ -33,6 +33,13 @@ impl<T> Reserved<T> {
         }
     }
 
+    /// The list of a vector's items. It takes no memory.
+    pub fn from_vec(items: Vec<T>) -> Reserved<T>
+        ensures { result.items ≡ items.items }
+    {
+        Reserved { items }
+    }
+
     /// How many items there are.
     pub fn len(&self) -> usize
         ensures value { result ≡ length self.now.items }
@@ -72,12 +79,11 @@ impl<T> Reserved<T> {
         }
     }
 
-    /// The list. The memory of its spare is given back, where the allocator can; it needs none.
+    /// The list, which keeps the memory of its spare. It takes no memory.
     pub fn into_items(self) -> Items<T>
         ensures { result ≡ self.items }
     {
-        let Reserved { mut items } = self;
-        items.shrink_to_fit();
+        let Reserved { items } = self;
         Items::from_vec(items)
     }
 }

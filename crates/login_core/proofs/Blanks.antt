@@ -33,10 +33,11 @@ take-front : (n : ℕ) (xs ys : List (Room Mark)) → n ≡ length xs → take n
 take-front n xs ys e = ap (λ (k : ℕ). take k (xs ++ ys)) e ∙ take-append_seam xs ys
 
 -- they are widened where they stand
-pub ledger-widened : (entries room spare n : ℕ) (ys zs : List (Room Mark)) → n ≡ length ys → entries ≤ spare → entries ≤ length ys → HaveRoom room ys → IsLedger entries room spare (take n (ys ++ zs))
-ledger-widened entries room spare n ys zs e f g h =
-    let P : List (Room Mark) → Type 0 = IsLedger entries room spare in
-    subst P (sym (take-front n ys zs e)) (record { entries_fit = f; blanks_fit = g; have_room = h })
+pub ledger-widened : (entries room spare trimmed closed n : ℕ) (ys zs : List (Room Mark)) → n ≡ length ys → entries ≤ spare → entries ≤ length ys → HaveRoom room ys → trimmed ≤ closed
+    → IsLedger entries room spare trimmed closed (take n (ys ++ zs))
+ledger-widened entries room spare trimmed closed n ys zs e f g h s =
+    let P : List (Room Mark) → Type 0 = IsLedger entries room spare trimmed closed in
+    subst P (sym (take-front n ys zs e)) (record { entries_fit = f; blanks_fit = g; have_room = h; trimmed_fit = s })
 
 pub same-room : (n : ℕ) (xs ys : List (Room Mark)) → ys ≡ xs → HaveRoom n xs → HaveRoom n ys
 same-room n xs ys e h = let P : List (Room Mark) → Type 0 = HaveRoom n in subst P (sym e) h

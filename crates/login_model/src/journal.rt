@@ -1,8 +1,8 @@
 // The journal of a machine.
 
-ghost use Rattle.std.specs.Prelude.{◌≡◌, ◌+◌, ◌<◌, ◌≤◌, ◌^◌, ◌++◌, [], ◌∷◌, length, OnOk, slice_get, Some};
+ghost use Rattle.std.specs.Prelude.{◌≡◌, ◌+◌, ◌<◌, ◌≤◌, ◌^◌, ◌++◌, [], ◌∷◌, length, OnOk, IfOk, slice_get, Some};
 
-use crate::mark::Entry;
+use crate::mark::{Entry, Mark};
 use login_base::{NoMemory, Reserved};
 use std::alloc::Global;
 use std::marker::Model;
@@ -10,16 +10,17 @@ use std::marker::Model;
 /// The entries so far, the oldest first, and room for more.
 #[derive(Debug, Drop)]
 pub struct Journal {
-    entries: Reserved<Entry>,
+    entries: Vec<Entry>,
 }
 
 impl Model for Journal {
+    ghost use Rattle.std.specs.Prelude.{◌-◌, vec_len, vec_capacity};
     ghost use Rattle.login_base.specs.Room.{Room};
     ghost use Rattle.login_model.specs.declared.mark.Entry.{Entry};
 
     ghost Value = { Room Entry };
 
-    ghost view = { λ s. s.entries };
+    ghost view = { λ s. record { items = s.entries.items; spare = vec_capacity s.entries - vec_len s.entries } };
 }
 
 impl Journal {
@@ -28,7 +29,7 @@ impl Journal {
         ensures { result.items ≡ [] }
     {
         Journal {
-            entries: Reserved::new(alloc),
+            entries: Vec::new(alloc),
         }
     }
 
@@ -45,7 +46,7 @@ impl Journal {
         requires { i < length self.now.items }
         ensures { slice_get self.now.items i ≡ Some result.now }
     {
-        &self.entries.as_slice()[i]
+        &self.entries[i]
     }
 
     /// The entries in order. Takes no memory.
@@ -61,7 +62,8 @@ impl Journal {
         ensures items { self.new.items ≡ self.old.items }
         ensures spare { self.old.spare ≤ self.new.spare }
     {
-        self.entries.reserve(more)
+        self.entries.reserve(more)?;
+        Ok(())
     }
 
     /// Puts an entry at the end. It takes no memory.
@@ -70,6 +72,20 @@ impl Journal {
         ensures items { self.new.items ≡ self.old.items ++ entry ∷ [] }
         ensures spare { self.old.spare ≤ self.new.spare + 1 }
     {
-        self.entries.push(entry);
+        match self.entries.push(entry) {
+            Ok(()) => {}
+            Err(_) => unreachable!(),
+        }
+    }
+
+    /// Puts the marks of the entry with the number `i + 1` in memory of their size. The answer is the memory
+    /// that they had, for the marks of another entry. Where memory is wanting nothing changes.
+    pub fn trim(&mut self, i: usize, alloc: Global) -> Result<Reserved<Mark>, NoMemory>
+        requires { i < length self.old.items }
+        ensures items { self.new.items ≡ self.old.items }
+        ensures spare { self.new.spare ≡ self.old.spare }
+        ensures empty { IfOk result (λ had. had.items ≡ []) }
+    {
+        self.entries[i].marks.trim(alloc)
     }
 }

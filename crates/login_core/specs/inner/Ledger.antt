@@ -15,8 +15,9 @@ pub record LedgerState : Type 0 where
 abbrev pub HaveRoom : ℕ → List (Room Mark) → Type 0
 HaveRoom marks blanks = AllByRecursion (λ (b : Room Mark). (b.items ≡ []) × (marks ≤ b.spare)) blanks
 
--- the room that is told is there
-pub record IsLedger (entries marks spare : ℕ) (blanks : List (Room Mark)) : Type 0 where
+-- the room that is told is there, and no more entries are trimmed than there are
+pub record IsLedger (entries marks spare trimmed closed : ℕ) (blanks : List (Room Mark)) : Type 0 where
   pub entries_fit : entries ≤ spare
   pub blanks_fit : entries ≤ length blanks
   pub have_room : HaveRoom marks blanks
+  pub trimmed_fit : trimmed ≤ closed

@@ -1,6 +1,6 @@
 // The journal, and the room that is kept for its next entries.
 
-ghost use Rattle.std.specs.Prelude.{◌≡◌, ◌+◌, ◌<◌, ◌≤◌, ◌^◌, ◌-◌, ◌++◌, [], ◌∷◌, OnOk, length, ℕ};
+ghost use Rattle.std.specs.Prelude.{◌≡◌, ◌+◌, ◌<◌, ◌≤◌, ◌^◌, ◌-◌, ◌++◌, [], ◌∷◌, OnOk, IfOk, length, ℕ};
 ghost use Rattle.login_core.specs.inner.Ledger.{HaveRoom};
 
 use login_base::{NoMemory, Reserved};
@@ -9,25 +9,27 @@ use std::alloc::Global;
 use std::marker::Model;
 
 /// The journal, with room for more entries, each of which may have so many marks. Some entries are made
-/// without memory, so their lists of marks are made beforehand.
+/// without memory, so their lists of marks are made beforehand. The marks of the oldest entries, so many as are
+/// trimmed, are in memory of their size; the others have lists that will be those of later entries.
 #[derive(Drop)]
 pub struct Ledger {
     journal: Journal,
     blanks: Vec<Reserved<Mark>>,
+    trimmed: usize,
     alloc: Global,
     entries: u32,
     marks: u32,
 }
 
 impl Model for Ledger {
-    ghost use Rattle.std.specs.Prelude.{◌≤◌, length};
+    ghost use Rattle.std.specs.Prelude.{length};
     ghost use Rattle.login_core.specs.inner.Ledger.{LedgerState, IsLedger};
 
     ghost Value = { LedgerState };
 
     ghost view = { λ l. record { items = l.journal.items; entries = l.entries; marks = l.marks } };
 
-    ghost invariant = { λ l. IsLedger l.entries l.marks l.journal.spare l.blanks.items };
+    ghost invariant = { λ l. IsLedger l.entries l.marks l.journal.spare l.trimmed (length l.journal.items) l.blanks.items };
 }
 
 /// Each of these lists gets room for so many. What there is room for already stays.
@@ -52,6 +54,7 @@ impl Ledger {
         Ledger {
             journal: Journal::new(alloc),
             blanks: Vec::new(alloc),
+            trimmed: 0,
             alloc,
             entries: 0,
             marks: 0,
@@ -80,7 +83,22 @@ impl Ledger {
         Ok(())
     }
 
-    /// Another empty list of marks.
+    /// An empty list: that of the oldest entry which isn't trimmed, or a new one.
+    fn blank(&mut self) -> Result<Reserved<Mark>, NoMemory>
+        ensures items { self.new.items ≡ self.old.items }
+        ensures entries { self.new.entries ≡ self.old.entries }
+        ensures marks { self.new.marks ≡ self.old.marks }
+        ensures empty { IfOk result (λ blank. blank.items ≡ []) }
+    {
+        if self.trimmed == self.journal.len() {
+            return Ok(Reserved::new(self.alloc));
+        }
+        let blank = self.journal.trim(self.trimmed, self.alloc)?;
+        self.trimmed += 1;
+        Ok(blank)
+    }
+
+    /// Another empty list of marks, with room.
     fn add_blank(&mut self) -> Result<(), NoMemory>
         requires { self.old.entries < 2 ^ 32 - 1 }
         ensures items { self.new.items ≡ self.old.items }
@@ -88,9 +106,9 @@ impl Ledger {
         ensures keeps { self.old.entries ≤ self.new.entries }
         ensures more { OnOk result (self.new.entries ≡ self.old.entries + 1) }
     {
-        self.journal.reserve(self.entries as usize + 1)?;
-        let mut blank = Reserved::new(self.alloc);
+        let mut blank = self.blank()?;
         blank.reserve(self.marks as usize)?;
+        self.journal.reserve(self.entries as usize + 1)?;
         self.blanks.push(blank)?;
         self.entries += 1;
         Ok(())

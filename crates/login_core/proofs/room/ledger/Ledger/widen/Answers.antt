@@ -9,8 +9,8 @@ invariant_of-self c =
     let e = c.deref_mut.ensures.value in
     let n : l.blanks.len ≡ length ys = omega arith in
     let f : l.entries ≤ length ys = (let m = ap length e in let b = c.self.invariant.blanks_fit in let w = c.widen_each.ensures.len in omega arith) in
-    ledger-widened l.entries l.marks l.journal.spare l.blanks.len ys (drop (length ys) l.blanks.items) n c.self.invariant.entries_fit f
-    (c.widen_each.ensures.keeps l.marks (same-room l.marks l.blanks.items c.deref_mut.result.now e c.self.invariant.have_room))
+    ledger-widened l.entries l.marks l.journal.spare l.trimmed (length l.journal.items) l.blanks.len ys (drop (length ys) l.blanks.items) n c.self.invariant.entries_fit f
+    (c.widen_each.ensures.keeps l.marks (same-room l.marks l.blanks.items c.deref_mut.result.now e c.self.invariant.have_room)) c.self.invariant.trimmed_fit
 
 pub invariant_of-self-2 : goal.invariant_of-self-2
 invariant_of-self-2 c =
@@ -19,5 +19,5 @@ invariant_of-self-2 c =
     let e = c.deref_mut.ensures.value in
     let n : l.blanks.len ≡ length ys = omega arith in
     let f : l.entries ≤ length ys = (let m = ap length e in let b = c.self.invariant.blanks_fit in let w = c.widen_each.ensures.len in omega arith) in
-    ledger-widened l.entries c.args.marks l.journal.spare l.blanks.len ys (drop (length ys) l.blanks.items) n c.self.invariant.entries_fit f
-    (c.in_ok-widen_each.ensures.wider (wide-none l.marks c.deref_mut.result.now (same-room l.marks l.blanks.items c.deref_mut.result.now e c.self.invariant.have_room)))
+    ledger-widened l.entries c.args.marks l.journal.spare l.trimmed (length l.journal.items) l.blanks.len ys (drop (length ys) l.blanks.items) n c.self.invariant.entries_fit f
+    (c.in_ok-widen_each.ensures.wider (wide-none l.marks c.deref_mut.result.now (same-room l.marks l.blanks.items c.deref_mut.result.now e c.self.invariant.have_room))) c.self.invariant.trimmed_fit
