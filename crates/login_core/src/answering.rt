@@ -12,7 +12,8 @@ ghost use Rattle.login_model.specs.declared.mark.Entry.{Entry};
 use crate::creating::created::seat_of;
 use login_base::{ConnId, Items, NoMemory, SeatName, SessId, Uid, Word};
 use login_model::{
-    Answer, Call, Created, Creation, Event, Fact, Key, KnownUser, Look, SessionRow, Setup, UserRow,
+    Answer, Boxed, Call, Created, Creation, Event, Fact, Key, KnownUser, Look, SessionRow, Setup,
+    UserRow,
 };
 use login_table::{list, seat_of_session};
 use std::alloc::Global;
@@ -40,6 +41,16 @@ fn user_name(setup: &Setup, uid: u32) -> &[u8]
     }
 }
 
+/// A seat in memory of its own.
+fn boxed_seat(alloc: Global, seat: Option<SeatName>) -> Result<Option<Boxed<SeatName>>, NoMemory>
+    ensures { IfOk result (λ boxed. boxed ≡ seat) }
+{
+    match seat {
+        Some(seat) => Ok(Some(Boxed::new(alloc, seat)?)),
+        None => Ok(None),
+    }
+}
+
 fn session_row<F: Look>(
     alloc: Global,
     facts: &F,
@@ -50,11 +61,12 @@ fn session_row<F: Look>(
 {
     let uid = facts.fact(&Key::Sess(session)).user_or_root();
     let name = Word::from_slice(alloc, user_name(setup, uid.0))?;
+    let seat = boxed_seat(alloc, seat_of_session(facts, session))?;
     Ok(SessionRow {
         session,
         uid,
         name,
-        seat: seat_of_session(facts, session),
+        seat,
     })
 }
 
@@ -130,12 +142,12 @@ fn session_answer(session: Option<SessId>) -> Answer
     }
 }
 
-fn seat_answer(seat: Option<SeatName>) -> Answer
-    ensures { result ≡ seat_answer seat }
+fn seat_answer(alloc: Global, seat: Option<SeatName>) -> Result<Answer, NoMemory>
+    ensures { IfOk result (λ a. a ≡ seat_answer seat) }
 {
     match seat {
-        Some(seat) => Answer::Seat(seat),
-        None => Answer::Nothing,
+        Some(seat) => Ok(Answer::Seat(Boxed::new(alloc, seat)?)),
+        None => Ok(Answer::Nothing),
     }
 }
 
@@ -170,10 +182,13 @@ fn call_answer<F: Look>(
     ensures { IfOk result (λ a. a ≡ marks_answer setup.now (F.trail facts.now) who call.now) }
 {
     match call {
-        Call::Create(creation) => Ok(Answer::Created(created(facts, session, creation))),
+        Call::Create(creation) => {
+            let created = created(facts, session, creation);
+            Ok(Answer::Created(Boxed::new(alloc, created)?))
+        }
         Call::GetSession(_) => Ok(session_answer(call.session())),
         Call::GetUser(uid) => Ok(Answer::User(*uid)),
-        Call::GetSeat(seat) => Ok(seat_answer(seat_of(seat.as_slice()))),
+        Call::GetSeat(seat) => seat_answer(alloc, seat_of(seat.as_slice())),
         Call::ListSessions => list_sessions(alloc, facts, setup),
         Call::ListUsers => list_users(alloc, facts, setup),
         Call::ListSeats => list_seats(alloc, facts),

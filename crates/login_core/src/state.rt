@@ -233,7 +233,7 @@ impl Core {
         let entries = self.entries_for(event, verdict);
         let reach = self.reach_for();
         self.board.reserve(entries as u32, reach as u32)?;
-        self.texts.prepare(event)?;
+        self.texts.prepare(self.board.alloc, event)?;
         let answer = self.answer_to(event, verdict)?;
         self.ready = Ready { verdict, answer };
         Ok(())

@@ -5,3 +5,4 @@ pub mod ActionLaws
 pub mod WordLaws
 pub mod FactLaws
 pub mod Values
+pub mod HeldValue

@@ -36,3 +36,4 @@ pub mod Built
 pub mod Full
 pub mod MadeWith
 pub mod Setups
+pub mod Held

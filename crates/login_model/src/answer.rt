@@ -1,5 +1,8 @@
 // What a granted call is answered.
 
+ghost use Rattle.std.specs.Prelude.{◌≡◌};
+
+use crate::boxed::Boxed;
 use crate::lock::Lock;
 use crate::table::Say;
 use login_base::{HandleNo, Items, SeatName, SessId, Uid, Word};
@@ -23,7 +26,19 @@ pub struct SessionRow {
     pub uid: Uid,
     /// The user's name in the setup.
     pub name: Word,
-    pub seat: Option<SeatName>,
+    pub seat: Option<Boxed<SeatName>>,
+}
+
+impl SessionRow {
+    /// The session's seat, if it has one.
+    pub fn seat_name(&self) -> Option<SeatName>
+        ensures { result ≡ self.now.seat }
+    {
+        match &self.seat {
+            Some(seat) => Some(*seat.get()),
+            None => None,
+        }
+    }
 }
 
 /// A row of what ListUsers of org.freedesktop.login1(5) answers. The object path follows from the user.
@@ -48,13 +63,13 @@ pub enum Answer {
     /// No value: an event that is no call, a denied one, and a call that answers nothing.
     Nothing,
     /// CreateSession.
-    Created(Created),
+    Created(Boxed<Created>),
     /// GetSession: the path of the session's object.
     Session(SessId),
     /// GetUser: the path of the user's object.
     User(Uid),
     /// GetSeat: the path of the seat's object.
-    Seat(SeatName),
+    Seat(Boxed<SeatName>),
     /// ListSessions.
     Sessions(Items<SessionRow>),
     /// ListUsers.

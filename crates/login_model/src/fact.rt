@@ -1,7 +1,10 @@
 // What is known, and under which keys.
 
 ghost use Rattle.std.specs.Prelude.{◌≡◌, None, Some, MatchOption};
+ghost use Rattle.login_model.specs.declared.fact.Fact.{Fact as FactValue};
+ghost use Rattle.login_model.specs.Facts.{is_on_terminal};
 
+use crate::boxed::Boxed;
 use crate::hardware::DevKind;
 use crate::lock::Lock;
 use crate::operation::Operation;
@@ -81,7 +84,7 @@ pub enum Fact {
     /// A connected client's user.
     Connected(Uid),
     /// A session that was created.
-    Session(Session),
+    Session(Boxed<Session>),
     /// Yes or no.
     Flag(bool),
     /// A signal, and which of a session's processes were sent it.
@@ -105,11 +108,26 @@ pub enum Fact {
     /// A moment.
     Moment(Millis),
     /// A device, and the seat that it is on.
-    Device(DevKind, SeatName),
+    Device(DevKind, Boxed<SeatName>),
     /// A lock that stands.
-    Lock(Lock),
+    Lock(Boxed<Lock>),
     /// What the machine as a whole is being made to do.
     Operation(Operation),
+}
+
+/// Whether a session is an open one of seat0 on the terminal that the fact names.
+fn is_session_on(session: &Session, terminal: &Fact) -> bool
+    ensures { result ≡ is_on_terminal terminal.now (FactValue.Session session.now) }
+{
+    match session {
+        Session {
+            phase: Phase::Open,
+            seat: Some(seat),
+            vt,
+            ..
+        } => seat.is_seat0() && terminal.is_this_number(*vt),
+        _ => false,
+    }
 }
 
 /// What a fact says. Each call answers None, no or 0 of a fact of another kind.
@@ -165,7 +183,7 @@ impl Fact {
         ensures { MatchOption result (session_in_fact self.now ≡ None) (λ it. session_in_fact self.now ≡ Some it.now) }
     {
         match self {
-            Fact::Session(session) => Some(session),
+            Fact::Session(session) => Some(session.get()),
             _ => None,
         }
     }
@@ -174,39 +192,30 @@ impl Fact {
     pub fn is_session(&self) -> bool
         ensures { result ≡ is_session_fact self.now }
     {
-        matches!(
-            self,
-            Fact::Session(Session {
-                phase: Phase::Open | Phase::Closing,
-                ..
-            })
-        )
+        match self {
+            Fact::Session(session) => matches!(session.get().phase, Phase::Open | Phase::Closing),
+            _ => false,
+        }
     }
 
     /// Whether it is that of an open session.
     pub fn is_open(&self) -> bool
         ensures { result ≡ is_open_fact self.now }
     {
-        matches!(
-            self,
-            Fact::Session(Session {
-                phase: Phase::Open,
-                ..
-            })
-        )
+        match self {
+            Fact::Session(session) => matches!(session.get().phase, Phase::Open),
+            _ => false,
+        }
     }
 
     /// Whether it is that of a session that is closing.
     pub fn is_closing(&self) -> bool
         ensures { result ≡ is_closing_fact self.now }
     {
-        matches!(
-            self,
-            Fact::Session(Session {
-                phase: Phase::Closing,
-                ..
-            })
-        )
+        match self {
+            Fact::Session(session) => matches!(session.get().phase, Phase::Closing),
+            _ => false,
+        }
     }
 
     /// The user of a session, or root.
@@ -214,7 +223,7 @@ impl Fact {
         ensures { result ≡ owner_of self.now }
     {
         match self {
-            Fact::Session(session) => session.uid,
+            Fact::Session(session) => session.get().uid,
             _ => Uid(0),
         }
     }
@@ -224,7 +233,7 @@ impl Fact {
         ensures { result ≡ is_user_in uid self.now }
     {
         match self {
-            Fact::Session(session) => session.uid.0 == uid,
+            Fact::Session(session) => session.get().uid.0 == uid,
             _ => false,
         }
     }
@@ -234,13 +243,10 @@ impl Fact {
         ensures { result ≡ is_open_of uid self.now }
     {
         match self {
-            Fact::Session(
-                Session {
-                    phase: Phase::Open,
-                    uid: user,
-                    ..
-                },
-            ) => user.0 == uid,
+            Fact::Session(session) => {
+                let session = session.get();
+                matches!(session.phase, Phase::Open) && session.uid.0 == uid
+            }
             _ => false,
         }
     }
@@ -257,7 +263,7 @@ impl Fact {
         ensures { result ≡ seat_in_fact self.now }
     {
         match self {
-            Fact::Session(session) => session.seat,
+            Fact::Session(session) => session.get().seat,
             _ => None,
         }
     }
@@ -267,7 +273,7 @@ impl Fact {
         ensures { result ≡ vt_in self.now }
     {
         match self {
-            Fact::Session(session) => session.vt,
+            Fact::Session(session) => session.get().vt,
             _ => 0,
         }
     }
@@ -277,7 +283,7 @@ impl Fact {
         ensures { result ≡ fifo_of self.now }
     {
         match self {
-            Fact::Session(session) => session.fifo,
+            Fact::Session(session) => session.get().fifo,
             _ => HandleNo(0),
         }
     }
@@ -287,7 +293,7 @@ impl Fact {
         ensures { result ≡ leader_in self.now }
     {
         match self {
-            Fact::Session(session) => Some(session.leader),
+            Fact::Session(session) => Some(session.get().leader),
             _ => None,
         }
     }
@@ -297,14 +303,7 @@ impl Fact {
         ensures { result ≡ is_on_terminal terminal.now self.now }
     {
         match self {
-            Fact::Session(
-                Session {
-                    phase: Phase::Open,
-                    seat: Some(seat),
-                    vt,
-                    ..
-                },
-            ) => { seat.is_seat0() && terminal.is_this_number(*vt) }
+            Fact::Session(session) => is_session_on(session.get(), terminal),
             _ => false,
         }
     }
@@ -555,7 +554,7 @@ impl Fact {
         ensures { MatchOption result (lock_in_fact self.now ≡ None) (λ it. lock_in_fact self.now ≡ Some it.now) }
     {
         match self {
-            Fact::Lock(lock) => Some(lock),
+            Fact::Lock(lock) => Some(lock.get()),
             _ => None,
         }
     }
@@ -572,7 +571,7 @@ impl Fact {
         ensures { result ≡ is_held_by who self.now }
     {
         match self {
-            Fact::Lock(lock) => lock.holder.0 == who.0,
+            Fact::Lock(lock) => lock.get().holder.0 == who.0,
             _ => false,
         }
     }

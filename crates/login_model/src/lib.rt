@@ -4,6 +4,7 @@
 
 mod action;
 mod answer;
+mod boxed;
 mod built;
 mod call;
 mod conf;
@@ -26,6 +27,7 @@ mod table;
 
 pub use action::{Action, PowerAction, Qualifier};
 pub use answer::{Answer, Created, Input, KnownUser, SessionRow};
+pub use boxed::{Boxed, Slot};
 pub use built::is_built;
 pub use call::{Call, Creation, Inhibition, PropertyName};
 pub use conf::{Conf, KeyAction};

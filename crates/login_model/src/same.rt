@@ -189,7 +189,7 @@ pub fn is_same_fact(a: &Fact, b: &Fact) -> bool
     match (a, b) {
         (Fact::Absent, Fact::Absent) => true,
         (Fact::Connected(a), Fact::Connected(b)) => a.0 == b.0,
-        (Fact::Session(a), Fact::Session(b)) => is_same_session(a, b),
+        (Fact::Session(a), Fact::Session(b)) => is_same_session(a.get(), b.get()),
         (Fact::Flag(a), Fact::Flag(b)) => *a == *b,
         (Fact::Signal(whom, a), Fact::Signal(other, b)) => is_same_whom(*whom, *other) && *a == *b,
         (Fact::Controller(a), Fact::Controller(b)) => a.0 == b.0,
@@ -202,9 +202,9 @@ pub fn is_same_fact(a: &Fact, b: &Fact) -> bool
         (Fact::Number(a), Fact::Number(b)) => *a == *b,
         (Fact::Moment(a), Fact::Moment(b)) => a.0 == b.0,
         (Fact::Device(kind, a), Fact::Device(other, b)) => {
-            is_same_device_kind(*kind, *other) && a.as_slice() == b.as_slice()
+            is_same_device_kind(*kind, *other) && a.get().as_slice() == b.get().as_slice()
         },
-        (Fact::Lock(a), Fact::Lock(b)) => is_same_lock(a, b),
+        (Fact::Lock(a), Fact::Lock(b)) => is_same_lock(a.get(), b.get()),
         (Fact::Operation(a), Fact::Operation(b)) => is_same_operation(a, b),
         _ => false,
     }

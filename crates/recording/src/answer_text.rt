@@ -100,7 +100,7 @@ fn push_row(text: &mut LineText, x: &SessionRow) -> Result<(), NoMemory>
 {
     text.number(x.uid.0)?;
     text.text(x.name.as_slice())?;
-    push_seat_text(text, x.seat)?;
+    push_seat_text(text, x.seat_name())?;
     push_session_path(text, x.session)
 }
 
@@ -229,10 +229,10 @@ pub(crate) fn push_answer(text: &mut LineText, answer: &Answer) -> Result<(), No
 {
     match answer {
         Answer::Nothing => Ok(()),
-        Answer::Created(x) => push_created(text, x),
+        Answer::Created(x) => push_created(text, x.get()),
         Answer::Session(session) => push_session_path(text, *session),
         Answer::User(uid) => push_user_path(text, *uid),
-        Answer::Seat(seat) => push_seat_path(text, seat),
+        Answer::Seat(seat) => push_seat_path(text, seat.get()),
         Answer::Sessions(rows) => push_array(text, rows.as_slice()),
         Answer::Users(rows) => push_array(text, rows.as_slice()),
         Answer::Seats(names) => push_array(text, names.as_slice()),

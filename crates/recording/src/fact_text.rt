@@ -197,7 +197,7 @@ pub(crate) fn push_fact(text: &mut LineText, key: &Key, fact: &Fact) -> Result<(
     match fact {
         Fact::Absent => push_absent(text, key),
         Fact::Connected(uid) => text.number(uid.0),
-        Fact::Session(x) => push_session_fact(text, x),
+        Fact::Session(x) => push_session_fact(text, x.get()),
         Fact::Flag(on) => text.flag(*on),
         Fact::Signal(whom, n) => {
             push_kill_whom(text, *whom)?;
@@ -217,9 +217,9 @@ pub(crate) fn push_fact(text: &mut LineText, key: &Key, fact: &Fact) -> Result<(
         Fact::Moment(moment) => text.moment(moment.0),
         Fact::Device(kind, seat) => {
             push_device_kind(text, *kind)?;
-            text.word(seat.as_slice())
+            text.word(seat.get().as_slice())
         }
-        Fact::Lock(lock) => push_lock(text, lock),
+        Fact::Lock(lock) => push_lock(text, lock.get()),
         Fact::Operation(operation) => push_progress(text, operation),
     }
 }

@@ -2,7 +2,9 @@
 
 use crate::entries::is_printed;
 use login_base::{ConnId, HandleNo, Items, NoMemory, SeatName, SessId, Uid, Word};
-use login_model::{Answer, Inhibited, Input, KnownUser, Lock, LockMode, Say, SessionRow, Verdict};
+use login_model::{
+    Answer, Boxed, Inhibited, Input, KnownUser, Lock, LockMode, Say, SessionRow, Verdict,
+};
 use std::alloc::Global;
 use std::process::Abort;
 use std::test::Fail;
@@ -37,7 +39,7 @@ fn paths_of_objects(rt: HostRuntime) -> Result<(), Fail> {
     is_answered(
         &rt,
         alloc,
-        Answer::Seat(seat),
+        Answer::Seat(Boxed::new(alloc, seat)?),
         b" granted /org/freedesktop/login1/seat/seat_2dx\n",
     )
 }
@@ -76,6 +78,10 @@ fn session_row(
     name: &[u8],
     seat: Option<SeatName>,
 ) -> Result<SessionRow, NoMemory> {
+    let seat = match seat {
+        Some(seat) => Some(Boxed::new(alloc, seat)?),
+        None => None,
+    };
     Ok(SessionRow {
         session: SessId(session),
         uid: Uid(uid),

@@ -6,7 +6,7 @@ ghost use Rattle.login_model.specs.Fresh.{next_session, next_handle};
 ghost use Rattle.login_model.specs.Start.{seat0};
 ghost use Rattle.login_model.specs.Where.{active_on};
 ghost use Rattle.login_model.specs.Procedure.{take_seat};
-ghost use Rattle.login_model.specs.Creating.{appear_on, create};
+ghost use Rattle.login_model.specs.Creating.{appear_on, create, created_session};
 ghost use Rattle.login_core.specs.Texts.{session_texts};
 ghost use Rattle.login_core.specs.inner.Draft.{marked_by, Fits};
 
@@ -14,8 +14,31 @@ use crate::board::Draft;
 use crate::creating::created::{created_session, seat_of};
 use crate::room::copies::Copies;
 use login_base::{ConnId, HandleNo, SeatName, SessId};
-use login_model::{Creation, Fact, Key, Look, Notice, Owner, Session};
+use login_model::{Boxed, Creation, Fact, Key, Look, Notice, Owner, Session};
 use login_table::{active_on, is_active};
+
+/// The session that a call creates, for its mark and for the facts.
+fn created_twice(
+    who: ConnId,
+    creation: &Creation,
+    fifo: HandleNo,
+    copies: Copies,
+) -> (Boxed<Session>, Boxed<Session>)
+    requires mark { copies.mark ≡ session_texts creation.now }
+    requires fact { copies.fact ≡ session_texts creation.now }
+    ensures mark { result.0 ≡ created_session who creation.now fifo }
+    ensures fact { result.1 ≡ created_session who creation.now fifo }
+{
+    let Copies {
+        mark,
+        fact,
+        mark_slot,
+        fact_slot,
+    } = copies;
+    let mark = created_session(who, creation, fifo, mark);
+    let fact = created_session(who, creation, fifo, fact);
+    (mark_slot.fill(mark), fact_slot.fill(fact))
+}
 
 #[tactic(auto, using(crate::proofs::Growing::growing, crate::proofs::Appearing::appearing))]
 impl Draft {
@@ -53,7 +76,7 @@ impl Draft {
     }
 
     /// A session is as it is created. It comes twice: for the mark and for the facts.
-    fn put_session(&mut self, session: SessId, created: Session, copy: Session)
+    fn put_session(&mut self, session: SessId, created: Boxed<Session>, copy: Boxed<Session>)
         requires copy { copy ≡ created }
         requires room { Fits (put (Key.Sess session) (Fact.Session created)) self.old }
         ensures marked { self.new ≡ marked_by (put (Key.Sess session) (Fact.Session created)) self.old }
@@ -80,9 +103,7 @@ impl Draft {
         requires room { Fits (create who creation.now session fifo) self.old }
         ensures marked { self.new ≡ marked_by (create who creation.now session fifo) self.old }
     {
-        let Copies { mark, fact } = copies;
-        let created = created_session(who, creation, fifo, mark);
-        let copy = created_session(who, creation, fifo, fact);
+        let (created, copy) = created_twice(who, creation, fifo, copies);
         let seat = seat_of(creation.seat.as_slice());
         self.know(creation.uid);
         self.put_owner(fifo, Owner::Fifo(who, session));

@@ -11,27 +11,37 @@ ghost use Rattle.login_core.specs.inner.Draft.{marked_by, Fits};
 use crate::board::Draft;
 use crate::room::copies::Copies;
 use login_base::{SeatName, SessId};
-use login_model::{Fact, Key, Look, Notice, Phase, Session, SessionTexts};
+use login_model::{Fact, Key, Look, Notice, Phase, Session, SessionTexts, Slot};
 use login_table::{is_active, seat_of_session};
 
-/// A session's fact in another phase, with a copy of its texts.
-fn in_phase(fact: &Fact, phase: Phase, texts: SessionTexts) -> Fact
+/// A session in another phase, with a copy of its texts.
+fn session_in_phase(session: &Session, phase: Phase, texts: SessionTexts) -> Session
+    requires { texts ≡ session.now.texts }
+    ensures { result ≡ record session.now { phase = phase } }
+{
+    Session {
+        phase,
+        uid: session.uid,
+        seat: session.seat,
+        vt: session.vt,
+        session_type: session.session_type,
+        class: session.class,
+        leader: session.leader,
+        fifo: session.fifo,
+        remote: session.remote,
+        texts,
+    }
+}
+
+/// A session's fact in another phase, with a copy of its texts, in this memory.
+fn in_phase(fact: &Fact, phase: Phase, texts: SessionTexts, slot: Slot<Session>) -> Fact
     requires { HasTexts fact.now texts }
     ensures { result ≡ in_phase phase fact.now }
 {
     match fact {
-        Fact::Session(session) => Fact::Session(Session {
-            phase,
-            uid: session.uid,
-            seat: session.seat,
-            vt: session.vt,
-            session_type: session.session_type,
-            class: session.class,
-            leader: session.leader,
-            fifo: session.fifo,
-            remote: session.remote,
-            texts,
-        }),
+        Fact::Session(session) => {
+            Fact::Session(slot.fill(session_in_phase(session.get(), phase, texts)))
+        }
         _ => Fact::Absent,
     }
 }
@@ -44,9 +54,14 @@ impl Draft {
         requires room { Fits (set_phase session phase) self.old }
         ensures marked { self.new ≡ marked_by (set_phase session phase) self.old }
     {
-        let Copies { mark, fact } = copies;
-        let mark = in_phase(self.fact(&Key::Sess(session)), phase, mark);
-        let fact = in_phase(self.fact(&Key::Sess(session)), phase, fact);
+        let Copies {
+            mark,
+            fact,
+            mark_slot,
+            fact_slot,
+        } = copies;
+        let mark = in_phase(self.fact(&Key::Sess(session)), phase, mark, mark_slot);
+        let fact = in_phase(self.fact(&Key::Sess(session)), phase, fact, fact_slot);
         self.put(Key::Sess(session), mark, fact);
     }
 

@@ -4,13 +4,16 @@ ghost use Rattle.std.specs.Prelude.{◌≡◌, IfOk};
 ghost use Rattle.login_core.specs.Texts.{session_texts};
 
 use login_base::NoMemory;
-use login_model::{Creation, SessionTexts};
+use login_model::{Creation, Session, SessionTexts, Slot};
+use std::alloc::Global;
 
-/// The texts of a session that is created: for its mark and for its fact.
+/// The texts of a session that is created, and memory for the session: for its mark and for its fact.
 #[derive(Debug, Drop)]
 pub struct Copies {
     pub mark: SessionTexts,
     pub fact: SessionTexts,
+    pub mark_slot: Slot<Session>,
+    pub fact_slot: Slot<Session>,
 }
 
 /// A copy of the texts with which a session is created.
@@ -27,12 +30,19 @@ fn copied_texts(creation: &Creation) -> Result<SessionTexts, NoMemory>
     })
 }
 
-/// Two copies of the texts with which a session is created.
-pub fn copies_of(creation: &Creation) -> Result<Copies, NoMemory>
+/// Two copies of the texts with which a session is created, and memory for two sessions.
+pub fn copies_of(alloc: Global, creation: &Creation) -> Result<Copies, NoMemory>
     ensures mark { IfOk result (λ copies. copies.mark ≡ session_texts creation.now) }
     ensures fact { IfOk result (λ copies. copies.fact ≡ session_texts creation.now) }
 {
     let mark = copied_texts(creation)?;
     let fact = copied_texts(creation)?;
-    Ok(Copies { mark, fact })
+    let mark_slot = Slot::new(alloc)?;
+    let fact_slot = Slot::new(alloc)?;
+    Ok(Copies {
+        mark,
+        fact,
+        mark_slot,
+        fact_slot,
+    })
 }

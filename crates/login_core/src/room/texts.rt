@@ -28,12 +28,12 @@ pub struct Texts {
 }
 
 /// The copies of a creation's texts.
-fn fresh_of(creation: &Creation) -> Result<FreshTexts, NoMemory>
+fn fresh_of(alloc: Global, creation: &Creation) -> Result<FreshTexts, NoMemory>
     ensures { IfOk result (λ f. AreFresh creation.now (Some f)) }
 {
-    let created = copies_of(creation)?;
-    let closing = copies_of(creation)?;
-    let gone = copies_of(creation)?;
+    let created = copies_of(alloc, creation)?;
+    let closing = copies_of(alloc, creation)?;
+    let gone = copies_of(alloc, creation)?;
     Ok(FreshTexts {
         created,
         closing,
@@ -55,7 +55,7 @@ impl Texts {
     }
 
     /// Makes the copies that an event needs.
-    pub fn prepare(&mut self, event: &Event) -> Result<(), NoMemory>
+    pub fn prepare(&mut self, alloc: Global, event: &Event) -> Result<(), NoMemory>
         ensures ready { OnOk result (AreReady event.now self.new) }
         ensures closing { self.new.closing.items ≡ self.old.closing.items }
         ensures gone { self.new.gone.items ≡ self.old.gone.items }
@@ -64,7 +64,7 @@ impl Texts {
             if let Call::Create(creation) = &request.call {
                 self.closing.reserve()?;
                 self.gone.reserve()?;
-                self.fresh = Some(fresh_of(creation)?);
+                self.fresh = Some(fresh_of(alloc, creation)?);
             }
         }
         Ok(())

@@ -28,6 +28,7 @@ fn answer_of(core: &Core, number: usize) -> Option<&Answer> {
 fn is_created(answer: Option<&Answer>) -> bool {
     match answer {
         Some(Answer::Created(created)) => {
+            let created = created.get();
             created.session == SessId(1)
                 && created.fifo == HandleNo(1)
                 && created.uid == Uid(1000)
@@ -53,7 +54,7 @@ fn is_first_session(answer: Option<&Answer>) -> bool {
                 row.session == SessId(1)
                     && row.uid == Uid(1000)
                     && row.name.as_slice() == b"alice".as_slice()
-                    && is_seat0(row.seat)
+                    && is_seat0(row.seat_name())
             }
             _ => false,
         },
