@@ -1,5 +1,5 @@
 -- Rows whose keys ascend: what is under a key, and what a setting makes of them.
-use Rattle.std.proofs.Common.{◌≡◌, ℕ, zero, suc, nat_lt, ◌<◌, ◌≤◌, Bool, true, false, cond, not, Option, Some, None, List, [], ◌∷◌, ◌++◌, length, get_or, take, drop, set, refl, ap, sym, ◌∙◌, subst, arith, inl, inr}
+use Rattle.std.proofs.Common.{◌≡◌, ℕ, zero, suc, ◌<◌, ◌≤◌, Bool, true, false, cond, Option, Some, None, List, [], ◌∷◌, ◌++◌, length, get_or, take, drop, set, refl, ap, sym, ◌∙◌, subst, arith, inl, inr}
 use Rattle.std.proofs.lemmas.List.{get_or_read}
 use Rattle.std.specs.List.Sorted.{IsPartitionedBy, IsPartitionPoint}
 use Rattle.login_model.specs.declared.fact.Key.{Key}
@@ -10,11 +10,11 @@ use Rattle.login_model.specs.Start.{start_fact}
 use Rattle.login_model.specs.Trail.{Trail, value}
 use Rattle.login_model.specs.Names.{is_above}
 use Rattle.login_model.proofs.Keys.{same_key-true, test}
-use Rattle.login_table.specs.KeyOrder.{key_lt, place}
+use Rattle.login_table.specs.KeyOrder.{key_lt}
 use Rattle.login_table.specs.Rows.{as_trail, Ascend, AscendFrom, IsFront}
 use Rattle.login_table.specs.declared.rows.Row.{Row}
 use Rattle.login_table.proofs.Standing.{value-set, value-start}
-use Rattle.login_table.proofs.KeyOrder.{key_order, kind-below, no-test, below-apart, above-apart, above}
+use Rattle.login_table.proofs.KeyOrder.{key_order, no-test, below-apart, above-apart, above}
 
 -- ascending rows, opened
 pub opened : (xs : List Row) → Ascend xs → AscendFrom None xs
@@ -43,21 +43,8 @@ parted p c b (x ∷ xs) a (suc i) (suc j) d le lt h = parted p c (Some x.key) xs
 pub below-closed : (k : Key) (x y : Row) → key_lt x.key y.key ≡ true → key_lt y.key k ≡ true → key_lt x.key k ≡ true
 below-closed k x y h e = key_order.transitive x.key y.key k h e
 
-flip : (b : Bool) → not b ≡ true → b ≡ false
-flip true h = let z : false ≡ true = h in cc
-flip false h = refl
-
-pub up-to-closed : (k : Key) (x y : Row) → key_lt x.key y.key ≡ true → not (key_lt k y.key) ≡ true → not (key_lt k x.key) ≡ true
-up-to-closed k x y h e = elim (test (key_lt k x.key)) [
-  | inl t ↦ absurd (no-test (key_order.transitive k x.key y.key t h) (flip (key_lt k y.key) e))
-  | inr f ↦ ap not f
-]
-
-pub kinds-closed : (m : ℕ) (x y : Row) → key_lt x.key y.key ≡ true → nat_lt (place y.key) m ≡ true → nat_lt (place x.key) m ≡ true
-kinds-closed m x y h e = kind-below m x.key y.key h e
-
--- a point that parts the rows ends their front
-pub front-point : (p : Row → Bool) (xs : List Row) (i : ℕ) → i ≤ length xs → IsPartitionPoint (λ y. p y ≡ true) (λ y. p y ≡ false) xs i → IsFront p i xs
+-- a point that parts a list ends its front
+pub front-point : {A : Type 0} (p : A → Bool) (xs : List A) (i : ℕ) → i ≤ length xs → IsPartitionPoint (λ y. p y ≡ true) (λ y. p y ≡ false) xs i → IsFront p i xs
 front-point p [] zero h e = tt
 front-point p [] (suc i) h e = absurd (omega arith)
 front-point p (x ∷ xs) zero h e = e.1 0 x (omega arith) (omega arith)
@@ -73,7 +60,7 @@ value-other : (k j : Key) (x : Fact) (t : Trail) → same_key j k ≡ false → 
 value-other k j x t e = value-set k j x t ∙ ap (λ (b : Bool). cond b x (value t k)) e
 
 -- the row at the place of a key is its own
-pub found : (k : Key) (xs : List Row) (i : ℕ) (d : Row) → IsFront (λ x. key_lt x.key k) i xs → i < length xs → same_key (get_or xs i d).key k ≡ true
+pub found : (k : Key) (xs : List Row) (i : ℕ) (d : Row) → IsFront (λ (x : Row). key_lt x.key k) i xs → i < length xs → same_key (get_or xs i d).key k ≡ true
     → (get_or xs i d).fact ≡ value (as_trail xs) k
 found k [] i d f h e = absurd (omega arith)
 found k (x ∷ xs) zero d f h e = sym (value-same k x.key x.fact (as_trail xs) e)
@@ -94,7 +81,7 @@ none-below k (x ∷ xs) a =
 abbrev pub IsMissed : Key → List Row → ℕ → Row → Type 0
 IsMissed k xs i d = i < length xs → same_key (get_or xs i d).key k ≡ false
 
-pub missed : (k : Key) (b : Option Key) (xs : List Row) (i : ℕ) (d : Row) → AscendFrom b xs → IsFront (λ x. key_lt x.key k) i xs → IsMissed k xs i d → value (as_trail xs) k ≡ start_fact k
+pub missed : (k : Key) (b : Option Key) (xs : List Row) (i : ℕ) (d : Row) → AscendFrom b xs → IsFront (λ (x : Row). key_lt x.key k) i xs → IsMissed k xs i d → value (as_trail xs) k ≡ start_fact k
 missed k b [] zero d a f n = value-start k
 missed k b [] (suc i) d a f n = absurd f
 missed k b (x ∷ xs) zero d a f n =
@@ -125,7 +112,7 @@ unfolding put_row
 put-alone k f = refl
 
 -- a row put in at the place of its key
-pub inserted : (k : Key) (f : Fact) (xs : List Row) (i : ℕ) (d : Row) → IsFront (λ x. key_lt x.key k) i xs → IsMissed k xs i d
+pub inserted : (k : Key) (f : Fact) (xs : List Row) (i : ℕ) (d : Row) → IsFront (λ (x : Row). key_lt x.key k) i xs → IsMissed k xs i d
     → take i xs ++ record { key = k; fact = f } ∷ drop i xs ≡ put_row k f xs
 inserted k f [] zero d h n = sym (put-alone k f)
 inserted k f [] (suc i) d h n = absurd h
@@ -133,7 +120,7 @@ inserted k f (x ∷ xs) zero d h n = sym (put-before k f x xs h (n (omega arith)
 inserted k f (x ∷ xs) (suc i) d h n = ap (λ (ys : List Row). x ∷ ys) (inserted k f xs i d h.1 (λ l. n (omega arith))) ∙ sym (put-behind k f x xs h.0)
 
 -- the fact of a key's row exchanged
-pub exchanged : (k : Key) (f : Fact) (xs : List Row) (i : ℕ) (d : Row) → IsFront (λ x. key_lt x.key k) i xs → i < length xs → same_key (get_or xs i d).key k ≡ true
+pub exchanged : (k : Key) (f : Fact) (xs : List Row) (i : ℕ) (d : Row) → IsFront (λ (x : Row). key_lt x.key k) i xs → i < length xs → same_key (get_or xs i d).key k ≡ true
     → set xs i (record { key = (get_or xs i d).key; fact = f }) ≡ put_row k f xs
 exchanged k f [] i d h l e = absurd (omega arith)
 exchanged k f (x ∷ xs) zero d h l e = sym (put-there k f x xs h e)
@@ -194,7 +181,7 @@ pub put-is : (k : Key) (f : Fact) (xs : List Row) (j : Key) → value (as_trail 
 put-is k f xs j = value-put k f xs j ∙ sym (value-set j k f (as_trail xs))
 
 -- what indexing reads twice at the place of a key
-pub found-at : (k : Key) (xs : List Row) (i : ℕ) (x y : Row) → IsFront (λ x. key_lt x.key k) i xs → i < length xs → y ≡ get_or xs i y → same_key y.key k ≡ true → x ≡ get_or xs i x
+pub found-at : (k : Key) (xs : List Row) (i : ℕ) (x y : Row) → IsFront (λ (x : Row). key_lt x.key k) i xs → i < length xs → y ≡ get_or xs i y → same_key y.key k ≡ true → x ≡ get_or xs i x
     → x.fact ≡ value (as_trail xs) k
 found-at k xs i x y f h at e again =
     ap (λ (z : Row). z.fact) again
@@ -205,7 +192,7 @@ pub missed-at : (k : Key) (xs : List Row) (i : ℕ) (y : Row) → y ≡ get_or x
 missed-at k xs i y at e h = ap (λ (z : Row). same_key z.key k) (sym at) ∙ e
 
 -- the fact of the row that indexing reads exchanged
-pub exchanged-at : (k : Key) (f : Fact) (xs : List Row) (i : ℕ) (x y : Row) → IsFront (λ x. key_lt x.key k) i xs → i < length xs → y ≡ get_or xs i y → same_key y.key k ≡ true → x ≡ get_or xs i x
+pub exchanged-at : (k : Key) (f : Fact) (xs : List Row) (i : ℕ) (x y : Row) → IsFront (λ (x : Row). key_lt x.key k) i xs → i < length xs → y ≡ get_or xs i y → same_key y.key k ≡ true → x ≡ get_or xs i x
     → set xs i (record { key = x.key; fact = f }) ≡ put_row k f xs
 exchanged-at k f xs i x y h l at e again =
     ap (λ (z : Row). set xs i (record { key = z.key; fact = f })) again

@@ -17,16 +17,16 @@ use Rattle.login_table.specs.KeyOrder.{place, pair_lt, key_lt}
 -- a key as the numbers by which it stands behind others of its kind
 abbrev numbers : Key → List ℕ
 numbers (Conn a) = a.0 ∷ []
-numbers (Sess a) = a.0 ∷ []
-numbers (User a) = a.0 ∷ []
+numbers (Sess a) = a.0 ∷ 0 ∷ []
+numbers (User a) = a.0 ∷ 0 ∷ []
 numbers (Seat a) = a
 numbers (Dev a) = a.major ∷ a.minor ∷ []
 numbers (Lock a) = a.0 ∷ []
-numbers (Idle a) = a.0 ∷ []
-numbers (Locked a) = a.0 ∷ []
-numbers (Sig a) = a.0 ∷ []
+numbers (Idle a) = a.0 ∷ 1 ∷ []
+numbers (Locked a) = a.0 ∷ 2 ∷ []
+numbers (Sig a) = a.0 ∷ 3 ∷ []
 numbers (Ctl a) = a.0 ∷ []
-numbers (Linger a) = a.0 ∷ []
+numbers (Linger a) = a.0 ∷ 1 ∷ []
 numbers (Owner a) = a.0 ∷ []
 numbers (Live a) = a.0 ∷ []
 numbers (Act a) = a
@@ -43,6 +43,10 @@ numbers Now = []
 alone : (a b : ℕ) → nat_lt a b ≡ seat_lt (a ∷ []) (b ∷ [])
 alone a b = grind (arith, nat_tests)
 
+-- in one turn by the number alone
+level : (a b : ℕ) → nat_lt a b ≡ (nat_lt a b || ((a == b) && false))
+level a b = grind (arith, nat_tests)
+
 of-device : (a b : DevNo) → device_lt a b ≡ seat_lt (a.major ∷ a.minor ∷ []) (b.major ∷ b.minor ∷ [])
 of-device a b = ap (λ (x : Bool). nat_lt a.major b.major || ((a.major == b.major) && x)) (alone a.minor b.minor)
 
@@ -51,16 +55,16 @@ of-pair s r a b = ap (λ (x : Bool). nat_lt s.0 r.0 || ((s.0 == r.0) && x)) (of-
 
 by-numbers : (j k : Key) → key_lt j k ≡ seat_lt (place j ∷ numbers j) (place k ∷ numbers k)
 by-numbers (Conn a) (Conn b) = alone a.0 b.0
-by-numbers (Sess a) (Sess b) = alone a.0 b.0
-by-numbers (User a) (User b) = alone a.0 b.0
+by-numbers (Sess a) (Sess b) = level a.0 b.0
+by-numbers (User a) (User b) = level a.0 b.0
 by-numbers (Seat a) (Seat b) = refl
 by-numbers (Dev a) (Dev b) = of-device a b
 by-numbers (Lock a) (Lock b) = alone a.0 b.0
-by-numbers (Idle a) (Idle b) = alone a.0 b.0
-by-numbers (Locked a) (Locked b) = alone a.0 b.0
-by-numbers (Sig a) (Sig b) = alone a.0 b.0
+by-numbers (Idle a) (Idle b) = level a.0 b.0
+by-numbers (Locked a) (Locked b) = level a.0 b.0
+by-numbers (Sig a) (Sig b) = level a.0 b.0
 by-numbers (Ctl a) (Ctl b) = alone a.0 b.0
-by-numbers (Linger a) (Linger b) = alone a.0 b.0
+by-numbers (Linger a) (Linger b) = level a.0 b.0
 by-numbers (Owner a) (Owner b) = alone a.0 b.0
 by-numbers (Live a) (Live b) = alone a.0 b.0
 by-numbers (Act a) (Act b) = refl
@@ -101,6 +105,10 @@ pair-total f s r a b p q =
 handle-total : (a b : HandleNo) → nat_lt a.0 b.0 ≡ false → nat_lt b.0 a.0 ≡ false → a ≡ b
 handle-total a b p q = ap (λ (x : ℕ). let r : HandleNo = record { 0 = x } in r) (number_order.total a.0 b.0 p q)
 
+-- of two turns one is below the other
+apart-by-turn : (a b : ℕ) → (nat_lt a b || ((a == b) && true)) ≡ false → (nat_lt b a || ((b == a) && false)) ≡ false → ⊥
+apart-by-turn a b p q = let both : true ≡ false = grind (arith, nat_tests) in cc
+
 key-total : (j k : Key) → key_lt j k ≡ false → key_lt k j ≡ false → j ≡ k
 key-total (Conn a) (Conn b) p q = ap Conn (conn_order.total a b p q)
 key-total (Sess a) (Sess b) p q = ap Sess (session_order.total a b p q)
@@ -125,6 +133,20 @@ key-total (Mode a) (Mode b) p q = ap Mode (device_order.total a b p q)
 key-total Op Op p q = refl
 key-total Docked Docked p q = refl
 key-total Now Now p q = refl
+key-total (Sess a) (Idle b) p q = absurd (apart-by-turn a.0 b.0 p q)
+key-total (Sess a) (Locked b) p q = absurd (apart-by-turn a.0 b.0 p q)
+key-total (Sess a) (Sig b) p q = absurd (apart-by-turn a.0 b.0 p q)
+key-total (Idle a) (Sess b) p q = absurd (apart-by-turn b.0 a.0 q p)
+key-total (Idle a) (Locked b) p q = absurd (apart-by-turn a.0 b.0 p q)
+key-total (Idle a) (Sig b) p q = absurd (apart-by-turn a.0 b.0 p q)
+key-total (Locked a) (Sess b) p q = absurd (apart-by-turn b.0 a.0 q p)
+key-total (Locked a) (Idle b) p q = absurd (apart-by-turn b.0 a.0 q p)
+key-total (Locked a) (Sig b) p q = absurd (apart-by-turn a.0 b.0 p q)
+key-total (Sig a) (Sess b) p q = absurd (apart-by-turn b.0 a.0 q p)
+key-total (Sig a) (Idle b) p q = absurd (apart-by-turn b.0 a.0 q p)
+key-total (Sig a) (Locked b) p q = absurd (apart-by-turn b.0 a.0 q p)
+key-total (User a) (Linger b) p q = absurd (apart-by-turn a.0 b.0 p q)
+key-total (Linger a) (User b) p q = absurd (apart-by-turn b.0 a.0 q p)
 key-total _ _ p q = cc
 
 pub key_order : IsOrder key_lt

@@ -6,37 +6,64 @@ use Rattle.login_model.specs.declared.fact.Key.{Key}
 use Rattle.login_model.specs.declared.fact.Key.TheVariants as key
 use Rattle.login_model.specs.Names.{session_lt, user_lt, conn_lt, seat_lt, device_lt, lock_lt}
 
--- the place of a key's kind, with those that tell what is there in front
+-- the place of a key's kind, with those that tell what is there in front, and behind each session and each user
+-- what is told of it
 abbrev pub place : Key → ℕ
 place (key.Conn a) = 0
 place (key.Sess a) = 1
+place (key.Idle a) = 1
+place (key.Locked a) = 1
+place (key.Sig a) = 1
 place (key.User a) = 2
+place (key.Linger a) = 2
 place (key.Seat a) = 3
 place (key.Dev a) = 4
 place (key.Lock a) = 5
-place (key.Idle a) = 6
-place (key.Locked a) = 7
-place (key.Sig a) = 8
-place (key.Ctl a) = 9
-place (key.Linger a) = 10
-place (key.Owner a) = 11
-place (key.Live a) = 12
-place (key.Act a) = 13
-place key.Vt = 14
-place (key.Getty a) = 15
-place key.Pending = 16
-place (key.Taken s a) = 17
-place (key.Awaited s a) = 18
-place (key.Mode a) = 19
-place key.Op = 20
-place key.Docked = 21
-place key.Now = 22
+place (key.Ctl a) = 6
+place (key.Owner a) = 7
+place (key.Live a) = 8
+place (key.Act a) = 9
+place key.Vt = 10
+place (key.Getty a) = 11
+place key.Pending = 12
+place (key.Taken s a) = 13
+place (key.Awaited s a) = 14
+place (key.Mode a) = 15
+place key.Op = 16
+place key.Docked = 17
+place key.Now = 18
+
+-- the number of the session or the user by which a key stands in its place
+abbrev pub number : Key → ℕ
+number (key.Sess a) = a.0
+number (key.Idle a) = a.0
+number (key.Locked a) = a.0
+number (key.Sig a) = a.0
+number (key.User a) = a.0
+number (key.Linger a) = a.0
+number _ = 0
+
+-- the turn of a key among those of one session or one user
+abbrev pub turn : Key → ℕ
+turn (key.Idle a) = 1
+turn (key.Locked a) = 2
+turn (key.Sig a) = 3
+turn (key.Linger a) = 1
+turn _ = 0
+
+-- of keys of two kinds in one place: by the number, and then by the turn
+abbrev pub part_lt : Key → Key → Bool
+part_lt j k = nat_lt (number j) (number k) || ((number j == number k) && nat_lt (turn j) (turn k))
+
+-- of keys of two kinds: by the place, and then within it
+abbrev pub mixed_lt : Key → Key → Bool
+mixed_lt j k = nat_lt (place j) (place k) || ((place j == place k) && part_lt j k)
 
 -- by the session, and then by the device
 abbrev pub pair_lt : SessId → DevNo → SessId → DevNo → Bool
 pair_lt s a r b = session_lt s r || ((s.0 == r.0) && device_lt a b)
 
--- by the kind, and keys of one kind by their names
+-- keys of one kind by their names, and others by their places and within them
 abbrev pub key_lt : Key → Key → Bool
 key_lt (key.Conn a) (key.Conn b) = conn_lt a b
 key_lt (key.Sess a) (key.Sess b) = session_lt a b
@@ -61,4 +88,4 @@ key_lt (key.Mode a) (key.Mode b) = device_lt a b
 key_lt key.Op key.Op = false
 key_lt key.Docked key.Docked = false
 key_lt key.Now key.Now = false
-key_lt j k = nat_lt (place j) (place k)
+key_lt j k = mixed_lt j k

@@ -1,4 +1,5 @@
 pub mod KeyOrder
+pub mod KeySet
 pub mod Listed
 pub mod Nearest
 pub mod Rows

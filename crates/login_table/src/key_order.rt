@@ -1,10 +1,11 @@
 // The order of keys.
 
 ghost use Rattle.std.specs.Prelude.{◌≡◌};
-ghost use Rattle.login_table.specs.KeyOrder.{key_lt, pair_lt, place};
+ghost use Rattle.login_model.specs.Names.{seat_lt};
+ghost use Rattle.login_table.specs.KeyOrder.{key_lt, mixed_lt, number, pair_lt, part_lt, place, turn};
 
 use crate::name::Order;
-use login_base::{DevNo, SessId};
+use login_base::{DevNo, SeatName, SessId};
 use login_model::Key;
 
 /// The places of the kinds that tell what is there.
@@ -20,35 +21,31 @@ pub(crate) const DEVICES: u8 = 4;
 
 pub(crate) const LOCKS: u8 = 5;
 
-/// The place of a key's kind. The kinds that tell what is there come first, so that a table has its names
-/// in front.
+/// The place of a key's kind. What is told of a session, or of a user, stands in one place with it, so that
+/// what comes of a new one goes behind all that was told of those before.
 pub fn kind_place(key: &Key) -> u8
     ensures { result ≡ place key.now }
 {
     match key {
         Key::Conn(_) => CONNECTIONS,
-        Key::Sess(_) => SESSIONS,
-        Key::User(_) => USERS,
+        Key::Sess(_) | Key::Idle(_) | Key::Locked(_) | Key::Sig(_) => SESSIONS,
+        Key::User(_) | Key::Linger(_) => USERS,
         Key::Seat(_) => SEATS,
         Key::Dev(_) => DEVICES,
         Key::Lock(_) => LOCKS,
-        Key::Idle(_) => 6,
-        Key::Locked(_) => 7,
-        Key::Sig(_) => 8,
-        Key::Ctl(_) => 9,
-        Key::Linger(_) => 10,
-        Key::Owner(_) => 11,
-        Key::Live(_) => 12,
-        Key::Act(_) => 13,
-        Key::Vt => 14,
-        Key::Getty(_) => 15,
-        Key::Pending => 16,
-        Key::Taken(_, _) => 17,
-        Key::Awaited(_, _) => 18,
-        Key::Mode(_) => 19,
-        Key::Op => 20,
-        Key::Docked => 21,
-        Key::Now => 22,
+        Key::Ctl(_) => 6,
+        Key::Owner(_) => 7,
+        Key::Live(_) => 8,
+        Key::Act(_) => 9,
+        Key::Vt => 10,
+        Key::Getty(_) => 11,
+        Key::Pending => 12,
+        Key::Taken(_, _) => 13,
+        Key::Awaited(_, _) => 14,
+        Key::Mode(_) => 15,
+        Key::Op => 16,
+        Key::Docked => 17,
+        Key::Now => 18,
     }
 }
 
@@ -56,6 +53,52 @@ fn is_pair_below(session: SessId, device: DevNo, other: SessId, another: DevNo) 
     ensures { result ≡ pair_lt session device other another }
 {
     session.0 < other.0 || (session.0 == other.0 && device.is_below(another))
+}
+
+/// Whether the name of a seat is below another. It reads them where they are, since each copy of one costs more
+/// than a comparison.
+fn is_seat_below(seat: &SeatName, other: &SeatName) -> bool
+    ensures { result ≡ seat_lt seat.now other.now }
+{
+    seat.as_slice() < other.as_slice()
+}
+
+/// The number of the session or the user by which a key stands in its place.
+fn number(key: &Key) -> u32
+    ensures { result ≡ number key.now }
+{
+    match key {
+        Key::Sess(session) | Key::Idle(session) | Key::Locked(session) | Key::Sig(session) =>
+            session.0,
+        Key::User(user) | Key::Linger(user) => user.0,
+        _ => 0,
+    }
+}
+
+/// The turn of a key among those of one session or one user.
+fn turn(key: &Key) -> u8
+    ensures { result ≡ turn key.now }
+{
+    match key {
+        Key::Idle(_) | Key::Linger(_) => 1,
+        Key::Locked(_) => 2,
+        Key::Sig(_) => 3,
+        _ => 0,
+    }
+}
+
+/// Whether a key is below another of its place, which is of another kind.
+fn is_part_below(a: &Key, b: &Key) -> bool
+    ensures { result ≡ part_lt a.now b.now }
+{
+    number(a) < number(b) || (number(a) == number(b) && turn(a) < turn(b))
+}
+
+/// Whether a key is below one of another kind.
+fn is_mixed_below(a: &Key, b: &Key) -> bool
+    ensures { result ≡ mixed_lt a.now b.now }
+{
+    kind_place(a) < kind_place(b) || (kind_place(a) == kind_place(b) && is_part_below(a, b))
 }
 
 /// Whether a key is below another.
@@ -66,7 +109,7 @@ pub fn is_key_below(a: &Key, b: &Key) -> bool
         (Key::Conn(x), Key::Conn(y)) => x.is_below(*y),
         (Key::Sess(x), Key::Sess(y)) => x.is_below(*y),
         (Key::User(x), Key::User(y)) => x.is_below(*y),
-        (Key::Seat(x), Key::Seat(y)) => x.is_below(*y),
+        (Key::Seat(x), Key::Seat(y)) => is_seat_below(x, y),
         (Key::Dev(x), Key::Dev(y)) => x.is_below(*y),
         (Key::Lock(x), Key::Lock(y)) => x.is_below(*y),
         (Key::Idle(x), Key::Idle(y)) => x.is_below(*y),
@@ -76,11 +119,11 @@ pub fn is_key_below(a: &Key, b: &Key) -> bool
         (Key::Linger(x), Key::Linger(y)) => x.is_below(*y),
         (Key::Owner(x), Key::Owner(y)) => x.0 < y.0,
         (Key::Live(x), Key::Live(y)) => x.0 < y.0,
-        (Key::Act(x), Key::Act(y)) => x.is_below(*y),
+        (Key::Act(x), Key::Act(y)) => is_seat_below(x, y),
         (Key::Getty(x), Key::Getty(y)) => *x < *y,
         (Key::Taken(s, x), Key::Taken(r, y)) => is_pair_below(*s, *x, *r, *y),
         (Key::Awaited(s, x), Key::Awaited(r, y)) => is_pair_below(*s, *x, *r, *y),
         (Key::Mode(x), Key::Mode(y)) => x.is_below(*y),
-        _ => kind_place(a) < kind_place(b),
+        _ => is_mixed_below(a, b),
     }
 }

@@ -3,6 +3,7 @@
 
 mod active;
 mod key_order;
+mod key_set;
 mod listed;
 mod name;
 mod rows;

@@ -11,6 +11,7 @@ ghost use Rattle.login_model.specs.Where.{is_session_fact, is_user_fact, is_conn
 ghost use Rattle.login_model.specs.Kind.{IsOrder, AreKeys};
 ghost use Rattle.login_model.proofs.NameLaws.{number_order, session_order, user_order, conn_order, seat_order, device_order, lock_order, session_keys, user_keys, conn_keys, seat_keys, device_keys, lock_keys};
 ghost use Rattle.login_table.specs.KeyOrder.{key_lt, place};
+ghost use Rattle.login_table.specs.Rows.{says_there};
 ghost use Rattle.login_table.specs.declared.key_order.TheConstants.{CONNECTIONS, DEVICES, LOCKS, SEATS, SESSIONS, USERS};
 
 use crate::key_order::{CONNECTIONS, DEVICES, LOCKS, SEATS, SESSIONS, USERS};
@@ -85,6 +86,8 @@ pub trait Name: Order {
     ghost of_kind: { (a : Self) → place (key_of a) ≡ Self.kind };
 
     ghost ordered: { (a b : Self) → key_lt (key_of a) (key_of b) ≡ Self.lt a b };
+
+    ghost said: { (a : Self) (x : Fact) → says_there (key_of a) x ≡ is_fact x };
 }
 
 impl Order for SessId {
@@ -113,6 +116,8 @@ impl Name for SessId {
     ghost of_kind = { λ a. refl };
 
     ghost ordered = { λ a b. refl };
+
+    ghost said = { λ a x. refl };
 
     fn in_key(key: &Key) -> Option<SessId> {
         match key {
@@ -165,6 +170,8 @@ impl Name for Uid {
 
     ghost ordered = { λ a b. refl };
 
+    ghost said = { λ a x. refl };
+
     fn in_key(key: &Key) -> Option<Uid> {
         match key {
             Key::User(user) => Some(*user),
@@ -215,6 +222,8 @@ impl Name for ConnId {
     ghost of_kind = { λ a. refl };
 
     ghost ordered = { λ a b. refl };
+
+    ghost said = { λ a x. refl };
 
     fn in_key(key: &Key) -> Option<ConnId> {
         match key {
@@ -267,6 +276,8 @@ impl Name for SeatName {
 
     ghost ordered = { λ a b. refl };
 
+    ghost said = { λ a x. refl };
+
     fn in_key(key: &Key) -> Option<SeatName> {
         match key {
             Key::Seat(seat) => Some(*seat),
@@ -318,6 +329,8 @@ impl Name for DevNo {
 
     ghost ordered = { λ a b. refl };
 
+    ghost said = { λ a x. refl };
+
     fn in_key(key: &Key) -> Option<DevNo> {
         match key {
             Key::Dev(device) => Some(*device),
@@ -368,6 +381,8 @@ impl Name for LockNo {
     ghost of_kind = { λ a. refl };
 
     ghost ordered = { λ a b. refl };
+
+    ghost said = { λ a x. refl };
 
     fn in_key(key: &Key) -> Option<LockNo> {
         match key {

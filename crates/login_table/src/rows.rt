@@ -1,15 +1,16 @@
 // Facts in rows, each under its own key.
 
-ghost use Rattle.std.specs.Prelude.{◌≡◌, ◌+◌, ◌<◌, ◌≤◌, [], ◌∷◌, OnOk, None, length, nat_lt, not};
+ghost use Rattle.std.specs.Prelude.{◌≡◌, ◌+◌, ◌<◌, ◌≤◌, [], ◌∷◌, OnOk, length};
 ghost use Rattle.login_model.specs.Trail.{value};
-ghost use Rattle.login_model.specs.Names.{IsNext, is_above};
+ghost use Rattle.login_model.specs.Names.{IsNext};
 ghost use Rattle.login_model.specs.declared.fact.Key.{Key as AnyKey};
 ghost use Rattle.login_model.specs.declared.mark.Mark.TheVariants.{Set};
-ghost use Rattle.login_table.specs.KeyOrder.{key_lt, place};
-ghost use Rattle.login_table.specs.Rows.{Ascend, IsFront, is_passed, name_there, first_there};
+ghost use Rattle.login_table.specs.KeyOrder.{key_lt};
+ghost use Rattle.login_table.specs.Rows.{Ascend, IsFront, says_there};
 ghost use Rattle.login_table.specs.declared.rows.Row.{Row as AnyRow};
 
-use crate::key_order::{is_key_below, kind_place};
+use crate::key_order::is_key_below;
+use crate::key_set::KeySet;
 use crate::name::{Name, is_above, is_lower};
 use login_base::NoMemory;
 use login_model::{Fact, Key, StartFacts, is_same_key};
@@ -23,22 +24,24 @@ pub struct Row {
     pub fact: Fact,
 }
 
-/// Facts, each under its own key. Under all other keys stand the facts at the start.
+/// Facts, each under its own key. Under all other keys stand the facts at the start. The keys of what is there
+/// are kept beside them, so that going over what is there passes nothing that is gone.
 #[derive(Debug, Drop)]
 pub struct Rows {
     rows: Vec<Row>,
+    there: KeySet,
     start: StartFacts,
 }
 
 impl Model for Rows {
-    ghost use Rattle.std.specs.Prelude.{◌-◌, None, vec_len, vec_capacity};
-    ghost use Rattle.login_table.specs.Rows.{Ascend, RowList, as_trail};
+    ghost use Rattle.std.specs.Prelude.{◌-◌, min, vec_len, vec_capacity};
+    ghost use Rattle.login_table.specs.Rows.{AreThere, Ascend, RowList, as_trail};
 
     ghost Value = { RowList };
 
-    ghost view = { λ r. record { trail = as_trail r.rows.items; spare = vec_capacity r.rows - vec_len r.rows } };
+    ghost view = { λ r. record { trail = as_trail r.rows.items; spare = min (vec_capacity r.rows - vec_len r.rows) r.there.spare } };
 
-    ghost invariant = { λ r. Ascend r.rows.items };
+    ghost invariant = { λ r. Ascend r.rows.items × AreThere r.there.list (as_trail r.rows.items) };
 }
 
 /// How many rows are below a key.
@@ -54,75 +57,19 @@ fn place(rows: &[Row], key: &Key) -> usize
     )
 }
 
-/// How many rows are not above a key.
-fn place_behind(rows: &[Row], key: &Key) -> usize
-    requires { Ascend rows.now }
-    ensures front { IsFront (λ (x : AnyRow). not (key_lt key.now x.key)) result rows.now }
-    ensures bound { result ≤ length rows.now }
+/// Whether a fact says that what its key names is there.
+fn says_there(key: &Key, fact: &Fact) -> bool
+    ensures { result ≡ says_there key.now fact.now }
 {
-    rows.partition_point(
-        |row: &Row| -> bool
-            ensures { result ≡ not (key_lt key.entry.now row.now.key) }
-        { !is_key_below(key, &row.key) },
-    )
-}
-
-/// How many rows are of kinds in front of that one.
-fn place_of_kind(rows: &[Row], kind: u8) -> usize
-    requires { Ascend rows.now }
-    ensures front { IsFront (λ (x : AnyRow). nat_lt (place x.key) kind) result rows.now }
-    ensures bound { result ≤ length rows.now }
-{
-    rows.partition_point(
-        |row: &Row| -> bool
-            ensures { result ≡ nat_lt (place row.now.key) kind }
-        { kind_place(&row.key) < kind },
-    )
-}
-
-/// How many rows are in front of the names above that one.
-fn place_above<N: Name>(rows: &[Row], above: Option<N>) -> usize
-    requires { Ascend rows.now }
-    ensures front { IsFront (is_passed N.key_of N.kind above) result rows.now }
-    ensures bound { result ≤ length rows.now }
-{
-    match above {
-        Some(name) => place_behind(rows, &name.key()),
-        None => place_of_kind(rows, N::kind()),
+    match key {
+        Key::Conn(_) => fact.is_connected(),
+        Key::Sess(_) => fact.is_session(),
+        Key::User(_) => fact.is_user(),
+        Key::Seat(_) => fact.is_seat(),
+        Key::Dev(_) => fact.is_device(),
+        Key::Lock(_) => fact.is_lock(),
+        _ => false,
     }
-}
-
-/// The name that a row says is there.
-fn name_there<N: Name>(row: &Row) -> Option<N>
-    ensures { result ≡ name_there N.name_in N.is_fact row.now }
-{
-    match N::in_key(&row.key) {
-        Some(name) => {
-            if N::is_there(&row.fact) {
-                Some(name)
-            } else {
-                None
-            }
-        }
-        None => None,
-    }
-}
-
-/// The first name that rows say is there. It goes no further than the rows of its kind.
-fn first_there<N: Name>(rows: &[Row]) -> Option<N>
-    requires { Ascend rows.now }
-    ensures { result ≡ first_there N.name_in N.is_fact rows.now }
-{
-    for row in rows {
-        if kind_place(&row.key) > N::kind() {
-            return None;
-        }
-        let name = name_there(row);
-        if name.is_some() {
-            return name;
-        }
-    }
-    None
 }
 
 impl Rows {
@@ -136,6 +83,7 @@ impl Rows {
     {
         Rows {
             rows: Vec::new(alloc),
+            there: KeySet::new(alloc),
             start: StartFacts::new(),
         }
     }
@@ -147,7 +95,7 @@ impl Rows {
         ensures spare { self.old.spare ≤ self.new.spare }
     {
         self.rows.reserve(more)?;
-        Ok(())
+        self.there.reserve(more)
     }
 
     /// The rows, in the order of their keys.
@@ -175,6 +123,7 @@ impl Rows {
         ensures facts { (k : AnyKey) → value self.new.trail k ≡ value (Set key fact ∷ self.old.trail) k }
         ensures spare { self.old.spare ≤ self.new.spare + 1 }
     {
+        self.there.put(&key, says_there(&key, &fact));
         let at = place(self.rows.as_slice(), &key);
         if at < self.rows.len() && is_same_key(&self.rows[at].key, &key) {
             self.rows[at].fact = fact;
@@ -209,8 +158,7 @@ impl Rows {
     pub fn next<N: Name>(&self, above: Option<N>) -> Option<N>
         ensures { IsNext N.lt (is_there N.key_of N.is_fact self.now.trail) above result }
     {
-        let rows = self.rows.as_slice();
-        let found = first_there(&rows[place_above(rows, above)..]);
+        let found = self.there.next(above);
         self.nearer_first(above, found)
     }
 }

@@ -31,10 +31,10 @@ returns c =
     c.fact.ensures
     ∙ sym (elim c.else-at-len.branch [
       | else-at-len-via-then-at-len+else-is_same_key w ↦
-          missed k None xs i w.index.result.now (opened xs c.self.invariant) front
+          missed k None xs i w.index.result.now (opened xs c.self.invariant.0) front
           (missed-at k xs i w.index.result.now w.index.ensures (sym w.is_same_key.ensures ∙ w.if-is_same_key.false))
       | else-at-len-via-else-at-len w ↦
-          missed k None xs i (record { key = k; fact = c.fact.result.now }) (opened xs c.self.invariant) front
+          missed k None xs i (record { key = k; fact = c.fact.result.now }) (opened xs c.self.invariant.0) front
           (λ h. absurd (omega (arith, w.if-at-len.false, c.len.ensures)))
     ])
     ∙ ap (λ (v : RowList). value v.trail k) c.self.view_is

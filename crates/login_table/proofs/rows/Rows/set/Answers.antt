@@ -1,10 +1,11 @@
-use Rattle.std.proofs.Common.{◌≡◌, ◌<◌, ◌∙◌, sym, ap, subst, None, arith, length, List, ◌∷◌, vec_len, refl}
+use Rattle.std.proofs.Common.{◌≡◌, ◌<◌, ◌∙◌, sym, ap, subst, arith, length, List, ◌∷◌, vec_len}
 use Rattle.login_model.specs.Trail.{value}
 use Rattle.login_model.specs.declared.mark.Mark.TheVariants.{Set}
-use Rattle.login_table.specs.Rows.{RowList, as_trail, Ascend, IsFront}
+use Rattle.login_table.specs.Rows.{RowList, as_trail, IsFront}
 use Rattle.login_table.specs.KeyOrder.{key_lt}
 use Rattle.login_table.specs.declared.rows.Row.{Row}
-use Rattle.login_table.proofs.Ascending.{opened, closed, exchanged-at, inserted, missed-at, put_row, put-ascends, put-is}
+use Rattle.login_table.proofs.Ascending.{exchanged-at, inserted, missed-at, put_row, put-is}
+use Rattle.login_table.proofs.NextRow.{rows-hold}
 use Rattle.login_table.proofs.rows.Rows.set.Goals.{else-at-len-via-then-at-len+else-is_same_key, else-at-len-via-else-at-len}
 use Rattle.login_table.proofs.rows.Rows.set.Goals as goal
 
@@ -17,9 +18,8 @@ invariant_of-self c =
     let front : F xs = subst F c.as_slice.ensures.value c.place-at.ensures.front in
     let long : length xs ≡ vec_len c.self.inside.rows = ap length (sym c.as_slice.ensures.value) ∙ c.as_slice.ensures.len in
     let within : i < length xs = omega (arith, c.if-at-len.true, c.len.ensures) in
-    let P : List Row → Type 0 = λ ys. Ascend ys in
-    subst P (sym (exchanged-at k c.args.fact xs i c.index_mut.result.now c.index.result.now front within c.index.ensures (sym c.is_same_key.ensures ∙ c.if-is_same_key.true) c.index_mut.ensures.value))
-    (closed _ (put-ascends k c.args.fact None xs (opened xs c.self.invariant) refl))
+    rows-hold k c.args.fact xs _ c.self.inside.there.list c.put.new.self.list c.says_there.result c.says_there.ensures c.put.ensures.keys c.self.invariant
+    (exchanged-at k c.args.fact xs i c.index_mut.result.now c.index.result.now front within c.index.ensures (sym c.is_same_key.ensures ∙ c.if-is_same_key.true) c.index_mut.ensures.value)
 
 pub returns-then-is_same_key-clause-facts : goal.returns-then-is_same_key-clause-facts
 returns-then-is_same_key-clause-facts c j =
@@ -56,9 +56,7 @@ made c =
 
 pub invariant_of-self-2 : goal.invariant_of-self-2
 invariant_of-self-2 c =
-    let xs = c.self.inside.rows.items in
-    let P : List Row → Type 0 = λ ys. Ascend ys in
-    subst P (sym (made c)) (closed _ (put-ascends c.args.key c.args.fact None xs (opened xs c.self.invariant) refl))
+    rows-hold c.args.key c.args.fact c.self.inside.rows.items _ c.self.inside.there.list c.put.new.self.list c.says_there.result c.says_there.ensures c.put.ensures.keys c.self.invariant (made c)
 
 pub returns-clause-facts : goal.returns-clause-facts
 returns-clause-facts c j =

@@ -1,0 +1,40 @@
+-- Keys in order, each once.
+use Rattle.std.specs.Prelude.{◌≡◌, ℕ, ◌||◌, nat_lt, not, Bool, true, false, Option, Some, None, List, [], ◌∷◌}
+use Rattle.login_model.specs.declared.fact.Key.{Key}
+use Rattle.login_model.specs.Same.{same_key}
+use Rattle.login_model.specs.Names.{is_above}
+use Rattle.login_table.specs.KeyOrder.{key_lt, place}
+
+-- what a set of keys is seen as: its keys in order, and how many more go in without memory
+pub record Keys : Type 0 where
+  pub list : List Key
+  pub spare : ℕ
+
+-- whether a key is among those
+abbrev pub has : Key → List Key → Bool
+has k [] = false
+has k (x ∷ xs) = same_key x k || has k xs
+
+-- the keys ascend, and the first of them is above that one
+abbrev pub KeysAscendFrom : Option Key → List Key → Type 0
+KeysAscendFrom above [] = Unit {0}
+KeysAscendFrom above (x ∷ xs) = (is_above key_lt above x ≡ true) × KeysAscendFrom (Some x) xs
+
+-- each key is above those before it
+unfoldable pub KeysAscend : List Key → Type 0
+KeysAscend keys = KeysAscendFrom None keys
+
+-- whether a key is not above that of a name, or of a kind in front of that one
+abbrev pub is_passed : {A : Type 0} → (A → Key) → ℕ → Option A → Key → Bool
+is_passed key_of kind None x = nat_lt (place x) kind
+is_passed key_of kind (Some a) x = not (key_lt (key_of a) x)
+
+-- the name, or else the other
+abbrev pub or_else : {A : Type 0} → Option A → Option A → Option A
+or_else None other = other
+or_else (Some a) other = Some a
+
+-- the first name that a key is about
+abbrev pub first_named : {A : Type 0} → (Key → Option A) → List Key → Option A
+first_named name_in [] = None
+first_named name_in (x ∷ xs) = or_else (name_in x) (first_named name_in xs)

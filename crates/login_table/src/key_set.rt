@@ -1,0 +1,170 @@
+// Keys in order, each once.
+
+ghost use Rattle.std.specs.Prelude.{◌≡◌, ◌+◌, ◌<◌, ◌≤◌, [], Bool, OnOk, false, if◌then◌else◌, length, nat_lt, not, true};
+ghost use Rattle.login_model.specs.Names.{IsNext};
+ghost use Rattle.login_model.specs.Same.{same_key};
+ghost use Rattle.login_model.specs.declared.fact.Key.{Key as AnyKey};
+ghost use Rattle.login_table.specs.KeyOrder.{key_lt, place};
+ghost use Rattle.login_table.specs.KeySet.{KeysAscend, first_named, has, is_passed};
+ghost use Rattle.login_table.specs.Rows.{IsFront};
+
+use crate::key_order::{is_key_below, kind_place};
+use crate::name::Name;
+use login_base::NoMemory;
+use login_model::{Key, is_same_key};
+use std::alloc::Global;
+use std::marker::Model;
+
+/// Keys in order, each once.
+#[derive(Debug, Drop)]
+pub(crate) struct KeySet {
+    keys: Vec<Key>,
+}
+
+impl Model for KeySet {
+    ghost use Rattle.std.specs.Prelude.{◌-◌, vec_len, vec_capacity};
+    ghost use Rattle.login_table.specs.KeySet.{Keys, KeysAscend};
+
+    ghost Value = { Keys };
+
+    ghost view = { λ s. record { list = s.keys.items; spare = vec_capacity s.keys - vec_len s.keys } };
+
+    ghost invariant = { λ s. KeysAscend s.keys.items };
+}
+
+/// How many keys are below that one.
+fn place(keys: &[Key], key: &Key) -> usize
+    requires { KeysAscend keys.now }
+    ensures front { IsFront (λ (x : AnyKey). key_lt x key.now) result keys.now }
+    ensures bound { result ≤ length keys.now }
+{
+    keys.partition_point(
+        |other: &Key| -> bool
+            ensures { result ≡ key_lt other.now key.entry.now }
+        { is_key_below(other, key) },
+    )
+}
+
+/// How many keys are not above that one.
+fn place_behind(keys: &[Key], key: &Key) -> usize
+    requires { KeysAscend keys.now }
+    ensures front { IsFront (λ (x : AnyKey). not (key_lt key.now x)) result keys.now }
+    ensures bound { result ≤ length keys.now }
+{
+    keys.partition_point(
+        |other: &Key| -> bool
+            ensures { result ≡ not (key_lt key.entry.now other.now) }
+        { !is_key_below(key, other) },
+    )
+}
+
+/// How many keys are of kinds in front of that one.
+fn place_of_kind(keys: &[Key], kind: u8) -> usize
+    requires { KeysAscend keys.now }
+    ensures front { IsFront (λ (x : AnyKey). nat_lt (place x) kind) result keys.now }
+    ensures bound { result ≤ length keys.now }
+{
+    keys.partition_point(
+        |other: &Key| -> bool
+            ensures { result ≡ nat_lt (place other.now) kind }
+        { kind_place(other) < kind },
+    )
+}
+
+/// How many keys are in front of those of the names above that one.
+fn place_above<N: Name>(keys: &[Key], above: Option<N>) -> usize
+    requires { KeysAscend keys.now }
+    ensures front { IsFront (is_passed N.key_of N.kind above) result keys.now }
+    ensures bound { result ≤ length keys.now }
+{
+    match above {
+        Some(name) => place_behind(keys, &name.key()),
+        None => place_of_kind(keys, N::kind()),
+    }
+}
+
+/// The first name that a key is about. It goes no further than the keys of its kind.
+fn first_named<N: Name>(keys: &[Key]) -> Option<N>
+    requires { KeysAscend keys.now }
+    ensures { result ≡ first_named N.name_in keys.now }
+{
+    for key in keys {
+        if kind_place(key) > N::kind() {
+            return None;
+        }
+        let name = N::in_key(key);
+        if name.is_some() {
+            return name;
+        }
+    }
+    None
+}
+
+impl KeySet {
+    /// No keys. It takes no memory.
+    pub(crate) fn new(alloc: Global) -> KeySet
+        ensures { result.list ≡ [] }
+    {
+        KeySet {
+            keys: Vec::new(alloc),
+        }
+    }
+
+    /// Makes room for so many more keys.
+    pub(crate) fn reserve(&mut self, more: usize) -> Result<(), NoMemory>
+        ensures ok { OnOk result (more ≤ self.new.spare) }
+        ensures list { self.new.list ≡ self.old.list }
+        ensures spare { self.old.spare ≤ self.new.spare }
+    {
+        self.keys.reserve(more)?;
+        Ok(())
+    }
+
+    /// Puts a key in. It takes no memory.
+    fn insert(&mut self, key: Key)
+        requires { 0 < self.old.spare }
+        ensures keys { (k : AnyKey) → has k self.new.list ≡ (if same_key key k then true else has k self.old.list) }
+        ensures spare { self.old.spare ≤ self.new.spare + 1 }
+    {
+        let at = place(self.keys.as_slice(), &key);
+        if at < self.keys.len() && is_same_key(&self.keys[at], &key) {
+            return;
+        }
+        match self.keys.insert(at, key) {
+            Ok(()) => {}
+            Err(_) => unreachable!(),
+        }
+    }
+
+    /// Takes a key out, if it is there.
+    fn remove(&mut self, key: &Key)
+        ensures keys { (k : AnyKey) → has k self.new.list ≡ (if same_key key.now k then false else has k self.old.list) }
+        ensures spare { self.old.spare ≤ self.new.spare }
+    {
+        let at = place(self.keys.as_slice(), key);
+        if at < self.keys.len() && is_same_key(&self.keys[at], key) {
+            self.keys.remove(at);
+        }
+    }
+
+    /// Puts a key in or takes it out. It takes no memory.
+    pub(crate) fn put(&mut self, key: &Key, is_in: bool)
+        requires { 0 < self.old.spare }
+        ensures keys { (k : AnyKey) → has k self.new.list ≡ (if same_key key.now k then is_in else has k self.old.list) }
+        ensures spare { self.old.spare ≤ self.new.spare + 1 }
+    {
+        if is_in {
+            self.insert(*key);
+        } else {
+            self.remove(key);
+        }
+    }
+
+    /// The least name above that one whose key is there.
+    pub(crate) fn next<N: Name>(&self, above: Option<N>) -> Option<N>
+        ensures { IsNext N.lt (λ a. has (N.key_of a) self.now.list) above result }
+    {
+        let keys = self.keys.as_slice();
+        first_named(&keys[place_above(keys, above)..])
+    }
+}
