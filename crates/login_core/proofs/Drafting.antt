@@ -11,7 +11,9 @@ use Rattle.login_model.specs.declared.mark.Mark.TheVariants.{Set, Say}
 use Rattle.login_model.specs.declared.mark.Whom.{Whom}
 use Rattle.login_model.specs.declared.mark.Notice.{Notice}
 use Rattle.login_model.specs.declared.mark.Entry.{Entry}
+use Rattle.login_core.specs.declared.board.seating.Seating.{Seating}
 use Rattle.login_core.specs.inner.Facts.{Tables, StandFor}
+use Rattle.login_core.specs.inner.Seating.{AreSeated}
 use Rattle.login_core.specs.inner.UnderWay.{so_far}
 use Rattle.login_core.specs.inner.Draft.{DraftState, Fits, IsDraft, tell, with_trail}
 use Rattle.login_laws.proofs.JournalLaws.{length-after}
@@ -42,10 +44,10 @@ room-inside es ms reach d v h =
     let r = ap (λ (w : DraftState). w.reach) v in
     omega arith
 
-pub draft-more : (es : List Entry) (marks new : Room Mark) (facts tables : Tables) (made reach : ℕ) (x : Mark) → IsDraft (so_far es marks.items) marks facts made reach → length (so_far es marks.items) + 1 ≤ reach
+pub draft-more : (es : List Entry) (marks new : Room Mark) (facts tables : Tables) (seating seats : Seating) (made reach : ℕ) (x : Mark) → IsDraft (so_far es marks.items) marks facts seating made reach → length (so_far es marks.items) + 1 ≤ reach
     → new.items ≡ marks.items ++ x ∷ [] → marks.spare ≤ new.spare + 1 → facts.spare ≤ tables.spare + 1 → StandFor tables (x ∷ so_far es marks.items)
-    → IsDraft (so_far es new.items) new tables (made + 1) reach
-draft-more es marks new facts tables made reach x d room e m f s =
+    → AreSeated seats (x ∷ so_far es marks.items) → IsDraft (so_far es new.items) new tables seats (made + 1) reach
+draft-more es marks new facts tables seating seats made reach x d room e m f s p =
     let u = more es marks.items new.items x e in
     let n : length (so_far es new.items) ≡ length (so_far es marks.items) + 1 = ap length u ∙ sym (add-one (length (so_far es marks.items))) in
     let counted = d.counted in
@@ -53,6 +55,7 @@ draft-more es marks new facts tables made reach x d room e m f s =
     let facts_fit = d.facts_fit in
     record {
       stands = subst (StandFor tables) (sym u) s;
+      seated = subst (AreSeated seats) (sym u) p;
       counted = omega arith;
       marks_fit = omega arith;
       facts_fit = omega arith;
@@ -87,15 +90,16 @@ pub record ClosesBehind (before old new : List Entry) (e : Entry) (marks blank :
 pub closed-trail : (before old new : List Entry) (e : Entry) (marks blank : Room Mark) → ClosesBehind before old new e marks blank → so_far new blank.items ≡ so_far before marks.items
 closed-trail before old new e marks blank b = closed old new e marks.items blank.items b.entry b.blank_is b.marks_are ∙ sym (so_far-same before old marks.items b.behind)
 
-pub draft-closed : (before old new : List Entry) (e : Entry) (marks blank : Room Mark) (facts : Tables) (made reach room : ℕ) → IsDraft (so_far before marks.items) marks facts made reach → ClosesBehind before old new e marks blank
-    → reach ≤ length (trail_of before) + room → room ≤ blank.spare → IsDraft (so_far new blank.items) blank facts made reach
-draft-closed before old new e marks blank facts made reach room d b fit spare =
+pub draft-closed : (before old new : List Entry) (e : Entry) (marks blank : Room Mark) (facts : Tables) (seating : Seating) (made reach room : ℕ) → IsDraft (so_far before marks.items) marks facts seating made reach → ClosesBehind before old new e marks blank
+    → reach ≤ length (trail_of before) + room → room ≤ blank.spare → IsDraft (so_far new blank.items) blank facts seating made reach
+draft-closed before old new e marks blank facts seating made reach room d b fit spare =
     let t = closed-trail before old new e marks blank b in
     let n = ap length t in
     let longer = so_far-longer before marks.items in
     let counted = d.counted in
     record {
       stands = subst (StandFor facts) (sym t) d.stands;
+      seated = subst (AreSeated seating) (sym t) d.seated;
       counted = omega arith;
       marks_fit = omega arith;
       facts_fit = d.facts_fit;

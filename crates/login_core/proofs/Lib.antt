@@ -2,6 +2,7 @@ pub mod Counting
 pub mod CountLaws
 pub mod PairLaws
 pub mod CountedLaws
+pub mod TallyLaws
 pub mod HomeLaws
 pub mod Standing
 pub mod Placed
@@ -30,6 +31,7 @@ pub mod TextsEnd
 pub mod ShutLaws
 pub mod NearestPlace
 pub mod SeatPlaces
+pub mod TerminalPlaces
 pub mod Turned
 pub mod Filling
 pub mod TextsClose

@@ -104,22 +104,22 @@ onto-came t seat (s ∷ ss) seen a i =
     came-by t seat s ss seen a b (onto-came t seat ss (cond b (place_of t seat s ∷ seen) seen) a i)
 
 -- the terminals of sessions
-abbrev vt : Trail → SessId → ℕ
+abbrev pub vt : Trail → SessId → ℕ
 vt t s = vt_in (value t (Sess s))
 
-terminals-in : (t : Trail) (ss : List SessId) (a : ℕ) → IsIn a (map (vt t) ss) → IsIn a (terminals t ss)
+pub terminals-in : (t : Trail) (ss : List SessId) (a : ℕ) → IsIn a (map (vt t) ss) → IsIn a (terminals t ss)
 unfolding terminals
 terminals-in t [] a i = i
 terminals-in t (s ∷ ss) a (inl e) =
     (let P : ℕ → Type 0 = λ n. IsIn n (insert nat_lt (vt t s) (terminals t ss)) in subst P (sym e) (in-insert nat_lt number_order (vt t s) (terminals t ss)))
 terminals-in t (s ∷ ss) a (inr i) = insert-keeps nat_lt a (vt t s) (terminals t ss) (terminals-in t ss a i)
 
-terminals-came : (t : Trail) (ss : List SessId) (a : ℕ) → IsIn a (terminals t ss) → IsIn a (map (vt t) ss)
+pub terminals-came : (t : Trail) (ss : List SessId) (a : ℕ) → IsIn a (terminals t ss) → IsIn a (map (vt t) ss)
 unfolding terminals
 terminals-came t [] a i = i
 terminals-came t (s ∷ ss) a i = elim (insert-came nat_lt a (vt t s) (terminals t ss) i) [ inl e ↦ inl e | inr j ↦ inr (terminals-came t ss a j) ]
 
-terminals-ascending : (t : Trail) (ss : List SessId) → Ascending nat_lt (terminals t ss)
+pub terminals-ascending : (t : Trail) (ss : List SessId) → Ascending nat_lt (terminals t ss)
 unfolding terminals
 terminals-ascending t [] = tt
 terminals-ascending t (s ∷ ss) = insert-ascending nat_lt number_order (vt t s) (terminals t ss) (terminals-ascending t ss)

@@ -8,6 +8,7 @@ pub mod Handles
 pub mod Ledger
 pub mod Ending
 pub mod UnderWay
+pub mod Seating
 pub mod Draft
 pub mod Board
 pub mod Awaiting

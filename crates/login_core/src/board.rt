@@ -4,6 +4,7 @@ pub mod choosing;
 pub mod facts;
 pub mod home;
 pub mod rounds;
+pub mod seating;
 pub mod setting;
 
 ghost use Rattle.std.specs.Prelude.{◌≡◌, ◌+◌, ◌<◌, ◌≤◌, ◌^◌, [], OnOk, OnErr, length};
@@ -14,6 +15,7 @@ ghost use Rattle.login_core.specs.inner.Counts.{AreCounted};
 ghost use Rattle.login_core.specs.inner.Draft.{marked_by, reaching, tell, Fits};
 
 use crate::board::facts::Facts;
+use crate::board::seating::Seating;
 use crate::room::counts::Counts;
 use crate::room::ledger::Ledger;
 use login_base::{ConnId, DevNo, HandleNo, LockNo, NoMemory, Reserved, SeatName, SessId, Uid};
@@ -32,6 +34,7 @@ pub struct Draft {
     journal: Snapshot<Journal>,
     marks: Reserved<Mark>,
     facts: Facts,
+    seating: Seating,
     /// How many marks there are in all.
     made: u32,
     /// How many marks there may be in all.
@@ -51,7 +54,7 @@ impl Model for Draft {
       reach = d.reach;
     } };
 
-    ghost invariant = { λ d. IsDraft (so_far d.journal.value.items d.marks.items) d.marks d.facts d.made d.reach };
+    ghost invariant = { λ d. IsDraft (so_far d.journal.value.items d.marks.items) d.marks d.facts d.seating d.made d.reach };
 }
 
 impl Draft {
@@ -65,6 +68,7 @@ impl Draft {
             journal: Snapshot::of(&Journal::new(alloc)),
             marks: Reserved::new(alloc),
             facts: Facts::new(alloc),
+            seating: Seating::new(),
             made: 0,
             reach: 0,
         }
@@ -130,6 +134,7 @@ impl Draft {
             return;
         }
         self.made += 1;
+        self.seating.note(&key, self.facts.fact(&key), &copy);
         self.facts.set(key, copy);
         self.marks.push(Mark::Set(key, fact));
     }
@@ -181,6 +186,22 @@ impl Look for Draft {
 
     fn next_conn(&self, after: Option<ConnId>) -> Option<ConnId> {
         self.facts.next_conn(after)
+    }
+
+    fn session_count(&self) -> u32 {
+        self.facts.counts().present
+    }
+
+    fn conn_count(&self) -> u32 {
+        self.facts.counts().connections
+    }
+
+    fn on_terminal(&self, vt: u32) -> Option<SessId> {
+        self.session_on(vt)
+    }
+
+    fn is_seated(&self, uid: u32) -> bool {
+        self.has_seat(uid)
     }
 }
 

@@ -328,4 +328,20 @@ impl Look for Core {
     fn next_conn(&self, after: Option<ConnId>) -> Option<ConnId> {
         self.board.draft.next_conn(after)
     }
+
+    fn session_count(&self) -> u32 {
+        self.board.draft.session_count()
+    }
+
+    fn conn_count(&self) -> u32 {
+        self.board.draft.conn_count()
+    }
+
+    fn on_terminal(&self, vt: u32) -> Option<SessId> {
+        self.board.draft.on_terminal(vt)
+    }
+
+    fn is_seated(&self, uid: u32) -> bool {
+        self.board.draft.is_seated(uid)
+    }
 }

@@ -3,10 +3,11 @@
 ghost use Rattle.std.specs.Prelude.{◌≡◌};
 ghost use Rattle.login_model.specs.Names.{is_above};
 ghost use Rattle.login_model.specs.Procedure.{if_some};
-ghost use Rattle.login_model.specs.Turning.{turn_to_next, turn_to_previous};
+ghost use Rattle.login_model.specs.Turning.{open_terminals, turn_to_next, turn_to_previous};
 ghost use Rattle.login_table.specs.Nearest.{is_lower};
-ghost use Rattle.login_core.specs.inner.Places.{is_before, behind, around, is_open_on, place_of, places, current_place, nearer_place, nearer_open, turn_to_place, turn_to};
+ghost use Rattle.login_core.specs.inner.Places.{is_before, behind, around, is_open_on, place_of, places, current_place, nearer_place, nearer_open, nearer_terminal, turn_to_place, turn_to};
 ghost use Rattle.login_core.specs.inner.Draft.{marked_by, Fits};
+ghost use Rattle.login_core.specs.inner.Seating.{AreLow};
 
 use crate::board::Draft;
 use login_base::{SeatName, SessId};
@@ -97,8 +98,38 @@ impl Draft {
         }
     }
 
-    /// The nearest place of an open session behind a place of a seat, or the first of all.
-    fn nearest_place(&self, way: Way, seat: SeatName, start: Option<u32>) -> Option<u32>
+    /// The nearer of the best terminal so far and another, if an open session of seat0 is on it.
+    fn nearer_terminal(
+        &self,
+        way: Way,
+        start: Option<u32>,
+        vt: u32,
+        best: Option<u32>,
+    ) -> Option<u32>
+        ensures { result ≡ nearer_terminal way self.now.trail start vt best }
+    {
+        if self.session_on(vt).is_some() {
+            nearer_place(way, start, vt, best)
+        } else {
+            best
+        }
+    }
+
+    /// The nearest terminal of an open session of seat0 behind a terminal, or the first of all.
+    fn nearest_terminal(&self, way: Way, start: Option<u32>) -> Option<u32>
+        requires { AreLow self.now.trail }
+        ensures { result ≡ behind way start (open_terminals self.now.trail) }
+    {
+        let mut best = None;
+        for vt in 0..64 {
+            best = self.nearer_terminal(way, start, vt, best);
+        }
+        best
+    }
+
+    /// The nearest place of an open session behind a place of a seat, or the first of all, by going over all
+    /// sessions.
+    fn find_nearest(&self, way: Way, seat: SeatName, start: Option<u32>) -> Option<u32>
         ensures { result ≡ behind way start (places self.now.trail seat) }
     {
         let mut best = None;
@@ -108,6 +139,17 @@ impl Draft {
             above = Some(session);
         }
         best
+    }
+
+    /// The nearest place of an open session behind a place of a seat, or the first of all.
+    fn nearest_place(&self, way: Way, seat: SeatName, start: Option<u32>) -> Option<u32>
+        ensures { result ≡ behind way start (places self.now.trail seat) }
+    {
+        if seat.is_seat0() && self.are_low() {
+            self.nearest_terminal(way, start)
+        } else {
+            self.find_nearest(way, seat, start)
+        }
     }
 
     /// The place of a seat's active session, or of its current terminal.

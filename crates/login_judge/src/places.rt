@@ -7,9 +7,9 @@ ghost use Rattle.login_model.specs.Policy.{no_such_session, absent_user, no_such
 ghost use Rattle.login_model.specs.Limits.{links_limit};
 
 use crate::arguments::{broken_if, is_seat0};
-use login_base::{ConnId, SeatName, SessId, Uid, Word};
+use login_base::{SeatName, SessId, Uid, Word};
 use login_model::{Key, Limit, Look, Rule, Setup};
-use login_table::{are_at_least, is_on_seat, seat_of_session, session_on};
+use login_table::{is_on_seat, seat_of_session, session_on};
 
 /// The most links that may be connected.
 const LINKS: u32 = 64;
@@ -99,11 +99,10 @@ pub(crate) fn vt_busy_on<F: Look>(facts: &F, seat: &Word, vt: u32) -> Option<Rul
 }
 
 /// Whether as many links are connected as may be.
-#[tactic(auto, unfolding(login_model::specs::Where::connections))]
 fn are_links_full<F: Look>(facts: &F) -> bool
     ensures { result ≡ nat_le links_limit (length (connections (F.trail facts.now))) }
 {
-    are_at_least::<ConnId, F>(facts, LINKS)
+    facts.conn_count() >= LINKS
 }
 
 pub(crate) fn too_many_links<F: Look>(facts: &F) -> Option<Rule>
@@ -113,11 +112,10 @@ pub(crate) fn too_many_links<F: Look>(facts: &F) -> Option<Rule>
 }
 
 /// Whether at least so many sessions are not gone.
-#[tactic(auto, unfolding(login_model::specs::Where::sessions))]
 fn are_sessions_full<F: Look>(facts: &F, most: u32) -> bool
     ensures { result ≡ nat_le most (length (sessions (F.trail facts.now))) }
 {
-    are_at_least::<SessId, F>(facts, most)
+    facts.session_count() >= most
 }
 
 pub(crate) fn too_many_sessions<F: Look>(facts: &F, setup: &Setup) -> Option<Rule>

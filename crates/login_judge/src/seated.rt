@@ -1,24 +1,10 @@
 // Tests of a user's sessions.
 
-ghost use Rattle.login_model.specs.declared.fact.Key.TheVariants.{Sess};
-ghost use Rattle.login_model.specs.Trail.{value};
-ghost use Rattle.login_model.specs.Standing.{is_seated_of, is_active_of};
+ghost use Rattle.login_model.specs.Standing.{is_active_of};
 
 use login_base::SessId;
 use login_model::{Key, Look};
 use login_table::{Test, is_active};
-
-/// It is open, its user's, and has a seat.
-#[derive(Drop)]
-pub(crate) struct SeatedOf(pub u32);
-
-impl Test<SessId> for SeatedOf {
-    ghost meets = { λ test t s. is_seated_of test.0 (value t (Sess s)) };
-
-    fn is_met<F: Look>(&self, facts: &F, session: SessId) -> bool {
-        facts.fact(&Key::Sess(session)).is_seated_of(self.0)
-    }
-}
 
 /// It is open, its user's, and active on its seat.
 #[derive(Drop)]

@@ -1,10 +1,11 @@
 // What tells facts.
 
-ghost use Rattle.std.specs.Prelude.{◌≡◌};
+ghost use Rattle.std.specs.Prelude.{◌≡◌, length};
 ghost use Rattle.login_model.specs.Trail.{Trail, value};
 ghost use Rattle.login_model.specs.Fresh.{next_handle};
 ghost use Rattle.login_model.specs.Names.{IsNext, session_lt, user_lt, conn_lt, seat_lt, device_lt, lock_lt};
-ghost use Rattle.login_model.specs.Where.{is_session, is_user, is_connected, is_seat, is_device, is_lock};
+ghost use Rattle.login_model.specs.Where.{is_session, is_user, is_connected, is_seat, is_device, is_lock, sessions, connections, session_on};
+ghost use Rattle.login_model.specs.Standing.{has_seat};
 ghost use Rattle.login_model.specs.Devices.{is_taken};
 
 use crate::fact::{Fact, Key};
@@ -12,7 +13,8 @@ use login_base::{ConnId, DevNo, HandleNo, LockNo, SeatName, SessId, Uid};
 
 /// What tells facts: it stands for a list of marks. None of its calls takes memory. Each `next` call
 /// gives the least name above the one handed in, or the least of all for None; it answers None where
-/// there is no such name.
+/// there is no such name. How many there are, and who is where, is answered without going over all names
+/// where that is kept beside the facts.
 pub trait Look {
     /// The marks that it stands for, the newest first.
     ghost trail: { Self → Trail };
@@ -52,4 +54,20 @@ pub trait Look {
     /// The next connected connection.
     fn next_conn(&self, after: Option<ConnId>) -> Option<ConnId>
         ensures { IsNext conn_lt (is_connected (trail self.now)) after result };
+
+    /// How many sessions are not gone.
+    fn session_count(&self) -> u32
+        ensures { result ≡ length (sessions (trail self.now)) };
+
+    /// How many clients are connected.
+    fn conn_count(&self) -> u32
+        ensures { result ≡ length (connections (trail self.now)) };
+
+    /// The open session of seat0 that has a virtual terminal.
+    fn on_terminal(&self, vt: u32) -> Option<SessId>
+        ensures { result ≡ session_on (trail self.now) vt };
+
+    /// Whether an open session of a user has a seat.
+    fn is_seated(&self, uid: u32) -> bool
+        ensures { result ≡ has_seat (trail self.now) uid };
 }

@@ -1,35 +1,16 @@
 // Which session is active on a seat.
 
 ghost use Rattle.std.specs.Prelude.{◌≡◌};
-ghost use Rattle.login_model.specs.declared.fact.Key.TheVariants.{Sess};
-ghost use Rattle.login_model.specs.declared.fact.Fact.TheVariants.{Number};
-ghost use Rattle.login_model.specs.Trail.{value};
-ghost use Rattle.login_model.specs.Where.{is_on_terminal, is_acting_on, is_acting, is_active, session_on, current_vt, acting, active_on, seat_of_session, is_this_seat, is_on_seat};
+ghost use Rattle.login_model.specs.Where.{is_acting_on, is_acting, is_active, session_on, current_vt, acting, active_on, seat_of_session, is_this_seat, is_on_seat};
 
-use crate::search::{Test, find_session};
 use login_base::{SeatName, SessId};
 use login_model::{Fact, Key, Look};
 
-/// It is open on seat0, on this virtual terminal.
-#[derive(Drop)]
-pub struct OnTerminal(pub u32);
-
-impl Test<SessId> for OnTerminal {
-    ghost meets = { λ test t s. is_on_terminal (Number test.0) (value t (Sess s)) };
-
-    fn is_met<F: Look>(&self, facts: &F, session: SessId) -> bool {
-        facts
-            .fact(&Key::Sess(session))
-            .is_on_terminal(&Fact::Number(self.0))
-    }
-}
-
 /// The open session of seat0 that has a virtual terminal.
-#[tactic(auto, unfolding(login_model::specs::Where::session_on))]
 pub fn session_on<F: Look>(facts: &F, vt: u32) -> Option<SessId>
     ensures { result ≡ session_on (F.trail facts.now) vt }
 {
-    find_session(facts, &OnTerminal(vt))
+    facts.on_terminal(vt)
 }
 
 /// The current virtual terminal.

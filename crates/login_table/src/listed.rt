@@ -1,6 +1,6 @@
 // Going over the names of a kind in order.
 
-ghost use Rattle.std.specs.Prelude.{◌≡◌, nat_le, length, IfOk};
+ghost use Rattle.std.specs.Prelude.{◌≡◌, IfOk};
 ghost use Rattle.login_model.specs.Names.{IsNext, session_lt, user_lt, conn_lt, seat_lt, lock_lt};
 ghost use Rattle.login_model.specs.Where.{is_session, is_user, is_connected, is_seat, is_lock};
 ghost use Rattle.login_table.specs.Listed.{is_there, listed};
@@ -55,20 +55,6 @@ impl Listed for LockNo {
     {
         facts.next_lock(above)
     }
-}
-
-/// Whether there are at least so many of a kind.
-pub fn are_at_least<N: Listed, F: Look>(facts: &F, least: u32) -> bool
-    ensures { result ≡ nat_le least (length (listed N.lt N.name_in N.key_of N.is_fact N.first (F.trail facts.now))) }
-{
-    let mut above: Option<N> = None;
-    for i in 0..least {
-        match N::next(facts, above) {
-            Some(name) => above = Some(name),
-            None => return false,
-        }
-    }
-    true
 }
 
 /// The names of all of a kind that are there.

@@ -6,7 +6,9 @@ use Rattle.login_model.specs.declared.mark.Mark.TheVariants.{Say}
 use Rattle.login_model.specs.declared.mark.Whom.{Whom}
 use Rattle.login_model.specs.declared.mark.Notice.{Notice}
 use Rattle.login_model.specs.Trail.{Trail}
+use Rattle.login_core.specs.declared.board.seating.Seating.{Seating}
 use Rattle.login_core.specs.inner.Facts.{Tables, StandFor}
+use Rattle.login_core.specs.inner.Seating.{AreSeated}
 
 -- the marks before the entry under way, and those so far, both the newest first; and how many marks there may
 -- be in all
@@ -35,10 +37,11 @@ reaching n d = record d { reach = n }
 abbrev pub tell : Whom → Notice → Trail → Trail
 tell w n t = Say w n ∷ t
 
--- the facts are those that the marks so far leave, so many; there is room for all marks that there may be, and
+-- the facts are those that the marks so far leave, so many, and so is where sessions are; there is room for all marks that there may be, and
 -- they can be numbered
-pub record IsDraft (trail : Trail) (marks : Room Mark) (facts : Tables) (made reach : ℕ) : Type 0 where
+pub record IsDraft (trail : Trail) (marks : Room Mark) (facts : Tables) (seating : Seating) (made reach : ℕ) : Type 0 where
   pub stands : StandFor facts trail
+  pub seated : AreSeated seating trail
   pub counted : made ≡ length trail
   pub marks_fit : reach ≤ made + marks.spare
   pub facts_fit : reach ≤ made + facts.spare

@@ -23,7 +23,7 @@ invariant_of-draft c =
     let n = ap (λ (d : DraftState). length d.before) c.draft.view_is in
     let r = ap (λ (d : DraftState). d.reach) c.draft.view_is in
     let fit = c.requires.begun.blanks_fit in
-    draft-closed before m.journal.items new e f.marks c.close.result f.facts f.made f.reach m.journal.marks c.draft.invariant b (omega arith) c.close.ensures.blank_marks
+    draft-closed before m.journal.items new e f.marks c.close.result f.facts f.seating f.made f.reach m.journal.marks c.draft.invariant b (omega arith) c.close.ensures.blank_marks
 
 pub returns-clause-closes : goal.returns-clause-closes
 returns-clause-closes c =

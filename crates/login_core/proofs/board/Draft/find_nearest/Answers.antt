@@ -3,7 +3,7 @@ use Rattle.login_core.proofs.Among.{fewer}
 use Rattle.login_core.proofs.Going.{left}
 use Rattle.login_core.proofs.Sessions.{all_sessions}
 use Rattle.login_core.proofs.SeatPlaces.{nearest_of, nearest-start, nearest-next, nearest-end, nearest-is}
-use Rattle.login_core.proofs.board.Draft.nearest_place.Goals as goal
+use Rattle.login_core.proofs.board.Draft.find_nearest.Goals as goal
 
 pub loop-session-init : goal.loop-session-init
 loop-session-init c = nearest-start c.args.way c.args.self.now.trail c.args.seat c.args.start

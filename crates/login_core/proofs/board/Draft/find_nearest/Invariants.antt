@@ -3,7 +3,7 @@ use Rattle.login_model.specs.Where.{sessions}
 use Rattle.login_core.proofs.Going.{left}
 use Rattle.login_core.proofs.Sessions.{all_sessions}
 use Rattle.login_core.proofs.SeatPlaces.{nearest_of}
-use Rattle.login_core.proofs.board.Draft.nearest_place.Given as goal
+use Rattle.login_core.proofs.board.Draft.find_nearest.Given as goal
 
 -- the nearest of those that are left and the best so far is the nearest of all
 abbrev pub invariant-loop-session : goal.invariant-loop-session

@@ -1,0 +1,17 @@
+use Rattle.std.proofs.Common.{◌≡◌, ◌∙◌, true, ap, subst, sym}
+use Rattle.login_model.specs.declared.fact.Fact.TheVariants.{Number}
+use Rattle.login_model.specs.declared.fact.Key.TheVariants.{Sess}
+use Rattle.login_model.specs.Facts.{is_on_terminal}
+use Rattle.login_model.specs.Trail.{value}
+use Rattle.login_core.specs.inner.Draft.{DraftState}
+use Rattle.login_core.specs.inner.Seating.{AreSeated}
+use Rattle.login_core.proofs.TallyLaws.{terminal-alone}
+use Rattle.login_core.proofs.board.Draft.is_alone_on.Goals as goal
+
+pub returns-then-is_one_at : goal.returns-then-is_one_at
+returns-then-is_one_at c = λ e.
+    let f = c.self.inside in
+    let t = c.args.self.now.trail in
+    let seated = subst (AreSeated f.seating) (ap (λ (d : DraftState). d.trail) c.self.view_is) c.self.invariant.seated in
+    let on : is_on_terminal (Number c.args.vt) (value t (Sess c.args.session)) ≡ true = ap (is_on_terminal (Number c.args.vt)) (sym c.fact.ensures) ∙ sym c.is_on_terminal.ensures ∙ e in
+    terminal-alone f.seating.terminals t c.args.vt c.args.session seated.terminals (sym c.is_one_at.ensures ∙ c.if-is_one_at.true) on

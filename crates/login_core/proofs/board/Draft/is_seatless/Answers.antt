@@ -1,0 +1,11 @@
+use Rattle.std.proofs.Common.{◌∙◌, ap, subst, sym}
+use Rattle.login_core.specs.inner.Draft.{DraftState}
+use Rattle.login_core.specs.inner.Seating.{AreSeated}
+use Rattle.login_core.proofs.TallyLaws.{seatless}
+use Rattle.login_core.proofs.board.Draft.is_seatless.Goals as goal
+
+pub returns : goal.returns
+returns c = λ e.
+    let f = c.self.inside in
+    let seated = subst (AreSeated f.seating) (ap (λ (d : DraftState). d.trail) c.self.view_is) c.self.invariant.seated in
+    seatless f.seating.users c.args.self.now.trail c.args.uid seated.users (sym c.is_none_at.ensures ∙ e)

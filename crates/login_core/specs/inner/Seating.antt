@@ -1,0 +1,86 @@
+-- Where the open sessions with a seat are: how many each bucket of terminals and of users has.
+use Rattle.std.specs.Prelude.{ℕ, ◌≡◌, ◌==◌, ◌&&◌, ◌+◌, ◌<◌, ◌≤◌, ◌^◌, ◌%◌, nat_le, Bool, false, if◌then◌else◌, Option, Some, None, List, length, filter, slice_index}
+use Rattle.std.specs.Option.{is_some}
+use Rattle.login_base.specs.declared.ids.SessId.{SessId}
+use Rattle.login_model.specs.declared.fact.Key.{Key}
+use Rattle.login_model.specs.declared.fact.Key.TheVariants as key
+use Rattle.login_model.specs.declared.fact.Fact.{Fact}
+use Rattle.login_model.specs.Facts.{is_open_fact, is_seat0, owner_of, seat_in_fact, vt_in}
+use Rattle.login_model.specs.Names.{names, session_in, session_lt}
+use Rattle.login_model.specs.Trail.{Trail, value}
+use Rattle.login_core.specs.declared.board.seating.Tally.{Tally}
+use Rattle.login_core.specs.declared.board.seating.Seating.{Seating}
+use Rattle.login_core.specs.inner.Counts.{one_if}
+
+-- the terminal of an open session of seat0
+abbrev pub terminal_in : Fact → Option ℕ
+terminal_in x = if is_open_fact x && is_seat0 (seat_in_fact x) then Some (vt_in x) else None
+
+-- zero for an open session of seat0 whose terminal has no bucket of its own
+abbrev pub high_in : Fact → Option ℕ
+high_in x = if is_open_fact x && is_seat0 (seat_in_fact x) && nat_le 64 (vt_in x) then Some 0 else None
+
+-- the user of an open session that has a seat
+abbrev pub user_in : Fact → Option ℕ
+user_in x = if is_open_fact x && is_some (seat_in_fact x) then Some (owner_of x).0 else None
+
+-- the bucket of a number
+abbrev pub bucket_of : ℕ → ℕ
+bucket_of n = n % 64
+
+-- whether the number is in a bucket
+abbrev pub is_at : Option ℕ → ℕ → Bool
+is_at None v = false
+is_at (Some n) v = bucket_of n == v
+
+-- the number that a fact under a key tells
+abbrev pub place_under : (Fact → Option ℕ) → Key → Fact → Option ℕ
+place_under place_in (key.Sess s) x = place_in x
+place_under place_in _ x = None
+
+-- the sessions whose number is in a bucket, in order
+unfoldable pub placed_at : (Fact → Option ℕ) → Trail → ℕ → List SessId
+placed_at place_in t v = filter (λ s. is_at (place_in (value t (key.Sess s))) v) (names session_lt session_in t)
+
+-- a tally has the number of sessions of each bucket
+pub record AreTallied (place_in : Fact → Option ℕ) (c : Tally) (t : Trail) : Type 0 where
+  pub at : (v : ℕ) → v < 64 → slice_index c.counts v ≡ length (placed_at place_in t v)
+
+-- the one can leave, and the other can come
+pub record CanShift (c : Tally) (lost gained : Option ℕ) : Type 0 where
+  pub leaves : (v : ℕ) → v < 64 → one_if (is_at lost v) ≤ slice_index c.counts v
+  pub comes : (v : ℕ) → v < 64 → slice_index c.counts v + one_if (is_at gained v) < 2 ^ 32
+
+-- the one left, and the other came
+pub record Shifts (c : Tally) (lost gained : Option ℕ) (d : Tally) : Type 0 where
+  pub at : (v : ℕ) → v < 64 → slice_index d.counts v + one_if (is_at lost v) ≡ slice_index c.counts v + one_if (is_at gained v)
+
+-- the tallies have the numbers that the marks leave
+pub record AreSeated (s : Seating) (t : Trail) : Type 0 where
+  pub terminals : AreTallied terminal_in s.terminals t
+  pub high : AreTallied high_in s.high t
+  pub users : AreTallied user_in s.users t
+
+-- a setting can move them
+pub record CanSeat (s : Seating) (k : Key) (x y : Fact) : Type 0 where
+  pub terminals : CanShift s.terminals (place_under terminal_in k x) (place_under terminal_in k y)
+  pub high : CanShift s.high (place_under high_in k x) (place_under high_in k y)
+  pub users : CanShift s.users (place_under user_in k x) (place_under user_in k y)
+
+-- a setting of a key from one fact to another moved them
+pub record Seats (s : Seating) (k : Key) (x y : Fact) (u : Seating) : Type 0 where
+  pub terminals : Shifts s.terminals (place_under terminal_in k x) (place_under terminal_in k y) u.terminals
+  pub high : Shifts s.high (place_under high_in k x) (place_under high_in k y) u.high
+  pub users : Shifts s.users (place_under user_in k x) (place_under user_in k y) u.users
+
+-- the bucket of a number has none
+abbrev pub is_none_at : Tally → ℕ → Bool
+is_none_at c n = slice_index c.counts (bucket_of n) == 0
+
+-- the bucket of a number has one
+abbrev pub is_one_at : Tally → ℕ → Bool
+is_one_at c n = slice_index c.counts (bucket_of n) == 1
+
+-- each open session of seat0 is on a terminal that has a bucket of its own
+pub record AreLow (t : Trail) : Type 0 where
+  pub low : (s : SessId) → is_at (high_in (value t (key.Sess s))) 0 ≡ false
