@@ -2,6 +2,7 @@
 #![tactic(auto)]
 
 mod arguments;
+mod devices;
 mod owners;
 mod places;
 mod seated;

@@ -23,7 +23,7 @@ pub(crate) fn first_broken(rules: &[Option<Rule>]) -> Verdict
 }
 
 /// The verdict where the id is none of a session.
-const NO_SESSION: Verdict = Verdict::Denied(Rule::NoSuchSession);
+pub(crate) const NO_SESSION: Verdict = Verdict::Denied(Rule::NoSuchSession);
 
 pub(crate) fn judge_only<F: Look>(facts: &F, session: Option<SessId>) -> Verdict
     ensures { result ≡ first_broken (on_session (only_session (F.trail facts.now)) session) }

@@ -6,6 +6,9 @@ ghost use Rattle.login_base.specs.SessionId.{session_of};
 ghost use Rattle.login_model.specs.Policy.{call_rules, hardware_rules, first_broken, verdict, bad_arguments, is_signal, absent_user, no_such_user, no_such_seat, no_such_handle, not_yours, meant_user, linger_action, action_refused, action_challenge, own_or_refused, own_or_challenge};
 
 use crate::arguments::{bad_arguments, fits_creation, is_seat0, is_signal, is_vt};
+use crate::devices::{
+    judge_add, judge_handle, judge_input, judge_remove, judge_take, judge_taken,
+};
 use crate::owners::{clock_backwards, no_such_handle, no_such_user, nobody, not_root, not_yours};
 use crate::places::{
     absent_user, no_such_seat, no_such_seat_of, too_many_links, too_many_sessions, vt_busy_on,
@@ -16,7 +19,7 @@ use crate::session_calls::{
 };
 use crate::standing::{judge_action, judge_own, linger_action, meant_user};
 use login_base::{ConnId, HandleNo, SessId, Word};
-use login_model::{Action, Call, Creation, Event, Hardware, Look, Rule, Setup, Verdict};
+use login_model::{Action, Call, Creation, DevKind, Event, Hardware, Look, Rule, Setup, Verdict};
 
 fn judge_create<F: Look>(facts: &F, setup: &Setup, who: ConnId, creation: &Creation) -> Verdict
     ensures { result ≡ first_broken (call_rules setup.now (F.trail facts.now) who (Call.Create creation.now)) }
@@ -127,6 +130,10 @@ fn judge_call<F: Look>(facts: &F, setup: &Setup, who: ConnId, call: &Call) -> Ve
         Call::SwitchToPrevious(seat) => judge_seat(facts, setup, who, seat, Action::ChangeVt),
         Call::KillUser(uid, signal) => judge_kill_user(facts, setup, who, uid.0, *signal),
         Call::Close(handle) => judge_close(facts, who, *handle),
+        Call::TakeDevice(_, device) => judge_take(facts, who, session, *device),
+        Call::ReleaseDevice(_, device) => judge_taken(facts, who, session, *device),
+        Call::ReadInput(handle) => judge_handle(facts, DevKind::Evdev, who, *handle),
+        Call::SetMode(handle, _) => judge_handle(facts, DevKind::Drm, who, *handle),
         Call::NoObject => Verdict::Denied(Rule::UnknownObject),
         Call::NoMethod => Verdict::Denied(Rule::UnknownMethod),
         Call::BadArguments => Verdict::Denied(Rule::BadArguments),
@@ -142,6 +149,9 @@ fn judge_hardware<F: Look>(facts: &F, setup: &Setup, hardware: &Hardware) -> Ver
     match hardware {
         Hardware::VtKey(vt) => first_broken(&[bad_arguments(is_vt(*vt))]),
         Hardware::Exit(id) => judge_only(facts, SessId::read(id.as_slice())),
+        Hardware::Add(device, _, _) => judge_add(facts, *device),
+        Hardware::Remove(device) => judge_remove(facts, *device),
+        Hardware::Input(device, _, _, _) => judge_input(facts, *device),
         _ => unreachable!(),
     }
 }

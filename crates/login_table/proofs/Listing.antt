@@ -1,5 +1,6 @@
 -- Going over the names of a kind in order.
-use Rattle.std.proofs.Common.{◌≡◌, ◌+◌, ◌<◌, ◌≤◌, Bool, true, false, cond, Option, Some, None, List, [], ◌∷◌, ◌++◌, length, filter, find, refl, ap, sym, ◌∙◌, append_assoc, append-nil, arith, add-one}
+use Rattle.std.proofs.Common.{◌≡◌, ℕ, ◌+◌, ◌<◌, ◌≤◌, Bool, true, false, cond, nat_le, Option, Some, None, List, [], ◌∷◌, ◌++◌, length, filter, find, refl, ap, sym, ◌∙◌, append_assoc, append-nil, arith, add-one}
+use Rattle.std.proofs.lemmas.Bool.Decides.{nat_tests}
 use Rattle.login_base.specs.declared.ids.SessId.{SessId}
 use Rattle.login_model.specs.declared.fact.Key.{Key}
 use Rattle.login_model.specs.declared.fact.Fact.{Fact}
@@ -51,8 +52,21 @@ left-none k t above h = rest-none k.lt (is_there k.key_of k.is_fact t) (insert_s
 left-count : {A : Type 0} (k : Kind A) (t : Trail) (above : Option A) (a : A) → Next k t above (Some a) → length (left k t above) ≡ length (left k t (Some a)) + 1
 left-count k t above a h = ap length (left-next k t above a h) ∙ sym (add-one (length (left k t (Some a))))
 
+-- how many there are: those so far, and those that are left
+pub count-start : {A : Type 0} (k : Kind A) (t : Trail) → length (all k t) ≡ 0 + length (left k t None)
+count-start k t = let e = ap length (left-start k t) in omega arith
+
+pub count-next : {A : Type 0} (k : Kind A) (t : Trail) (n i : ℕ) (above : Option A) (a : A) → n ≡ i + length (left k t above) → Next k t above (Some a) → n ≡ (i + 1) + length (left k t (Some a))
+count-next k t n i above a e h = omega (arith, left-count k t above a h)
+
 pub count-less : {A : Type 0} (k : Kind A) (t : Trail) (above : Option A) (a : A) → Next k t above (Some a) → length (left k t (Some a)) < length (left k t above)
 count-less k t above a h = omega (arith, left-count k t above a h)
+
+pub count-none : {A : Type 0} (k : Kind A) (t : Trail) (n i : ℕ) (above : Option A) → n ≡ i + length (left k t above) → Next k t above None → i ≡ n
+count-none k t n i above e h = let z : length (left k t above) ≡ 0 = ap length (left-none k t above h) in omega arith
+
+pub count-few : {A : Type 0} (k : Kind A) (t : Trail) (n i least : ℕ) (above : Option A) → n ≡ i + length (left k t above) → Next k t above None → i < least → false ≡ nat_le least n
+count-few k t n i least above e h b = let z = count-none k t n i above e h in grind (arith, nat_tests)
 
 -- names that are pushed
 pub pushed-start : {A : Type 0} (k : Kind A) (t : Trail) (xs : List A) → xs ≡ [] → xs ++ left k t None ≡ all k t

@@ -1,10 +1,10 @@
 // Which session is active on a seat.
 
 ghost use Rattle.std.specs.Prelude.{◌≡◌};
-ghost use Rattle.login_model.specs.Where.{is_acting_on, is_acting, is_active, session_on, current_vt, acting, active_on, seat_of_session, is_this_seat, is_on_seat};
+ghost use Rattle.login_model.specs.Where.{is_acting_on, is_acting, is_active, session_on, current_vt, acting, active_on, seat_of_session, is_on_seat};
 
 use login_base::{SeatName, SessId};
-use login_model::{Fact, Key, Look};
+use login_model::{Fact, Key, Look, is_this_seat};
 
 /// The open session of seat0 that has a virtual terminal.
 pub fn session_on<F: Look>(facts: &F, vt: u32) -> Option<SessId>
@@ -75,15 +75,6 @@ pub fn seat_of_session<F: Look>(facts: &F, session: SessId) -> Option<SeatName>
     ensures { result ≡ seat_of_session (F.trail facts.now) session }
 {
     facts.fact(&Key::Sess(session)).seat()
-}
-
-fn is_this_seat(seat: &[u8], name: Option<SeatName>) -> bool
-    ensures { result ≡ is_this_seat seat.now name }
-{
-    match name {
-        Some(name) => name.as_slice() == seat,
-        None => false,
-    }
 }
 
 /// Whether a session is on the seat of this name.

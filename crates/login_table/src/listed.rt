@@ -1,12 +1,13 @@
 // Going over the names of a kind in order.
 
-ghost use Rattle.std.specs.Prelude.{◌≡◌, IfOk};
-ghost use Rattle.login_model.specs.Names.{IsNext, session_lt, user_lt, conn_lt, seat_lt, lock_lt};
-ghost use Rattle.login_model.specs.Where.{is_session, is_user, is_connected, is_seat, is_lock};
+ghost use Rattle.std.specs.Prelude.{◌≡◌, nat_le, length, IfOk};
+ghost use Rattle.login_model.specs.Names.{IsNext, session_lt, user_lt, conn_lt, seat_lt, device_lt, lock_lt};
+ghost use Rattle.login_model.specs.Where.{is_session, is_user, is_connected, is_seat, is_device, is_lock};
+ghost use Rattle.login_model.specs.Devices.{taken_devices};
 ghost use Rattle.login_table.specs.Listed.{is_there, listed};
 
 use crate::name::Name;
-use login_base::{ConnId, Items, LockNo, NoMemory, SeatName, SessId, Uid};
+use login_base::{ConnId, DevNo, Items, LockNo, NoMemory, SeatName, SessId, Uid};
 use login_model::Look;
 use std::alloc::Global;
 
@@ -49,12 +50,49 @@ impl Listed for SeatName {
     }
 }
 
+impl Listed for DevNo {
+    fn next<F: Look>(facts: &F, above: Option<DevNo>) -> Option<DevNo>
+        ensures { IsNext device_lt (is_device (F.trail facts.now)) above result }
+    {
+        facts.next_device(above)
+    }
+}
+
 impl Listed for LockNo {
     fn next<F: Look>(facts: &F, above: Option<LockNo>) -> Option<LockNo>
         ensures { IsNext lock_lt (is_lock (F.trail facts.now)) above result }
     {
         facts.next_lock(above)
     }
+}
+
+/// Whether there are at least so many of a kind.
+pub fn are_at_least<N: Listed, F: Look>(facts: &F, least: u32) -> bool
+    ensures { result ≡ nat_le least (length (listed N.lt N.name_in N.key_of N.is_fact N.first (F.trail facts.now))) }
+{
+    let mut above: Option<N> = None;
+    for i in 0..least {
+        match N::next(facts, above) {
+            Some(name) => above = Some(name),
+            None => return false,
+        }
+    }
+    true
+}
+
+/// Whether a session has at least so many devices taken.
+#[tactic(auto, unfolding(login_model::specs::Devices::taken_devices))]
+pub fn are_taken_at_least<F: Look>(facts: &F, session: SessId, least: u32) -> bool
+    ensures { result ≡ nat_le least (length (taken_devices (F.trail facts.now) session)) }
+{
+    let mut above: Option<DevNo> = None;
+    for i in 0..least {
+        match facts.next_taken(session, above) {
+            Some(device) => above = Some(device),
+            None => return false,
+        }
+    }
+    true
 }
 
 /// The names of all of a kind that are there.
