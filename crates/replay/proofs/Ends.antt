@@ -29,7 +29,7 @@ use Rattle.replay.proofs.Recordings.{nothing_played}
 use Rattle.replay.proofs.Refusals.{Stops, refused_next, refused_full}
 
 -- where something was told, something is left
-nothing_left : (text : List ℕ) → Some text ≡ None → ⊥
+pub nothing_left : (text : List ℕ) → Some text ≡ None → ⊥
 nothing_left text e = cc
 
 -- the text so far was read as these lines

@@ -1,5 +1,5 @@
 -- How a replay ends behind its last event.
-use Rattle.std.proofs.Common.{◌≡◌, ◌≤◌, ◌<◌, arith, ℕ, ◌+◌, List, [], ◌∷◌, ◌++◌, length, refl, ap, sym, ◌∙◌, subst, append-nil, Option, Some, None, Err}
+use Rattle.std.proofs.Common.{◌≡◌, ◌≤◌, ◌<◌, ℕ, ◌+◌, List, [], ◌∷◌, ◌++◌, length, refl, ap, sym, ◌∙◌, subst, append-nil, Option, Some, None, Err}
 use Rattle.std.specs.Option.{IfSome}
 use Rattle.login_edge.specs.Texts.{Gains}
 use Rattle.login_edge.specs.Gained.{Gains-more}
@@ -21,7 +21,7 @@ use Rattle.replay.specs.declared.cause.Cause.{Cause}
 use Rattle.replay.specs.declared.cause.Cause.TheVariants.{WrongPlace, TooLong}
 use Rattle.replay.specs.declared.early.Early.{Early}
 use Rattle.replay.proofs.Written.{told_split, cut_joined}
-use Rattle.replay.proofs.Ends.{breaks_here, line_behind, none_behind, writes_here}
+use Rattle.replay.proofs.Ends.{nothing_left, breaks_here, line_behind, none_behind, writes_here}
 
 abbrev Told : Type 0
 Told = Option (List ℕ)
@@ -61,7 +61,7 @@ finish_none core number all left start held after own cause s within w none belo
 pub finish_done : (core : CoreState) (number : ℕ) (all left now start held after : Told) → SoFar ended core number all left start held → number ≤ most_lines
     → Gains held after (transcript_end (length core.journal)) → IfSome left (λ text. (text ≡ []) × (now ≡ Some [])) → IfSome all (λ text. Replayed text now start after)
 finish_done core number None left now start held after s within e h = tt
-finish_done core number (Some text) None now start held after s within e h = let wrong : Some text ≡ None = s.read.split in cc
+finish_done core number (Some text) None now start held after s within e h = absurd (nothing_left text s.read.split)
 finish_done core number (Some text) (Some rest) now start held after s within e h =
     let ls = s.preamble in
     let es = core.journal in
@@ -74,7 +74,7 @@ finish_done core number (Some text) (Some rest) now start held after s within e 
         play = s.is_front.play;
         room = s.is_front.room;
         read = subst (λ (a : List (List ℕ)). AreReadAs a (recording ls es)) (sym whole) split.are;
-        within = omega (arith, within, s.count);
+        within = subst (λ (n : ℕ). n ≤ most_lines) s.count within;
       };
       lawful = legal-is-lawful (setup_of ls) es s.is_front.play.legal;
       read_to_end = h.1;

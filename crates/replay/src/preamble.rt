@@ -122,7 +122,10 @@ impl Preamble {
             Line::Guid(guid) => Ok(self.take_guid(guid)),
             Line::User(row) => self.take_user(row),
             Line::Go => Ok(Said::Go),
-            _ => Ok(Said::Refused),
+            other => {
+                drop(other);
+                Ok(Said::Refused)
+            }
         }
     }
 

@@ -72,7 +72,10 @@ fn behind_go(line: Line) -> Behind
     match line {
         Line::Event(event) => Behind::Event(event),
         Line::End => Behind::End,
-        _ => Behind::Other,
+        other => {
+            drop(other);
+            Behind::Other
+        }
     }
 }
 

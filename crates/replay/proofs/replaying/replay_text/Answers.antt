@@ -32,4 +32,4 @@ pub returns-clause-gives : goal.returns-clause-gives
 returns-clause-gives g c =
     let all = nothing_held c.in_ok-lines.lines (g.S.Source.left c.args.source.now) c.in_ok-lines.ensures.held in
     let r = c.new-run.ensures in
-    c.play_all.ensures.gives _ (rw (r.player, r.number, r.lines, c.in_ok-player.ensures.setup) (rw all at c.in_ok-opening.ensures.gives))
+    c.play_all-played.ensures.gives _ (rw (r.player, r.number, r.lines, c.in_ok-player.ensures.setup) (rw all at c.in_ok-opening.ensures.gives))
