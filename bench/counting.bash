@@ -44,3 +44,9 @@ held() {
     valgrind --tool=massif --peak-inaccuracy=0.0 --massif-out-file="$work/massif" "$program" "$@" >/dev/null 2>"$work/held"
     sed -n 's/^mem_heap_B=//p' "$work/massif" | sort -n | tail -n 1
 }
+
+# Takes the proved `login` as the program, built where it is not yet, or the file that PROGRAM names.
+take_login() {
+    program=${PROGRAM:-$top/crates/login/out/login}
+    [[ -n ${PROGRAM:-} ]] || "$top/login" replay <"$top/examples/turns.recording" >/dev/null
+}

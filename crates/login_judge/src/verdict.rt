@@ -6,9 +6,7 @@ ghost use Rattle.login_base.specs.SessionId.{session_of};
 ghost use Rattle.login_model.specs.Policy.{call_rules, hardware_rules, first_broken, verdict, bad_arguments, is_signal, absent_user, no_such_user, no_such_seat, no_such_handle, not_yours, meant_user, linger_action, action_refused, action_challenge, own_or_refused, own_or_challenge};
 
 use crate::arguments::{bad_arguments, fits_creation, is_seat0, is_signal, is_vt};
-use crate::devices::{
-    judge_add, judge_handle, judge_input, judge_remove, judge_take, judge_taken,
-};
+use crate::devices::{judge_add, judge_handle, judge_input, judge_remove, judge_take, judge_taken};
 use crate::owners::{clock_backwards, no_such_handle, no_such_user, nobody, not_root, not_yours};
 use crate::places::{
     absent_user, no_such_seat, no_such_seat_of, too_many_links, too_many_sessions, vt_busy_on,

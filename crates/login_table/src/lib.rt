@@ -10,9 +10,7 @@ mod rows;
 mod search;
 mod table;
 
-pub use active::{
-    OnTerminal, active_on, current_vt, is_active, is_on_seat, seat_of_session, session_on,
-};
+pub use active::{active_on, current_vt, is_active, is_on_seat, seat_of_session, session_on};
 pub use listed::{Listed, are_at_least, are_taken_at_least, list};
 pub use name::{Name, Order, is_above, is_lower};
 pub use rows::{Row, Rows};

@@ -1,0 +1,79 @@
+# A recording of so many entries of a shape, without its last line `end`.
+# usage: awk -v shape=SHAPE -v count=ENTRIES [-v beside=SESSIONS] -f shapes.awk
+# With `beside`, so many sessions stay from the start, two of them on terminals, and the entries come behind them.
+
+function line(text) { print text; made++ }
+
+function call(who, text) { line("call " who " " ++serial " " text) }
+
+# Creates a session of alice with this text in each place that takes one, on a terminal if that is not 0.
+function create(who, vt, text) {
+    sessions++
+    call(who, "create 1000 1 " (text ? text : "login") " tty user " (text ? text : "%") " " (vt ? "seat0" : "%") \
+        " " vt " " (text ? text " " text " true " text " " text : "% % false % %"))
+}
+
+function create_many(who, many,  i) { for (i = 1; i <= many; i++) create(who, 0) }
+
+function setting(i) { return i % 2 ? "true" : "false" }
+
+# What stands before the entries.
+function begin(  i) {
+    print "login-recording 1\nuser 1000 1000 alice"
+    if (shape == "users") for (i = 1; i < 1000; i++) print "user " 1000 + i " " 1000 + i " user" i
+    print "go"
+    line("connect 1 0")
+    if (beside) {
+        line("connect 2 1000"); line("connect 3 1001")
+        create(1, 1); create(1, 2); create_many(1, beside - 2)
+        count += made
+    }
+    else if (shape == "idle_links") { for (i = 2; i <= 61; i++) line("connect " i " 0"); create(1, 0) }
+    else if (shape == "links_in_turn") for (i = 2; i <= 61; i++) { line("connect " i " 0"); create(i, 0) }
+    else if (shape == "control" || shape == "links_that_go") create(1, 0)
+    else if (shape == "refused") { create(1, 0); line("connect 2 1001") }
+    else if (shape == "terminals") { create(1, 1); create(1, 2) }
+    else if (shape == "lock_all" || shape == "kill_user") create_many(1, 16)
+    else if (shape == "lists") create_many(1, 100)
+    long = sprintf("%512s", ""); gsub(/ /, "x", long)
+}
+
+# A session that comes and goes, as the i-th.
+function come_and_go(i, text) {
+    create(1, 0, text)
+    if (shape ~ /idle/) call(1, "idle c" i " true")
+    call(1, "close " i); line("exit c" i)
+}
+
+# A connection that comes and goes, with three sessions whose fifos it has.
+function end_fifos(who,  i) {
+    line("connect " who " 0"); create_many(who, 3); line("disconnect " who)
+    for (i = 2; i >= 0; i--) line("exit c" (sessions - i))
+}
+
+# The i-th entry, or few that belong together.
+function step(i,  who) {
+    if (shape == "nothing") call(1, "nothing")
+    else if (shape == "control" || shape == "idle_links") call(1, i % 2 ? "control c1 false" : "uncontrol c1")
+    else if (shape == "links_in_turn") {
+        who = int((i - 1) / 2) % 60 + 1
+        call(who + 1, i % 2 ? "control c" who " false" : "uncontrol c" who)
+    } else if (shape == "links_that_go") {
+        line("connect " (i + 1) " 0"); call(i + 1, "get-session c1"); line("disconnect " (i + 1))
+    } else if (shape == "fifos_that_end") end_fifos(i + 1)
+    else if (shape ~ /^go/) come_and_go(i, shape ~ /texts/ ? long : "")
+    else if (shape == "ticks") line("tick " i)
+    else if (shape == "refused") call(2, "control c1 false")
+    else if (shape == "terminals") line("vtkey " (1 + i % 2))
+    else if (shape == "lock_all") call(1, i % 2 ? "lock-all" : "unlock-all")
+    else if (shape == "kill_user") call(1, "kill-user 1000 " (1 + i % 60))
+    else if (shape == "lists") call(1, "list-sessions")
+    else if (shape == "users") call(1, "linger " (1000 + i % 1000) " " setting(int(i / 1000) + 1))
+    else if (shape == "idle_hints") call(1, "idle c" (1 + i % beside) " " setting(int(i / beside) + 1))
+    else if (shape == "next") call(1, "next seat0")
+    else if (shape == "own_lock") call(2, "lock c1")
+    else if (shape == "stranger") call(3, "lock c1")
+    else { print "no shape " shape >"/dev/stderr"; exit 1 }
+}
+
+BEGIN { begin(); for (i = 1; made < count; i++) step(i) }
