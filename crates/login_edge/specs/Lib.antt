@@ -2,10 +2,8 @@ pub mod Faults
 pub mod Texts
 pub mod Edge
 pub mod Writing
-pub mod Gained
 pub mod Memory
 pub mod Exchanges
-pub mod Grown
 pub mod Hearing
 pub mod Register
 pub mod Readings
@@ -17,4 +15,3 @@ pub mod Slots
 pub mod ClockInMemory
 pub mod SpawnerInMemory
 pub mod HeldInMemory
-pub mod Given

@@ -22,6 +22,7 @@ pub struct Sent {
 pub const HELLO: &[u8] =
     b"l\x01\0\x01\0\0\0\0\x01\0\0\0m\0\0\0\x01\x01o\0\x15\0\0\0/org/freedesktop/DBus\0\0\0\x03\x01s\0\x05\0\0\0Hello\0\0\0\x02\x01s\0\x14\0\0\0org.freedesktop.DBus\0\0\0\0\x06\x01s\0\x14\0\0\0org.freedesktop.DBus\0\0\0\0";
 
+/// Messages that clients sent.
 pub const SENT: &[Sent] = &[
     // busctl
     Sent {

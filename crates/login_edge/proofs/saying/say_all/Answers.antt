@@ -1,5 +1,5 @@
 use Rattle.std.proofs.Common.{rules, ◌∙◌}
-use Rattle.login_edge.specs.Grown.{Grew-more, OnlySaid-append, said_of-piece}
+use Rattle.login_edge.proofs.Grown.{Grew-more, OnlySaid-append, said_of-piece}
 use Rattle.login_edge.proofs.saying.say_all.Goals as goal
 
 pub loop-done-preserved : goal.loop-done-preserved

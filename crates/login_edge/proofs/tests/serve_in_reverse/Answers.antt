@@ -2,7 +2,7 @@ use Rattle.std.proofs.Common.{◌≡◌, ◌≢◌, ℕ, ◌+◌, ◌<◌, Optio
 use Rattle.std.specs.Option.{option_map}
 use Rattle.login_base.specs.declared.ids.Uid.{Uid}
 use Rattle.login_edge.specs.Register.{Register, IsOut, accepted, given_back}
-use Rattle.login_edge.specs.Given.{came-is-out, stays-out, stays-out-of}
+use Rattle.login_edge.proofs.Given.{came-is-out, stays-out, stays-out-of}
 use Rattle.login_edge.specs.declared.listener.Accepted.TheVariants.{Came}
 use Rattle.login_edge.proofs.tests.serve_in_reverse.Goals as goal
 

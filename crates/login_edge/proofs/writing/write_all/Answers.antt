@@ -1,5 +1,5 @@
 use Rattle.std.proofs.Common.{rules, ◌∙◌}
-use Rattle.login_edge.specs.Gained.{Gains-piece}
+use Rattle.login_edge.proofs.Gained.{Gains-piece}
 use Rattle.login_edge.proofs.writing.write_all.Goals as goal
 
 pub loop-done-preserved : goal.loop-done-preserved
