@@ -6,3 +6,4 @@ pub mod WordLaws
 pub mod FactLaws
 pub mod Values
 pub mod HeldValue
+pub mod Latest

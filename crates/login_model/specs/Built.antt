@@ -4,11 +4,11 @@ use Rattle.login_model.specs.Action.{name}
 use Rattle.login_model.specs.declared.call.Call.{Call}
 use Rattle.login_model.specs.declared.event.Event.{Event}
 use Rattle.login_model.specs.declared.hardware.Hardware.{Hardware}
-use Rattle.login_model.specs.declared.hardware.Hardware.TheVariants.{VtKey, Exit}
+use Rattle.login_model.specs.declared.hardware.Hardware.TheVariants.{Add, Remove, Input, VtKey, Exit}
 use Rattle.login_model.specs.declared.event.Event.TheVariants.{Call as Calls, Hardware as Happens, Connect, Disconnect, Tick, Stop}
 use Rattle.login_model.specs.declared.call.Call.TheVariants as call
 
--- the calls about users, sessions, seats and handles, and the messages that are none of the calls
+-- the calls about users, sessions, seats, devices and handles, and the messages that are none of the calls
 abbrev pub is_built_call : Call → Bool
 is_built_call (call.Create x) = true
 is_built_call (call.GetSession id) = true
@@ -32,10 +32,14 @@ is_built_call (call.SetIdle id on) = true
 is_built_call (call.SetLocked id on) = true
 is_built_call (call.Control id force) = true
 is_built_call (call.Uncontrol id) = true
+is_built_call (call.TakeDevice id d) = true
+is_built_call (call.ReleaseDevice id d) = true
 is_built_call (call.SwitchTo seat vt) = true
 is_built_call (call.SwitchToNext seat) = true
 is_built_call (call.SwitchToPrevious seat) = true
 is_built_call (call.KillUser u signal) = true
+is_built_call (call.ReadInput h) = true
+is_built_call (call.SetMode h mode) = true
 is_built_call (call.Close h) = true
 is_built_call call.NoCall = true
 is_built_call call.NoObject = true
@@ -43,8 +47,11 @@ is_built_call call.NoMethod = true
 is_built_call call.BadArguments = true
 is_built_call _ = false
 
--- a key for a terminal, and the end of a session
+-- what happens to devices, a key for a terminal, and the end of a session
 abbrev pub is_built_hardware : Hardware → Bool
+is_built_hardware (Add d kind seat) = true
+is_built_hardware (Remove d) = true
+is_built_hardware (Input d type code input) = true
 is_built_hardware (VtKey vt) = true
 is_built_hardware (Exit id) = true
 is_built_hardware _ = false

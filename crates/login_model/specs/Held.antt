@@ -2,7 +2,7 @@
 use Rattle.std.specs.Prelude.{Bool, true, false, IsTrue, Option, Some, None, is_some}
 use Rattle.std.proofs.Common.{subst}
 
--- true is not, so that nothing is where false is true
+-- what is not true: there is nothing of true, and something of false
 abbrev pub IsNot : Bool → Type 0
 IsNot true = ⊥
 IsNot false = Unit {0}

@@ -7,7 +7,8 @@ use crate::call::Call;
 use crate::event::Event;
 use crate::hardware::Hardware;
 
-/// The calls about users, sessions, seats and handles, and the messages that are none of the calls.
+/// The calls about users, sessions, seats, devices and handles, and the messages that are none of the
+/// calls.
 fn is_built_call(call: &Call) -> bool
     ensures { result ≡ is_built_call call.now }
 {
@@ -20,17 +21,22 @@ fn is_built_call(call: &Call) -> bool
         Call::Terminate(_) | Call::TerminateUser(_) | Call::TerminateSeat(_) => true,
         Call::SetIdle(..) | Call::SetLocked(..) | Call::Control(..) | Call::Uncontrol(_) => true,
         Call::SwitchTo(..) | Call::SwitchToNext(_) | Call::SwitchToPrevious(_) => true,
-        Call::Close(_) => true,
+        Call::TakeDevice(..) | Call::ReleaseDevice(..) => true,
+        Call::ReadInput(_) | Call::SetMode(..) | Call::Close(_) => true,
         Call::NoCall | Call::NoObject | Call::NoMethod | Call::BadArguments => true,
         _ => false,
     }
 }
 
-/// A key for a terminal, and the end of a session.
+/// What happens to devices, a key for a terminal, and the end of a session.
 fn is_built_hardware(hardware: &Hardware) -> bool
     ensures { result ≡ is_built_hardware hardware.now }
 {
-    matches!(hardware, Hardware::VtKey(_) | Hardware::Exit(_))
+    match hardware {
+        Hardware::Add(..) | Hardware::Remove(_) | Hardware::Input(..) => true,
+        Hardware::VtKey(_) | Hardware::Exit(_) => true,
+        _ => false,
+    }
 }
 
 /// Whether an event is built. The others are in place nowhere, so no journal has them.

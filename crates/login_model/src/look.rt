@@ -4,7 +4,7 @@ ghost use Rattle.std.specs.Prelude.{◌≡◌, length};
 ghost use Rattle.login_model.specs.Trail.{Trail, value};
 ghost use Rattle.login_model.specs.Fresh.{next_handle};
 ghost use Rattle.login_model.specs.Names.{IsNext, session_lt, user_lt, conn_lt, seat_lt, device_lt, lock_lt};
-ghost use Rattle.login_model.specs.Where.{is_session, is_user, is_connected, is_seat, is_device, is_lock, sessions, connections, session_on};
+ghost use Rattle.login_model.specs.Where.{is_session, is_user, is_connected, is_seat, is_device, is_lock, sessions, connections, devices, session_on};
 ghost use Rattle.login_model.specs.Standing.{has_seat};
 ghost use Rattle.login_model.specs.Devices.{is_taken};
 
@@ -62,6 +62,10 @@ pub trait Look {
     /// How many clients are connected.
     fn conn_count(&self) -> u32
         ensures { result ≡ length (connections (trail self.now)) };
+
+    /// How many devices are there.
+    fn device_count(&self) -> u32
+        ensures { result ≡ length (devices (trail self.now)) };
 
     /// The open session of seat0 that has a virtual terminal.
     fn on_terminal(&self, vt: u32) -> Option<SessId>
