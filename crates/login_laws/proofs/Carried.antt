@@ -369,7 +369,7 @@ pub set_mode-carried : (r : Carried) (x : Fact) (n : ℕ) (t : Trail) → r.R t 
 set_mode-carried r (fact.Owned (owner.Device c s d)) n t = r.put (key.Mode d) (fact.Number n) t refl
 set_mode-carried r _ n t = r.refl t
 
-appear_seat-carried : (r : Carried) (kind : DevKind) (seat : List ℕ) (t : Trail) → r.R t (appear_seat kind seat t)
+pub appear_seat-carried : (r : Carried) (kind : DevKind) (seat : List ℕ) (t : Trail) → r.R t (appear_seat kind seat t)
 appear_seat-carried r Drm seat t =
     (let u = put (key.Seat seat) fact.Present t in
     cond-carried r (is_seat t seat) t t (tell_all (notice.SeatNew seat) u) (r.refl t) (r.trans t u (tell_all (notice.SeatNew seat) u) (r.put (key.Seat seat) fact.Present t refl) (r.say All (notice.SeatNew seat) u)))
@@ -381,7 +381,7 @@ add_device-carried r d kind seat t =
     let u = put (key.Dev d) (fact.Device kind seat) t in
     r.trans t u (appear_seat kind seat u) (r.put (key.Dev d) (fact.Device kind seat) t refl) (appear_seat-carried r kind seat u)
 
-lose_seat-carried : (r : Carried) (x : Fact) (t : Trail) → r.R t (lose_seat x t)
+pub lose_seat-carried : (r : Carried) (x : Fact) (t : Trail) → r.R t (lose_seat x t)
 lose_seat-carried r (fact.Device Drm seat) t =
     (let a = each shut (sessions_on t seat) t in
     let b = put (key.Seat seat) fact.Absent a in

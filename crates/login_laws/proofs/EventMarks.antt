@@ -19,7 +19,7 @@ use Rattle.login_model.specs.Policy.{meant_user, uid_of, verdict}
 use Rattle.login_model.specs.Procedure.{each, if_some, kill, know, no, oust, release, revoke, shut, take_seat, untake, yes}
 use Rattle.login_model.specs.Facts.{is_number_fact}
 use Rattle.login_model.specs.Creating.{appear_on, create, created_session, seat_of}
-use Rattle.login_model.specs.Direct.{activate, control, control_from, direct, direct_call, exit, happen, lock_session, press, unlock_session}
+use Rattle.login_model.specs.Direct.{activate, control, control_from, direct, direct_call, disconnect, exit, happen, lock_session, press, unlock_session}
 use Rattle.login_model.specs.Words.{whom_of}
 use Rattle.login_model.specs.Settle.{settle}
 use Rattle.login_laws.specs.Sound.{IsSound}
@@ -64,7 +64,9 @@ use Rattle.login_laws.proofs.Loops.{in-sessions, of-sessions}
 use Rattle.login_laws.proofs.Giving.{Good}
 use Rattle.login_laws.proofs.Accords.{good-sound}
 use Rattle.login_laws.proofs.Counts.{both-true, connections-list, count-less, count-more, count-same, sessions-list, taken-by-more, taken-less, is_controlled, is_ruled, length-taken-less, locks-list, open-list, put-length, ruled-list, sessions-ascending, taken-among, taken-list, taken_length}
+use Rattle.login_laws.proofs.Ending.{good-disconnect}
 use Rattle.login_laws.proofs.Paying.{Falls, base, counted, handle-in, open-session}
+use Rattle.login_laws.proofs.PayingEnds.{pays-disconnect}
 use Rattle.login_laws.proofs.PayingMoves.{settle-within}
 use Rattle.login_laws.proofs.NeedLaws.{ends, need-is}
 use Rattle.login_laws.proofs.RoomLaws.{room, stop-stays}
@@ -561,15 +563,25 @@ settle-step U t u p =
     let b1 = c.connected in let b2 = c.controlled in let b3 = c.taken in let b4 = c.opened in let b5 = c.locked in
     let s = switch-most v in
     let n = need-is t in let k = need-is v in
-    record { marks = omega arith; need_rises = omega arith }
+    record { marks = omega arith; need_rises = omega arith; takes = omega arith }
 
 other-by : (v : Verdict) (U : Setup) (e : Event) (t : Trail) → IsSound U t → (IsDisconnect e → ⊥) → IsWithin t (stepped U v e t)
 other-by Granted U e t s n = (let g = good-sound t s.between in settle-step U t (direct U e t) (step-direct U e t n g.unused (taken-within t g)))
-other-by (Denied r) U e t s n = record { marks = omega arith; need_rises = omega arith }
+other-by (Denied r) U e t s n = record { marks = omega arith; need_rises = omega arith; takes = omega arith }
 
 -- another event stays within both sums
 pub other : (U : Setup) (t : Trail) (e : Event) → IsSound U t → (IsDisconnect e → ⊥) → IsWithin t (stepped U (verdict U t e) e t)
 other U t e s n = other-by (verdict U t e) U e t s n
 
+-- a disconnect takes no device
+ends-take : (U : Setup) (t : Trail) (c : ConnId) → IsSound U t → is_connected t c ≡ true → taken_count (stepped U Granted (Disconnect c) t) ≤ taken_count t
+unfolding direct
+ends-take U t c s e =
+    let g = good-sound t s.between in
+    let u = disconnect c t in
+    let a = (counted t u (pays-disconnect c t g (good-disconnect c t g)).falls).taken in
+    let b = (counted u (settle U u) (settle-within U u).falls).taken in
+    omega arith
+
 pub room-is-kept : (U : Setup) → RoomIsKept U
-room-is-kept U = record { other = other U; ends = ends U; stop = stop-stays U; room = room }
+room-is-kept U = record { other = other U; ends = ends U; ends_take = ends-take U; stop = stop-stays U; room = room }

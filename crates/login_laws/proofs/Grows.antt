@@ -3,12 +3,15 @@ use Rattle.std.proofs.Common.{◌≤◌, ℕ, Bool, true, false, cond, Option, S
 use Rattle.login_base.specs.declared.ids.SessId.{SessId}
 use Rattle.login_base.specs.declared.ids.Uid.{Uid}
 use Rattle.login_base.specs.declared.ids.DevNo.{DevNo}
+use Rattle.login_base.specs.declared.ids.HandleNo.{HandleNo}
 use Rattle.login_model.specs.Same.{same_fact}
 use Rattle.login_model.specs.Trail.{Trail, put, tell_all, value}
 use Rattle.login_model.specs.Procedure.{each, force, force_handle, forget, if_some, in_phase, kill, know, leave, leave_seat, release, resume, resume_handle, revoke, set_phase, shut, take_seat, tell_controller, tell_new_user, untake, vacate, yes}
 use Rattle.login_model.specs.Switching.{await_devices, await_handle, unawait_devices}
 use Rattle.login_model.specs.Creating.{appear_on}
 use Rattle.login_model.specs.Settle.{settle}
+use Rattle.login_model.specs.Taking.{appear_seat, enliven, lose_seat}
+use Rattle.login_model.specs.declared.hardware.DevKind.{DevKind}
 use Rattle.login_model.specs.declared.mark.Whom.{Whom}
 use Rattle.login_model.specs.declared.mark.Mark.TheVariants.{Say}
 use Rattle.login_model.specs.declared.mark.Notice.{Notice}
@@ -20,7 +23,7 @@ use Rattle.login_model.specs.declared.fact.Key.{Key}
 use Rattle.login_model.specs.declared.fact.Key.TheVariants as key
 use Rattle.login_model.specs.declared.fact.Fact.{Fact}
 use Rattle.login_model.specs.declared.fact.Fact.TheVariants as fact
-use Rattle.login_laws.proofs.Carried.{Carried, Operated, Switched, appear_on-carried, await_devices-carried, await_handle-carried, force-carried, force_handle-carried, forget-carried, kill-carried, know-carried, leave-carried, leave_seat-carried, release-carried, resume-carried, resume_handle-carried, revoke-carried, settle-carried, shut-carried, take_seat-carried, tell_new_user-carried, unawait_devices-carried, untake-carried, vacate-carried}
+use Rattle.login_laws.proofs.Carried.{Carried, Operated, Switched, appear_on-carried, appear_seat-carried, await_devices-carried, await_handle-carried, enliven-carried, force-carried, force_handle-carried, forget-carried, kill-carried, know-carried, leave-carried, leave_seat-carried, lose_seat-carried, release-carried, resume-carried, resume_handle-carried, revoke-carried, settle-carried, shut-carried, take_seat-carried, tell_new_user-carried, unawait_devices-carried, untake-carried, vacate-carried}
 
 -- at least as many marks as before
 abbrev pub Grows : Trail → Trail → Type 0
@@ -149,6 +152,15 @@ unawait_devices-grows s t = unawait_devices-carried grows s t
 
 pub appear_on-grows : (o : Option (List ℕ)) (s : SessId) (t : Trail) → Grows t (appear_on o s t)
 appear_on-grows o s t = appear_on-carried grows o s t
+
+pub enliven-grows : (h : HandleNo) (is_so : Bool) (t : Trail) → Grows t (enliven h is_so t)
+enliven-grows h is_so t = enliven-carried grows h is_so t
+
+pub appear_seat-grows : (kind : DevKind) (seat : List ℕ) (t : Trail) → Grows t (appear_seat kind seat t)
+appear_seat-grows kind seat t = appear_seat-carried grows kind seat t
+
+pub lose_seat-grows : (x : Fact) (t : Trail) → Grows t (lose_seat x t)
+lose_seat-grows x t = lose_seat-carried grows x t
 
 pub settle-grows : (U : Setup) (t : Trail) → Grows t (settle U t)
 settle-grows U t = settle-carried grows grows-switched grows-operated U t

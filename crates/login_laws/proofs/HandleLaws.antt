@@ -99,7 +99,7 @@ tail-in-turn : (m : Mark) (t : Trail) → AreInTurn (m ∷ t) → AreInTurn t
 tail-in-turn (Set k x) t w = w.1
 tail-in-turn (Say n m) t w = w
 
-before-in-turn : (t : Trail) (ms : List Mark) → AreInTurn (after t ms) → AreInTurn t
+pub before-in-turn : (t : Trail) (ms : List Mark) → AreInTurn (after t ms) → AreInTurn t
 before-in-turn t [] w = w
 before-in-turn t (m ∷ ms) w = tail-in-turn m t (before-in-turn (m ∷ t) ms w)
 

@@ -5,6 +5,7 @@ use Rattle.login_model.specs.Legal.{IsLegal, IsLegalAfter, IsLegalEntry, trail_o
 use Rattle.login_model.specs.declared.mark.Entry.{Entry}
 use Rattle.login_model.specs.declared.rule.Verdict.TheVariants.{Granted}
 use Rattle.login_model.specs.declared.setup.Setup.{Setup}
+use Rattle.login_laws.specs.Guarded.{IsGuarded}
 use Rattle.login_laws.specs.Lawful.{LegalIsLawful}
 use Rattle.login_laws.specs.Sound.{IsSoundBetween}
 use Rattle.login_laws.proofs.Accords.{good-sound, sound-good}
@@ -12,6 +13,7 @@ use Rattle.login_laws.proofs.GuardedLaws.{guarded}
 use Rattle.login_laws.proofs.PoweredLaws.{append-none, append-one, powered}
 use Rattle.login_laws.proofs.SoundLaws.{good-direct, sound-journal}
 use Rattle.login_laws.proofs.SwitchedLaws.{switched}
+use Rattle.login_laws.proofs.WorkingLaws.{works}
 
 -- a front of what is legal is legal
 front-after : (U : Setup) (past before later : List Entry) → IsLegalAfter U past (before ++ later) → IsLegalAfter U past before
@@ -34,12 +36,16 @@ between U before e l m v =
     let t = trail_of before in
     sound-good (direct U e.event t) (good-direct U before e.event m.placed (sym m.verdict_is ∙ v) (good-sound t (sound-journal U before l).between))
 
+guarded-before : (U : Setup) (journal before later : List Entry) → journal ≡ before ++ later → IsLegal U journal → IsGuarded (trail_of before)
+guarded-before U journal before later p l = guarded (trail_of before) (good-sound (trail_of before) (sound-journal U before (front U journal before later p l)).between)
+
 pub legal-is-lawful : LegalIsLawful
 legal-is-lawful U journal l = record {
   legal = l;
   sound = λ before later p. sound-journal U before (front U journal before later p l);
   between = λ before e later p. between U before e (front U journal before (e ∷ later) p l) (entry U journal before e later p l);
-  guarded = λ before later p. guarded (trail_of before) (good-sound (trail_of before) (sound-journal U before (front U journal before later p l)).between);
+  guarded = λ before later p. guarded-before U journal before later p l;
+  works = λ before later p. works U (trail_of before) (guarded-before U journal before later p l);
   switching = λ before e later p. switched U before e (front U journal before (e ∷ later) p l) (entry U journal before e later p l);
   powered = λ before e later p. powered U before e (front U journal before (e ∷ later) p l) (entry U journal before e later p l);
 }

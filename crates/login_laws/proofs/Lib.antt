@@ -22,6 +22,7 @@ pub mod Turns
 pub mod SoundLaws
 pub mod HandleLaws
 pub mod JournalLaws
+pub mod Hearing
 pub mod Continuing
 pub mod RoomLaws
 pub mod Carried
@@ -41,9 +42,11 @@ pub mod WithdrawingLaws
 pub mod Comings
 pub mod Counting
 pub mod Counts
+pub mod FewLives
 pub mod Paying
 pub mod PayingEnds
 pub mod WithinLaws
+mod WorkingLaws
 pub mod PayingMoves
 pub mod NeedLaws
 pub mod ProcedureMarks

@@ -9,4 +9,6 @@ pub mod Powered
 pub mod Lawful
 pub mod Quiet
 pub mod Need
+pub mod Few
+pub mod Hearing
 pub mod OneJournal

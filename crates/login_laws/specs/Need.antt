@@ -36,18 +36,21 @@ abbrev pub IsDisconnect : Event → Type 0
 IsDisconnect (Disconnect c) = Unit {0}
 IsDisconnect _ = ⊥
 
--- an event makes at most so many marks, and raises the need by at most so much
+-- an event makes at most so many marks, raises the need by at most so much, and takes one device at most
 pub record IsWithin (before after : Trail) : Type 0 where
   pub marks : length after ≤ length before + most_marks before
   pub need_rises : need after ≤ need before + most_rise before
+  pub takes : taken_count after ≤ taken_count before + 1
 
--- The three facts that keep room for every end, and the sum that `full` looks at.
+-- The facts that keep room for every end, and the sum that `full` looks at.
 pub record RoomIsKept (U : Setup) : Type 0 where
   -- another event stays within both sums
   pub other : (t : Trail) (e : Event) → IsSound U t → (IsDisconnect e → ⊥) → IsWithin t (stepped U (verdict U t e) e t)
   -- a disconnect makes at most as many marks as the need falls by
   pub ends : (t : Trail) (c : ConnId) → IsSound U t → is_connected t c ≡ true
       → length (stepped U Granted (Disconnect c) t) + need (stepped U Granted (Disconnect c) t) ≤ length t + need t
+  -- a disconnect takes no device
+  pub ends_take : (t : Trail) (c : ConnId) → IsSound U t → is_connected t c ≡ true → taken_count (stepped U Granted (Disconnect c) t) ≤ taken_count t
   -- the stop makes no mark
   pub stop : (t : Trail) → IsSound U t → stepped U Granted Stop t ≡ t
   -- where the journal is not full, both sums have room beside the marks

@@ -1,6 +1,8 @@
 // What holds of every legal journal, as functions that do nothing and ensure it.
 
+ghost use Rattle.login_laws.specs.Few.{LivesAreFew};
 ghost use Rattle.login_laws.specs.Handles.{NextHandleIsLeastFree};
+ghost use Rattle.login_laws.specs.Hearing.{HearingGoesOn, ReadsAreHeard};
 ghost use Rattle.login_laws.specs.Lawful.{LegalIsLawful};
 ghost use Rattle.login_laws.specs.Need.{RoomIsKept};
 ghost use Rattle.login_laws.specs.OneJournal.{OneJournal};
@@ -30,9 +32,25 @@ pub fn one_journal()
     ensures { OneJournal }
 {}
 
+/// What a live handle reads goes on from entry to entry: one that an entry makes live has heard nothing, and
+/// another keeps the last 64 of what it read before and what the entry brings.
+pub fn hearing_goes_on()
+    ensures { HearingGoesOn }
+{}
+
+/// The handle of a read that is granted listens to a device, and what it has heard is the answer.
+pub fn reads_are_heard()
+    ensures { ReadsAreHeard }
+{}
+
+/// Live handles are at most as many as the devices that sessions have taken.
+pub fn lives_are_few()
+    ensures { LivesAreFew }
+{}
+
 /// The limits of a journal leave room for every end: an event that is no disconnect stays within
-/// the marks and the need that `room` asks for, a disconnect pays for its marks, and the stop makes
-/// none.
+/// the marks and the need that `room` asks for and takes one device at most, a disconnect pays for its
+/// marks and takes none, and the stop makes none.
 pub fn room_is_kept()
     ensures { (U : Setup) → RoomIsKept U }
 {}

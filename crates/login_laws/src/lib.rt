@@ -5,6 +5,6 @@
 mod law;
 
 pub use law::{
-    legal_is_lawful, next_handle_is_least_free, one_journal, room_is_kept,
-    withdrawal_is_of_each_awaited,
+    hearing_goes_on, legal_is_lawful, lives_are_few, next_handle_is_least_free, one_journal,
+    reads_are_heard, room_is_kept, withdrawal_is_of_each_awaited,
 };
