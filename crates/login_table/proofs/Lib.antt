@@ -1,8 +1,9 @@
 mod Ascending
 mod KeyOrder
 mod KeySets
-pub mod LeastName
 pub mod Listing
 mod NextKey
 mod NextRow
+mod NextTaken
+pub mod Parts
 pub mod Standing

@@ -1,5 +1,5 @@
 -- A table stands for one more setting.
-use Rattle.std.proofs.Common.{◌≡◌, Bool, true, false, cond, Option, [], ◌∷◌, refl, ap, sym, subst, ◌∙◌, inl, inr}
+use Rattle.std.proofs.Common.{◌≡◌, ℕ, Bool, true, false, cond, Option, [], ◌∷◌, refl, ap, sym, subst, ◌∙◌, inl, inr}
 use Rattle.login_model.specs.declared.fact.Key.{Key}
 use Rattle.login_model.specs.declared.fact.Fact.{Fact}
 use Rattle.login_model.specs.declared.mark.Mark.TheVariants.{Set}
@@ -8,6 +8,7 @@ use Rattle.login_model.specs.Start.{start_fact}
 use Rattle.login_model.specs.Trail.{Trail, value}
 use Rattle.login_model.specs.Names.{IsNext}
 use Rattle.login_model.proofs.Keys.{same_key-true, test}
+use Rattle.login_table.specs.KeyOrder.{place}
 use Rattle.login_table.specs.Listed.{is_there}
 use Rattle.login_table.specs.Stands.{Stands}
 
@@ -32,10 +33,12 @@ other-key owns rows t k x e s j own =
       | inr n ↦ s j own ∙ sym (value-set j k x t ∙ ap (λ (b : Bool). cond b x (value t j)) n)
     ]
 
--- the next name by a table's rows is the next one by the marks, where the keys of its kind are the table's
-pub next-standing : {A : Type 0} (lt : A → A → Bool) (key_of : A → Key) (is_fact : Fact → Bool) (owns : Key → Bool) (rows t : Trail) (above found : Option A)
-    → ((a : A) → owns (key_of a) ≡ true) → IsNext lt (is_there key_of is_fact rows) above found → Stands owns rows t → IsNext lt (is_there key_of is_fact t) above found
-next-standing {A} lt key_of is_fact owns rows t above found own n s =
+-- the next name by the rows of its kind is the next one by the marks, where the keys of its kind are the table's
+pub next-standing : {A : Type 0} (lt : A → A → Bool) (key_of : A → Key) (is_fact : Fact → Bool) (owns : Key → Bool) (part rows t : Trail) (kind n : ℕ) (above found : Option A)
+    → ((a : A) → owns (key_of a) ≡ true) → ((a : A) → place (key_of a) ≡ kind) → n ≡ kind → ((k : Key) → place k ≡ n → value part k ≡ value rows k)
+    → IsNext lt (is_there key_of is_fact part) above found → Stands owns rows t → IsNext lt (is_there key_of is_fact t) above found
+next-standing {A} lt key_of is_fact owns part rows t kind n above found own of_kind e same next s =
     let P : (A → Bool) → Type 0 = λ there. IsNext lt there above found in
-    let same : is_there key_of is_fact rows ≡ is_there key_of is_fact t = λ i a. is_fact (s (key_of a) (own a) i) in
-    subst P same n
+    let all : (a : A) → value part (key_of a) ≡ value t (key_of a) = λ a. same (key_of a) (of_kind a ∙ sym e) ∙ s (key_of a) (own a) in
+    let there : is_there key_of is_fact part ≡ is_there key_of is_fact t = λ i a. is_fact (all a i) in
+    subst P there next

@@ -6,14 +6,11 @@ use Rattle.login_model.specs.declared.fact.Key.{Key}
 use Rattle.login_model.specs.declared.fact.Key.TheVariants as key
 use Rattle.login_model.specs.Names.{session_lt, user_lt, conn_lt, seat_lt, device_lt, lock_lt}
 
--- the place of a key's kind, with those that tell what is there in front, and behind each session and each user
--- what is told of it
+-- the place of a key's kind, with those that tell what is there in front; what is told of sessions besides has one
+-- place, and what is told of users is with them
 abbrev pub place : Key → ℕ
 place (key.Conn a) = 0
 place (key.Sess a) = 1
-place (key.Idle a) = 1
-place (key.Locked a) = 1
-place (key.Sig a) = 1
 place (key.User a) = 2
 place (key.Linger a) = 2
 place (key.Seat a) = 3
@@ -32,6 +29,9 @@ place (key.Mode a) = 15
 place key.Op = 16
 place key.Docked = 17
 place key.Now = 18
+place (key.Idle a) = 19
+place (key.Locked a) = 19
+place (key.Sig a) = 19
 
 -- the number of the session or the user by which a key stands in its place
 abbrev pub number : Key → ℕ

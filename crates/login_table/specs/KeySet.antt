@@ -1,6 +1,9 @@
 -- Keys in order, each once.
 use Rattle.std.specs.Prelude.{◌≡◌, ℕ, ◌||◌, nat_lt, not, Bool, true, false, Option, Some, None, List, [], ◌∷◌}
+use Rattle.login_base.specs.declared.ids.SessId.{SessId}
+use Rattle.login_base.specs.declared.ids.DevNo.{DevNo}
 use Rattle.login_model.specs.declared.fact.Key.{Key}
+use Rattle.login_model.specs.declared.fact.Key.TheVariants.{Taken}
 use Rattle.login_model.specs.Same.{same_key}
 use Rattle.login_model.specs.Names.{is_above}
 use Rattle.login_table.specs.KeyOrder.{key_lt, place}
@@ -24,10 +27,15 @@ KeysAscendFrom above (x ∷ xs) = (is_above key_lt above x ≡ true) × KeysAsce
 unfoldable pub KeysAscend : List Key → Type 0
 KeysAscend keys = KeysAscendFrom None keys
 
--- whether a key is not above that of a name, or of a kind in front of that one
+-- whether whoever goes on from a name is past a key: it is not above the name's. Without a name, it is of a kind in front
 abbrev pub is_passed : {A : Type 0} → (A → Key) → ℕ → Option A → Key → Bool
 is_passed key_of kind None x = nat_lt (place x) kind
 is_passed key_of kind (Some a) x = not (key_lt (key_of a) x)
+
+-- whether a key is not above that of a device that a session has taken, or in front of all of the session's
+abbrev pub is_taken_passed : SessId → Option DevNo → Key → Bool
+is_taken_passed s None x = key_lt x (Taken s (record { major = 0; minor = 0 }))
+is_taken_passed s (Some d) x = not (key_lt (Taken s d) x)
 
 -- the name, or else the other
 abbrev pub or_else : {A : Type 0} → Option A → Option A → Option A

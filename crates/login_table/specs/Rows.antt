@@ -8,6 +8,7 @@ use Rattle.login_model.specs.Start.{start_fact}
 use Rattle.login_model.specs.Trail.{Trail, value}
 use Rattle.login_model.specs.Names.{is_above}
 use Rattle.login_model.specs.Where.{is_session_fact, is_user_fact, is_connected_fact, is_seat_fact, is_device_fact, is_lock_fact}
+use Rattle.login_model.specs.Facts.{is_handle_fact}
 use Rattle.login_table.specs.KeyOrder.{key_lt}
 use Rattle.login_table.specs.KeySet.{has}
 use Rattle.login_table.specs.declared.rows.Row.{Row}
@@ -46,6 +47,7 @@ says_there (key.User a) x = is_user_fact x
 says_there (key.Seat a) x = is_seat_fact x
 says_there (key.Dev a) x = is_device_fact x
 says_there (key.Lock a) x = is_lock_fact x
+says_there (key.Taken s a) x = is_handle_fact x
 says_there k x = false
 
 -- the keys are those of what the settings say is there, but that one of what is there at the start may be missing

@@ -8,44 +8,62 @@ use crate::name::Order;
 use login_base::{DevNo, SeatName, SessId};
 use login_model::Key;
 
-/// The places of the kinds that tell what is there.
-pub(crate) const CONNECTIONS: u8 = 0;
+/// The place of connections. The kinds that tell what is there come first.
+pub const CONNECTIONS: u8 = 0;
 
-pub(crate) const SESSIONS: u8 = 1;
+/// The place of sessions.
+pub const SESSIONS: u8 = 1;
 
-pub(crate) const USERS: u8 = 2;
+/// The place of users, and of whether they linger.
+pub const USERS: u8 = 2;
 
-pub(crate) const SEATS: u8 = 3;
+/// The place of seats.
+pub const SEATS: u8 = 3;
 
-pub(crate) const DEVICES: u8 = 4;
+/// The place of devices.
+pub const DEVICES: u8 = 4;
 
-pub(crate) const LOCKS: u8 = 5;
+/// The place of locks.
+pub const LOCKS: u8 = 5;
 
-/// The place of a key's kind. What is told of a session, or of a user, stands in one place with it, so that
+/// The place of the owners of handles.
+pub const OWNERS: u8 = 7;
+
+/// The place of the handles that give access.
+pub const LIVES: u8 = 8;
+
+/// The place of the devices that sessions have taken.
+pub const TAKES: u8 = 13;
+
+/// The place of the hints that sessions give, and of the last signals that they were sent.
+pub const HINTS: u8 = 19;
+
+/// The place of a key's kind. All hints of a session stand together, and so does what is told of a user, so that
 /// what comes of a new one goes behind all that was told of those before.
 pub fn kind_place(key: &Key) -> u8
     ensures { result ≡ place key.now }
 {
     match key {
         Key::Conn(_) => CONNECTIONS,
-        Key::Sess(_) | Key::Idle(_) | Key::Locked(_) | Key::Sig(_) => SESSIONS,
+        Key::Sess(_) => SESSIONS,
         Key::User(_) | Key::Linger(_) => USERS,
         Key::Seat(_) => SEATS,
         Key::Dev(_) => DEVICES,
         Key::Lock(_) => LOCKS,
         Key::Ctl(_) => 6,
-        Key::Owner(_) => 7,
-        Key::Live(_) => 8,
+        Key::Owner(_) => OWNERS,
+        Key::Live(_) => LIVES,
         Key::Act(_) => 9,
         Key::Vt => 10,
         Key::Getty(_) => 11,
         Key::Pending => 12,
-        Key::Taken(_, _) => 13,
+        Key::Taken(_, _) => TAKES,
         Key::Awaited(_, _) => 14,
         Key::Mode(_) => 15,
         Key::Op => 16,
         Key::Docked => 17,
         Key::Now => 18,
+        Key::Idle(_) | Key::Locked(_) | Key::Sig(_) => HINTS,
     }
 }
 

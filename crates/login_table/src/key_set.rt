@@ -1,16 +1,17 @@
 // Keys in order, each once.
 
 ghost use Rattle.std.specs.Prelude.{◌≡◌, ◌+◌, ◌<◌, ◌≤◌, [], Bool, OnOk, false, if◌then◌else◌, length, nat_lt, not, true};
-ghost use Rattle.login_model.specs.Names.{IsNext};
+ghost use Rattle.login_model.specs.Devices.{taken_in};
+ghost use Rattle.login_model.specs.Names.{IsNext, device_lt};
 ghost use Rattle.login_model.specs.Same.{same_key};
 ghost use Rattle.login_model.specs.declared.fact.Key.{Key as AnyKey};
 ghost use Rattle.login_table.specs.KeyOrder.{key_lt, place};
-ghost use Rattle.login_table.specs.KeySet.{KeysAscend, first_named, has, is_passed};
+ghost use Rattle.login_table.specs.KeySet.{KeysAscend, first_named, has, is_passed, is_taken_passed};
 ghost use Rattle.login_table.specs.Rows.{IsFront};
 
 use crate::key_order::{is_key_below, kind_place};
 use crate::name::Name;
-use login_base::NoMemory;
+use login_base::{DevNo, NoMemory, SessId};
 use login_model::{Key, is_same_key};
 use std::alloc::Global;
 use std::marker::Model;
@@ -80,6 +81,34 @@ fn place_above<N: Name>(keys: &[Key], above: Option<N>) -> usize
     match above {
         Some(name) => place_behind(keys, &name.key()),
         None => place_of_kind(keys, N::kind()),
+    }
+}
+
+/// How many keys are in front of those of the devices above that one that a session has taken.
+fn place_taken(keys: &[Key], session: SessId, above: Option<DevNo>) -> usize
+    requires { KeysAscend keys.now }
+    ensures front { IsFront (is_taken_passed session above) result keys.now }
+    ensures bound { result ≤ length keys.now }
+{
+    match above {
+        Some(device) => place_behind(keys, &Key::Taken(session, device)),
+        None => place(keys, &Key::Taken(session, DevNo { major: 0, minor: 0 })),
+    }
+}
+
+/// The device of a key about what a session has taken.
+fn taken_in(session: SessId, key: &Key) -> Option<DevNo>
+    ensures { result ≡ taken_in session key.now }
+{
+    match key {
+        Key::Taken(other, device) => {
+            if other.0 == session.0 {
+                Some(*device)
+            } else {
+                None
+            }
+        }
+        _ => None,
     }
 }
 
@@ -166,5 +195,17 @@ impl KeySet {
     {
         let keys = self.keys.as_slice();
         first_named(&keys[place_above(keys, above)..])
+    }
+
+    /// The least device above that one whose key is there with the session.
+    pub(crate) fn next_taken(&self, session: SessId, above: Option<DevNo>) -> Option<DevNo>
+        ensures { IsNext device_lt (λ d. has (Key.Taken session d) self.now.list) above result }
+    {
+        let at = place_taken(self.keys.as_slice(), session, above);
+        if at < self.keys.len() {
+            taken_in(session, &self.keys[at])
+        } else {
+            None
+        }
     }
 }

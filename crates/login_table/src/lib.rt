@@ -11,7 +11,10 @@ mod search;
 mod table;
 
 pub use active::{active_on, current_vt, is_active, is_on_seat, seat_of_session, session_on};
-pub use listed::{Listed, are_at_least, are_taken_at_least, list};
+pub use key_order::{
+    CONNECTIONS, DEVICES, HINTS, LIVES, LOCKS, OWNERS, SEATS, SESSIONS, TAKES, USERS, kind_place,
+};
+pub use listed::{Listed, are_taken_at_least, list};
 pub use name::{Name, Order, is_above, is_lower};
 pub use rows::{Row, Rows};
 pub use search::{IsOpen, OfUser, Test, find_session};

@@ -66,20 +66,6 @@ impl Listed for LockNo {
     }
 }
 
-/// Whether there are at least so many of a kind.
-pub fn are_at_least<N: Listed, F: Look>(facts: &F, least: u32) -> bool
-    ensures { result ≡ nat_le least (length (listed N.lt N.name_in N.key_of N.is_fact N.first (F.trail facts.now))) }
-{
-    let mut above: Option<N> = None;
-    for i in 0..least {
-        match N::next(facts, above) {
-            Some(name) => above = Some(name),
-            None => return false,
-        }
-    }
-    true
-}
-
 /// Whether a session has at least so many devices taken.
 #[tactic(auto, unfolding(login_model::specs::Devices::taken_devices))]
 pub fn are_taken_at_least<F: Look>(facts: &F, session: SessId, least: u32) -> bool

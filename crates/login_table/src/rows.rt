@@ -2,7 +2,8 @@
 
 ghost use Rattle.std.specs.Prelude.{◌≡◌, ◌+◌, ◌<◌, ◌≤◌, [], ◌∷◌, OnOk, length};
 ghost use Rattle.login_model.specs.Trail.{value};
-ghost use Rattle.login_model.specs.Names.{IsNext};
+ghost use Rattle.login_model.specs.Names.{IsNext, device_lt};
+ghost use Rattle.login_model.specs.Devices.{is_taken};
 ghost use Rattle.login_model.specs.declared.fact.Key.{Key as AnyKey};
 ghost use Rattle.login_model.specs.declared.mark.Mark.TheVariants.{Set};
 ghost use Rattle.login_table.specs.KeyOrder.{key_lt};
@@ -12,7 +13,7 @@ ghost use Rattle.login_table.specs.declared.rows.Row.{Row as AnyRow};
 use crate::key_order::is_key_below;
 use crate::key_set::KeySet;
 use crate::name::{Name, is_above, is_lower};
-use login_base::NoMemory;
+use login_base::{DevNo, NoMemory, SessId};
 use login_model::{Fact, Key, StartFacts, is_same_key};
 use std::alloc::Global;
 use std::marker::Model;
@@ -68,6 +69,7 @@ fn says_there(key: &Key, fact: &Fact) -> bool
         Key::Seat(_) => fact.is_seat(),
         Key::Dev(_) => fact.is_device(),
         Key::Lock(_) => fact.is_lock(),
+        Key::Taken(_, _) => fact.is_handle(),
         _ => false,
     }
 }
@@ -160,5 +162,12 @@ impl Rows {
     {
         let found = self.there.next(above);
         self.nearer_first(above, found)
+    }
+
+    /// The least device above that one that a session has taken. It is found by halving.
+    pub fn next_taken(&self, session: SessId, above: Option<DevNo>) -> Option<DevNo>
+        ensures { IsNext device_lt (is_taken self.now.trail session) above result }
+    {
+        self.there.next_taken(session, above)
     }
 }

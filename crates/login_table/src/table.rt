@@ -5,10 +5,12 @@ ghost use Rattle.login_model.specs.Trail.{Trail, value};
 ghost use Rattle.login_model.specs.Names.{IsNext};
 ghost use Rattle.login_model.specs.declared.fact.Key.{Key as AnyKey};
 ghost use Rattle.login_model.specs.declared.mark.Mark.TheVariants.{Set};
+ghost use Rattle.login_table.specs.KeyOrder.{place};
 ghost use Rattle.login_table.specs.Listed.{is_there};
 ghost use Rattle.login_table.specs.Rows.{RowList};
 ghost use Rattle.login_table.specs.Stands.{Stands, told};
 
+use crate::key_order::kind_place;
 use crate::name::Name;
 use crate::rows::Rows;
 use login_base::NoMemory;
@@ -16,7 +18,8 @@ use login_model::{Fact, Key};
 use std::alloc::Global;
 
 /// A table of facts: those under the keys that are its own. It stands for marks whose settings were
-/// applied. A table gives its keys and its rows, and has the rest from here.
+/// applied. A table gives its keys and the rows of each kind of key, and has the rest from here. A table of
+/// kinds whose names all keep growing has rows for each of them, so that a new one comes last and moves none.
 pub trait Table {
     /// Whether a key is one of its own.
     ghost owns: { AnyKey → Bool };
@@ -32,9 +35,9 @@ pub trait Table {
     fn new(alloc: Global) -> Self
         ensures { Stands owns (list result).trail [] };
 
-    /// Its rows.
-    fn rows(&self) -> &Rows
-        ensures { result.now ≡ list self.now };
+    /// The rows with the facts under the keys of one kind, by its place.
+    fn part(&self, kind: u8) -> &Rows
+        ensures { (k : AnyKey) → place k ≡ kind → value result.now.trail k ≡ value (list self.now).trail k };
 
     /// Makes the spare at least so much: so many more marks can be applied without memory.
     fn room(&mut self, marks: usize) -> Result<(), NoMemory>
@@ -48,12 +51,19 @@ pub trait Table {
         ensures facts { (k : AnyKey) → value (list self.new).trail k ≡ value (Set key fact ∷ (list self.old).trail) k }
         ensures spare { (list self.old).spare ≤ (list self.new).spare + 1 };
 
+    /// The fact of the last setting of a key, or the fact at the start.
+    fn fact(&self, key: &Key) -> &Fact
+        ensures { result.now ≡ value (list self.now).trail key.now }
+    {
+        self.part(kind_place(key)).fact(key)
+    }
+
     /// The fact under a key, where it is one of the table's.
     fn look(&self, key: &Key) -> Option<&Fact>
         ensures { MatchOption result (told owns (list self.now).trail key.now ≡ None) (λ fact. told owns (list self.now).trail key.now ≡ Some fact.now) }
     {
         if Self::is_own(key) {
-            Some(self.rows().fact(key))
+            Some(self.fact(key))
         } else {
             None
         }
@@ -76,6 +86,6 @@ pub trait Table {
         requires { (a : N) → owns (N.key_of a) ≡ true }
         ensures { (t : Trail) → Stands owns (list self.now).trail t → IsNext N.lt (is_there N.key_of N.is_fact t) above result }
     {
-        self.rows().next(above)
+        self.part(N::kind()).next(above)
     }
 }

@@ -51,7 +51,7 @@ impl Table for SeatsVts {
         }
     }
 
-    fn rows(&self) -> &Rows {
+    fn part(&self, _kind: u8) -> &Rows {
         &self.rows
     }
 

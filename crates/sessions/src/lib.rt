@@ -7,7 +7,7 @@ ghost use Rattle.sessions.specs.Own.{is_session_key};
 
 use login_base::NoMemory;
 use login_model::{Fact, Key};
-use login_table::{Rows, Table};
+use login_table::{Rows, SESSIONS, Table, kind_place};
 use std::alloc::Global;
 use std::marker::Model;
 
@@ -21,20 +21,25 @@ pub fn is_session_key(key: &Key) -> bool
     )
 }
 
-/// What each session is, whether it is idle or locked, and the last signal sent to it.
+/// What each session is, whether it is idle or locked, and the last signal sent to it. What is told of one
+/// besides has rows of its own, so that a hint which comes late moves no session.
 #[derive(Drop)]
 pub struct Sessions {
-    rows: Rows,
+    sessions: Rows,
+    hints: Rows,
 }
 
 impl Model for Sessions {
+    ghost use Rattle.login_table.specs.Parts.{joined};
     ghost use Rattle.login_table.specs.Rows.{RowList};
+    ghost use Rattle.login_table.specs.declared.key_order.TheConstants.{SESSIONS};
 
     ghost Value = { RowList };
 
-    ghost view = { λ t. t.rows };
+    ghost view = { λ t. joined SESSIONS t.sessions t.hints };
 }
 
+#[tactic(auto, unfolding(login_table::specs::Parts::joined))]
 impl Table for Sessions {
     ghost owns = { is_session_key };
 
@@ -46,20 +51,30 @@ impl Table for Sessions {
 
     fn new(alloc: Global) -> Sessions {
         Sessions {
-            rows: Rows::new(alloc),
+            sessions: Rows::new(alloc),
+            hints: Rows::new(alloc),
         }
     }
 
-    fn rows(&self) -> &Rows {
-        &self.rows
+    fn part(&self, kind: u8) -> &Rows {
+        if kind == SESSIONS {
+            &self.sessions
+        } else {
+            &self.hints
+        }
     }
 
     fn room(&mut self, marks: usize) -> Result<(), NoMemory> {
-        self.rows.reserve(marks)
+        self.sessions.reserve(marks)?;
+        self.hints.reserve(marks)
     }
 
     fn set(&mut self, key: Key, fact: Fact) {
-        self.rows.set(key, fact);
+        if kind_place(&key) == SESSIONS {
+            self.sessions.set(key, fact);
+        } else {
+            self.hints.set(key, fact);
+        }
     }
 }
 

@@ -46,7 +46,7 @@ impl Table for UsersLinger {
         }
     }
 
-    fn rows(&self) -> &Rows {
+    fn part(&self, _kind: u8) -> &Rows {
         &self.rows
     }
 
