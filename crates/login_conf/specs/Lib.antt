@@ -1,0 +1,9 @@
+pub mod Text
+pub mod Lines
+pub mod Values
+pub mod Spans
+pub mod Keys
+pub mod Settings
+pub mod Sayings
+pub mod Reading
+pub mod inner

@@ -1,0 +1,17 @@
+//! The configuration: how a file of logind.conf(5) is read.
+#![tactic(auto)]
+
+mod cut;
+mod diagnostic;
+mod key;
+mod reader;
+mod saying;
+mod setting;
+mod span;
+mod value;
+
+pub use diagnostic::{Cause, Diagnostic};
+pub use reader::read_conf;
+
+#[cfg(test)]
+mod tests;
