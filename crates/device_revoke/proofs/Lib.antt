@@ -1,0 +1,3 @@
+mod Awaiting
+mod Joined
+mod Places

@@ -1,0 +1,131 @@
+//! The devices that sessions have taken: with which handles, whose these are and whether they give access,
+//! and which pauses have still to be acknowledged (org.freedesktop.login1(5), "Session Objects").
+#![tactic(auto)]
+
+ghost use Rattle.std.specs.Prelude.{◌≡◌};
+ghost use Rattle.std.specs.List.{list_any};
+ghost use Rattle.device_revoke.specs.Own.{is_awaited_key, is_revoke_key};
+ghost use Rattle.login_model.specs.Devices.{is_awaiting, is_taken};
+ghost use Rattle.login_model.specs.Names.{IsNext, device_lt};
+ghost use Rattle.login_model.specs.Trail.{Trail};
+ghost use Rattle.login_table.specs.Stands.{Stands};
+ghost use Rattle.login_table.specs.declared.rows.Row.{Row as RowValue};
+
+mod kind;
+
+use crate::kind::Kind;
+use login_base::{DevNo, NoMemory, SessId};
+use login_model::{Fact, Key};
+use login_table::{Row, Rows, Table, kind_place};
+use std::alloc::Global;
+use std::marker::Model;
+
+/// Whether a key is one of the table of devices that sessions have taken.
+pub fn is_revoke_key(key: &Key) -> bool
+    ensures { result ≡ is_revoke_key key.now }
+{
+    matches!(
+        key,
+        Key::Taken(_, _) | Key::Owner(_) | Key::Live(_) | Key::Awaited(_, _)
+    )
+}
+
+/// Whose each handle is, which handles give access to their devices, what sessions have taken, and which
+/// pauses are awaited. The numbers of handles and sessions keep growing, so each kind has rows of its own.
+#[derive(Drop)]
+pub struct DeviceRevoke {
+    owners: Rows,
+    lives: Rows,
+    takes: Rows,
+    awaits: Rows,
+}
+
+impl Model for DeviceRevoke {
+    ghost use Rattle.login_table.specs.Parts.{joined};
+    ghost use Rattle.login_table.specs.Rows.{RowList};
+    ghost use Rattle.login_table.specs.declared.key_order.TheConstants.{LIVES, OWNERS, TAKES};
+
+    ghost Value = { RowList };
+
+    ghost view = { λ t. joined OWNERS t.owners (joined LIVES t.lives (joined TAKES t.takes t.awaits)) };
+}
+
+#[tactic(auto, unfolding(login_table::specs::Parts::joined))]
+impl Table for DeviceRevoke {
+    ghost owns = { is_revoke_key };
+
+    ghost list = { λ t. t };
+
+    fn is_own(key: &Key) -> bool {
+        is_revoke_key(key)
+    }
+
+    fn new(alloc: Global) -> DeviceRevoke {
+        DeviceRevoke {
+            owners: Rows::new(alloc),
+            lives: Rows::new(alloc),
+            takes: Rows::new(alloc),
+            awaits: Rows::new(alloc),
+        }
+    }
+
+    fn part(&self, kind: u8) -> &Rows {
+        match Kind::at(kind) {
+            Kind::Owners => &self.owners,
+            Kind::Lives => &self.lives,
+            Kind::Takes => &self.takes,
+            Kind::Awaits => &self.awaits,
+        }
+    }
+
+    fn room(&mut self, marks: usize) -> Result<(), NoMemory> {
+        self.owners.reserve(marks)?;
+        self.lives.reserve(marks)?;
+        self.takes.reserve(marks)?;
+        self.awaits.reserve(marks)
+    }
+
+    fn set(&mut self, key: Key, fact: Fact) {
+        match Kind::at(kind_place(&key)) {
+            Kind::Owners => self.owners.set(key, fact),
+            Kind::Lives => self.lives.set(key, fact),
+            Kind::Takes => self.takes.set(key, fact),
+            Kind::Awaits => self.awaits.set(key, fact),
+        }
+    }
+}
+
+/// Whether a key is about a pause that has still to be acknowledged.
+fn is_awaited(awaits: &Rows, key: &Key) -> bool
+    ensures { result ≡ is_awaited_key awaits.now.trail key.now }
+{
+    match key {
+        Key::Awaited(_, _) => awaits.fact(key).is_set(),
+        _ => false,
+    }
+}
+
+fn is_any_awaited(awaits: &Rows, rows: &[Row]) -> bool
+    ensures { result ≡ list_any (λ (x : RowValue). is_awaited_key awaits.now.trail x.key) rows.now }
+{
+    rows.iter().any(|row| is_awaited(awaits, &row.key))
+}
+
+impl DeviceRevoke {
+    /// The least device above that one that a session has taken.
+    pub fn next_taken(&self, session: SessId, above: Option<DevNo>) -> Option<DevNo>
+        ensures { (t : Trail) → Stands is_revoke_key self.now.trail t → IsNext device_lt (is_taken t session) above result }
+    {
+        self.takes.next_taken(session, above)
+    }
+
+    /// Whether the pause of some device has still to be acknowledged.
+    pub fn is_awaiting(&self) -> bool
+        ensures { (t : Trail) → Stands is_revoke_key self.now.trail t → result ≡ is_awaiting t }
+    {
+        is_any_awaited(&self.awaits, self.awaits.as_slice())
+    }
+}
+
+#[cfg(test)]
+mod tests;
