@@ -13,7 +13,7 @@ use crate::places::{no_seat, no_such_session, session_closing};
 use crate::session_calls::{NO_SESSION, first_broken};
 use login_base::{ConnId, DevNo, HandleNo, SessId};
 use login_model::{DevKind, Fact, Key, Limit, Look, Owner, Rule, Verdict};
-use login_table::{are_at_least, are_taken_at_least, seat_of_session};
+use login_table::{are_taken_at_least, seat_of_session};
 
 /// The most devices that a session may have taken.
 const TAKEN: u32 = 128;
@@ -83,11 +83,10 @@ fn too_many_taken<F: Look>(facts: &F, session: SessId) -> Option<Rule>
 }
 
 /// Whether as many devices are present as may be.
-#[tactic(auto, unfolding(login_model::specs::Where::devices))]
 fn are_devices_full<F: Look>(facts: &F) -> bool
     ensures { result ≡ nat_le devices_limit (length (devices (F.trail facts.now))) }
 {
-    are_at_least::<DevNo, F>(facts, DEVICES)
+    facts.device_count() >= DEVICES
 }
 
 fn too_many_devices<F: Look>(facts: &F) -> Option<Rule>

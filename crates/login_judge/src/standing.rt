@@ -1,7 +1,7 @@
 // How a connection stands, and what the policy says to it.
 
 ghost use Rattle.std.specs.Prelude.{◌≡◌, ◌==◌, ◌∷◌, []};
-ghost use Rattle.login_model.specs.Standing.{has_active, standing_of, standing};
+ghost use Rattle.login_model.specs.Standing.{standing_of, standing};
 ghost use Rattle.login_model.specs.Policy.{say, action_refused, action_challenge, first_broken, is_own, own_or_refused, own_or_challenge, meant_user, linger_action};
 
 use crate::seated::ActiveOf;
@@ -10,26 +10,20 @@ use login_model::{Action, Key, Look, Rule, Say, Setup, Standing, Verdict};
 use login_policy::ask;
 use login_table::find_session;
 
-/// Whether an open session of a user is active on its seat. It has a seat then, so that the sessions are gone
-/// over for those users alone who have one.
-fn has_active<F: Look>(facts: &F, uid: u32) -> bool
-    ensures { result ≡ has_active (F.trail facts.now) uid }
-{
-    facts.is_seated(uid) && find_session(facts, &ActiveOf(uid)).is_some()
-}
-
-#[tactic(auto, unfolding(login_model::specs::Standing::standing_of))]
+/// How a user's connections stand. Who has no open session with a seat has none that is active on one, so the
+/// sessions are gone over for those users alone who have.
+#[tactic(auto, using(crate::proofs::Seatless::seatless), unfolding(login_model::specs::Standing::standing_of))]
 fn standing_of<F: Look>(facts: &F, uid: u32) -> Standing
     ensures { result ≡ standing_of (F.trail facts.now) uid }
 {
     if uid == 0 {
         Standing::Root
-    } else if has_active(facts, uid) {
-        Standing::Active
-    } else if facts.is_seated(uid) {
-        Standing::Inactive
-    } else {
+    } else if !facts.is_seated(uid) {
         Standing::Any
+    } else if find_session(facts, &ActiveOf(uid)).is_some() {
+        Standing::Active
+    } else {
+        Standing::Inactive
     }
 }
 
