@@ -2,6 +2,7 @@
 use Rattle.std.proofs.Common.{◌≡◌, ℕ, ◌+◌, ◌*◌, ◌<◌, ◌^◌, true, false, None, Some, List, [], ◌∷◌, length, refl, ap, sym, ◌∙◌, arith}
 use Rattle.login_base.specs.declared.ids.SessId.{SessId}
 use Rattle.login_base.specs.declared.ids.ConnId.{ConnId}
+use Rattle.login_base.specs.declared.ids.DevNo.{DevNo}
 use Rattle.login_base.specs.declared.ids.LockNo.{LockNo}
 use Rattle.login_base.specs.declared.ids.Uid.{Uid}
 use Rattle.login_base.specs.declared.ids.HandleNo.{HandleNo}
@@ -15,14 +16,14 @@ use Rattle.login_model.specs.declared.mark.Notice.{Notice}
 use Rattle.login_model.specs.declared.mark.Entry.{Entry}
 use Rattle.login_model.specs.declared.setup.Setup.{Setup}
 use Rattle.login_model.specs.Devices.{is_handle_fact}
-use Rattle.login_model.specs.Facts.{is_connected_fact, is_controlled_fact, is_lock_fact, is_open_fact, is_user_fact}
+use Rattle.login_model.specs.Facts.{is_connected_fact, is_controlled_fact, is_device_fact, is_lock_fact, is_open_fact, is_user_fact}
 use Rattle.login_model.specs.Full.{controlled_sessions, marks_needed}
 use Rattle.login_model.specs.Kind.{AreKeys}
 use Rattle.login_model.specs.Legal.{IsLegal, trail_of}
-use Rattle.login_model.specs.Names.{conn_in, conn_lt, lock_in, lock_lt, names, session_in, session_lt, user_in, user_lt}
+use Rattle.login_model.specs.Names.{conn_in, conn_lt, device_in, device_lt, lock_in, lock_lt, names, session_in, session_lt, user_in, user_lt}
 use Rattle.login_model.specs.Trail.{Trail, value}
-use Rattle.login_model.specs.Where.{connections, is_open, locks, open_sessions, sessions, users}
-use Rattle.login_model.proofs.NameLaws.{conn_keys, conn_order, lock_keys, lock_order, session_keys, session_order, user_keys, user_order}
+use Rattle.login_model.specs.Where.{connections, devices, is_open, locks, open_sessions, sessions, users}
+use Rattle.login_model.proofs.NameLaws.{conn_keys, conn_order, device_keys, device_order, lock_keys, lock_order, session_keys, session_order, user_keys, user_order}
 use Rattle.login_laws.specs.Sound.{IsSound}
 use Rattle.login_laws.proofs.Counts.{controlled-list, count-same, open-list}
 use Rattle.login_laws.proofs.Paying.{open-session}
@@ -41,6 +42,13 @@ conn_kind = kind conn_lt conn_order conn_in key.Conn is_connected_fact None conn
 conns-all : (t : Trail) → length (connections t) ≡ length (all conn_kind t)
 unfolding connections
 conns-all t = refl
+
+abbrev device_kind : Kind DevNo
+device_kind = kind device_lt device_order device_in key.Dev is_device_fact None device_keys
+
+devices-all : (t : Trail) → length (devices t) ≡ length (all device_kind t)
+unfolding devices
+devices-all t = refl
 
 abbrev lock_kind : Kind LockNo
 lock_kind = kind lock_lt lock_order lock_in key.Lock is_lock_fact None lock_keys
@@ -96,6 +104,7 @@ counted-say c w n t a =
     record {
       connections = a.connections ∙ conns-all t ∙ sym (count-say conn_kind w n t) ∙ sym (conns-all u);
       controlled = a.controlled ∙ controlled-all t ∙ sym (count-say controlled_kind w n t) ∙ sym (controlled-all u);
+      devices = a.devices ∙ devices-all t ∙ sym (count-say device_kind w n t) ∙ sym (devices-all u);
       locks = a.locks ∙ locks-all t ∙ sym (count-say lock_kind w n t) ∙ sym (locks-all u);
       opened = a.opened ∙ open-all t ∙ sym (count-say open_kind w n t) ∙ sym (open-all u);
       present = a.present ∙ present-all t ∙ sym (count-say session_kind w n t) ∙ sym (present-all u);
@@ -107,6 +116,7 @@ pub counted-set : (c d : Counts) (k : Key) (x : Fact) (t : Trail) → AreCounted
 counted-set c d k x t a f = record {
   connections = follows conn_kind connections conns-all k x t c.connections d.connections a.connections f.connections;
   controlled = follows controlled_kind controlled controlled-all k x t c.controlled d.controlled a.controlled f.controlled;
+  devices = follows device_kind devices devices-all k x t c.devices d.devices a.devices f.devices;
   locks = follows lock_kind locks locks-all k x t c.locks d.locks a.locks f.locks;
   opened = follows open_kind open_sessions open-all k x t c.opened d.opened a.opened f.opened;
   present = follows session_kind sessions present-all k x t c.present d.present a.present f.present;
@@ -118,6 +128,7 @@ pub counted-fit : (c : Counts) (k : Key) (x : Fact) (t : Trail) → AreCounted c
 counted-fit c k x t a few = record {
   connections = fits conn_kind connections conns-all refl k x t c.connections a.connections few;
   controlled = fits controlled_kind controlled controlled-all refl k x t c.controlled a.controlled few;
+  devices = fits device_kind devices devices-all refl k x t c.devices a.devices few;
   locks = fits lock_kind locks locks-all refl k x t c.locks a.locks few;
   opened = fits open_kind open_sessions open-all refl k x t c.opened a.opened few;
   present = fits session_kind sessions present-all refl k x t c.present a.present few;
@@ -125,9 +136,9 @@ counted-fit c k x t a few = record {
   users = fits user_kind users users-all refl k x t c.users a.users few;
 }
 
-pub counted-none : AreCounted (record { connections = 0; controlled = 0; locks = 0; opened = 0; present = 0; taken = 0; users = 0 }) []
-unfolding connections controlled locks open_sessions sessions taken_pairs users names
-counted-none = record { connections = refl; controlled = refl; locks = refl; opened = refl; present = refl; taken = refl; users = refl }
+pub counted-none : AreCounted (record { connections = 0; controlled = 0; devices = 0; locks = 0; opened = 0; present = 0; taken = 0; users = 0 }) []
+unfolding connections controlled devices locks open_sessions sessions taken_pairs users names
+counted-none = record { connections = refl; controlled = refl; devices = refl; locks = refl; opened = refl; present = refl; taken = refl; users = refl }
 
 -- ---- the counts of a sound journal
 

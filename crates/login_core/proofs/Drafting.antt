@@ -11,23 +11,30 @@ use Rattle.login_model.specs.declared.mark.Mark.TheVariants.{Set, Say}
 use Rattle.login_model.specs.declared.mark.Whom.{Whom}
 use Rattle.login_model.specs.declared.mark.Notice.{Notice}
 use Rattle.login_model.specs.declared.mark.Entry.{Entry}
+use Rattle.device_model.specs.declared.ears.Ear.{Ear}
 use Rattle.login_core.specs.declared.board.seating.Seating.{Seating}
 use Rattle.login_core.specs.inner.Facts.{Tables, StandFor}
 use Rattle.login_core.specs.inner.Seating.{AreSeated}
 use Rattle.login_core.specs.inner.UnderWay.{so_far}
-use Rattle.login_core.specs.inner.Draft.{DraftState, Fits, IsDraft, tell, with_trail}
+use Rattle.login_core.specs.inner.Draft.{DraftState, Fits, IsDraft, tell, with_ears, with_trail}
 use Rattle.login_laws.proofs.JournalLaws.{length-after}
 use Rattle.login_core.proofs.Standing.{so_far-more, so_far-start, so_far-closed, put-other}
 
 -- what a draft of these parts is seen as
-abbrev pub seen : List Entry → List Mark → ℕ → DraftState
-seen es ms reach = record { before = trail_of es; trail = so_far es ms; reach = reach }
+abbrev pub seen : List Entry → List Mark → Tables → ℕ → DraftState
+seen es ms f reach = record { before = trail_of es; trail = so_far es ms; reach = reach; ears = f.ears; rings = f.rings }
 
 pub more : (es : List Entry) (ms ns : List Mark) (x : Mark) → ns ≡ ms ++ x ∷ [] → so_far es ns ≡ x ∷ so_far es ms
 more es ms ns x e = ap (so_far es) e ∙ so_far-more es ms x
 
-pub seen-more : (es : List Entry) (ms ns : List Mark) (reach : ℕ) (x : Mark) (d : DraftState) → seen es ms reach ≡ d → ns ≡ ms ++ x ∷ [] → seen es ns reach ≡ with_trail d (x ∷ d.trail)
-seen-more es ms ns reach x d v e = ap (with_trail (seen es ms reach)) (more es ms ns x e) ∙ ap (λ (w : DraftState). with_trail w (x ∷ w.trail)) v
+pub seen-more : (es : List Entry) (ms ns : List Mark) (f g : Tables) (reach : ℕ) (x : Mark) (d : DraftState) → seen es ms f reach ≡ d → ns ≡ ms ++ x ∷ [] → g.ears ≡ f.ears → g.rings ≡ f.rings
+    → seen es ns g reach ≡ with_trail d (x ∷ d.trail)
+seen-more es ms ns f g reach x d v e p q =
+    let s = seen es ms f reach in
+    ap (λ (t : Trail). with_ears g.ears g.rings (with_trail s t)) (more es ms ns x e)
+    ∙ ap (λ (ears : List Ear). with_ears ears g.rings (with_trail s (x ∷ s.trail))) p
+    ∙ ap (λ (n : ℕ). with_ears f.ears n (with_trail s (x ∷ s.trail))) q
+    ∙ ap (λ (w : DraftState). with_trail w (x ∷ w.trail)) v
 
 -- a setting that is made wants one mark
 pub one-more : (k : Key) (x : Fact) (d : DraftState) → same_fact (value d.trail k) x ≡ false → Fits (put k x) d → length d.trail + 1 ≤ d.reach
@@ -38,8 +45,8 @@ pub said-room : (w : Whom) (n : Notice) (d : DraftState) → Fits (tell w n) d �
 said-room w n d room = let f : length (Say w n ∷ d.trail) ≡ length d.trail + 1 = sym (add-one (length d.trail)) in omega arith
 
 -- there is room for one mark more
-pub room-inside : (es : List Entry) (ms : List Mark) (reach : ℕ) (d : DraftState) → seen es ms reach ≡ d → length d.trail + 1 ≤ d.reach → length (so_far es ms) + 1 ≤ reach
-room-inside es ms reach d v h =
+pub room-inside : (es : List Entry) (ms : List Mark) (f : Tables) (reach : ℕ) (d : DraftState) → seen es ms f reach ≡ d → length d.trail + 1 ≤ d.reach → length (so_far es ms) + 1 ≤ reach
+room-inside es ms f reach d v h =
     let n = ap (λ (w : DraftState). length w.trail) v in
     let r = ap (λ (w : DraftState). w.reach) v in
     omega arith

@@ -16,7 +16,7 @@ use Rattle.login_model.specs.Stopping.{is_stop, stop_from}
 use Rattle.login_laws.proofs.JournalLaws.{length-after}
 use Rattle.login_core.specs.declared.board.Board.{Board}
 use Rattle.login_core.specs.inner.Board.{IsBegun}
-use Rattle.login_core.specs.inner.Draft.{DraftState, marked_by}
+use Rattle.login_core.specs.inner.Draft.{DraftState, marked_by, with_ears}
 use Rattle.login_core.specs.inner.UnderWay.{so_far, entry_of}
 use Rattle.login_core.specs.State.{stop_next}
 use Rattle.login_core.proofs.Standing.{so_far-none, so_far-closed}
@@ -28,7 +28,7 @@ legal-more U before (d ∷ ds) e h l =
     let P : List Entry → Type 0 = λ xs. IsLegalEntry U xs e in
     (h.0, legal-more U (before ++ d ∷ []) ds e h.1 (subst P (sym (append_assoc before (d ∷ []) ds)) l))
 
-so_far-is : (es : List Entry) (ms : List Mark) → so_far es ms ≡ after (trail_of es) ms
+pub so_far-is : (es : List Entry) (ms : List Mark) → so_far es ms ≡ after (trail_of es) ms
 unfolding so_far
 so_far-is es ms = refl
 
@@ -39,20 +39,22 @@ pub record Steps (U : Setup) (journal : List Entry) (e : Event) (v : Verdict) (a
   pub answer_is : a ≡ answered U v e journal
   pub marks_are : so_far journal ms ≡ stepped U v e (trail_of journal)
 
+pub legal-entry : (U : Setup) (journal : List Entry) (e : Event) (v : Verdict) (a : Answer) (ms : List Mark) → Steps U journal e v a ms → IsLegalEntry U journal (entry_of e v a ms)
+legal-entry U journal e v a ms s = record {
+  placed = s.placed;
+  verdict_is = s.verdict_is;
+  answer_is = s.answer_is;
+  marks_are = sym (so_far-is journal ms) ∙ s.marks_are;
+}
+
 pub legal-closed : (U : Setup) (journal : List Entry) (e : Event) (v : Verdict) (a : Answer) (ms : List Mark) → IsLegal U journal → Steps U journal e v a ms → IsLegal U (journal ++ entry_of e v a ms ∷ [])
-legal-closed U journal e v a ms h s =
-    legal-more U [] journal (entry_of e v a ms) h (record {
-      placed = s.placed;
-      verdict_is = s.verdict_is;
-      answer_is = s.answer_is;
-      marks_are = sym (so_far-is journal ms) ∙ s.marks_are;
-    })
+legal-closed U journal e v a ms h s = legal-more U [] journal (entry_of e v a ms) h (legal-entry U journal e v a ms s)
 
 pub trail-closed : (U : Setup) (journal : List Entry) (e : Event) (v : Verdict) (a : Answer) (ms : List Mark) → Steps U journal e v a ms → trail_of (journal ++ entry_of e v a ms ∷ []) ≡ stepped U v e (trail_of journal)
 trail-closed U journal e v a ms s = sym (so_far-none (journal ++ entry_of e v a ms ∷ [])) ∙ so_far-closed journal (entry_of e v a ms) ∙ s.marks_are
 
--- the draft goes on behind the journal after any marks
-pub begun-marked : (f : Trail → Trail) (m : Board) (d : DraftState) → d ≡ marked_by f m.draft → IsBegun m → IsBegun (record m { draft = d })
+-- the draft goes on behind the journal after any marks, whoever listens
+pub begun-marked : (f : Trail → Trail) (m : Board) (d : DraftState) → d ≡ with_ears d.ears d.rings (marked_by f m.draft) → IsBegun m → IsBegun (record m { draft = d })
 begun-marked f m d e b =
     let before : d.before ≡ m.draft.before = ap (λ (x : DraftState). x.before) e in
     let reach : d.reach ≡ m.draft.reach = ap (λ (x : DraftState). x.reach) e in

@@ -4,11 +4,14 @@ use Rattle.login_model.specs.declared.fact.Key.{Key}
 use Rattle.login_model.specs.declared.fact.Key.TheVariants as key
 use Rattle.login_model.specs.Trail.{Trail, value}
 use Rattle.login_table.specs.Stands.{Stands}
+use Rattle.controller.specs.Own.{is_controller_key}
+use Rattle.device_model.specs.Own.{is_device_key}
+use Rattle.device_revoke.specs.Own.{is_revoke_key}
 use Rattle.users_linger.specs.Own.{is_user_key}
 use Rattle.sessions.specs.Own.{is_session_key}
 use Rattle.seats_vts.specs.Own.{is_seat_key}
 use Rattle.login_core.specs.declared.board.home.Home.{Home}
-use Rattle.login_core.specs.declared.board.home.Home.TheVariants.{Users, Sessions, Seats}
+use Rattle.login_core.specs.declared.board.home.Home.TheVariants.{Users, Sessions, Seats, Devices, Controls, Takes}
 use Rattle.login_core.specs.inner.Facts.{Tables, TablesStand, table}
 use Rattle.login_core.specs.inner.Home.{home}
 
@@ -35,6 +38,23 @@ seat-home (key.Getty v) e = refl
 seat-home key.Pending e = refl
 seat-home _ e = absurd (not-so e)
 
+device-home : (k : Key) → is_device_key k ≡ true → home k ≡ Devices
+device-home (key.Dev d) e = refl
+device-home (key.Mode d) e = refl
+device-home _ e = absurd (not-so e)
+
+controller-home : (k : Key) → is_controller_key k ≡ true → home k ≡ Controls
+controller-home (key.Conn c) e = refl
+controller-home (key.Ctl s) e = refl
+controller-home _ e = absurd (not-so e)
+
+revoke-home : (k : Key) → is_revoke_key k ≡ true → home k ≡ Takes
+revoke-home (key.Taken s d) e = refl
+revoke-home (key.Owner h) e = refl
+revoke-home (key.Live h) e = refl
+revoke-home (key.Awaited s d) e = refl
+revoke-home _ e = absurd (not-so e)
+
 -- what stands in a key's home
 pub at-home : (f : Tables) (t : Trail) (k : Key) (h : Home) → TablesStand f t → home k ≡ h → value (table f h) k ≡ value t k
 at-home f t k h s e = ap (λ (g : Home). value (table f g) k) (sym e) ∙ s.facts k
@@ -48,25 +68,35 @@ sessions-stand f t s k own = at-home f t k Sessions s (session-home k own)
 pub seats-stand : (f : Tables) (t : Trail) → TablesStand f t → Stands is_seat_key f.seats t
 seats-stand f t s k own = at-home f t k Seats s (seat-home k own)
 
+pub devices-stand : (f : Tables) (t : Trail) → TablesStand f t → Stands is_device_key f.devices t
+devices-stand f t s k own = at-home f t k Devices s (device-home k own)
+
+pub controls-stand : (f : Tables) (t : Trail) → TablesStand f t → Stands is_controller_key f.controls t
+controls-stand f t s k own = at-home f t k Controls s (controller-home k own)
+
+pub takes-stand : (f : Tables) (t : Trail) → TablesStand f t → Stands is_revoke_key f.takes t
+takes-stand f t s k own = at-home f t k Takes s (revoke-home k own)
+
 -- tables whose own keys stand, with rows that stand for all others
-pub all-stand : (f : Tables) (t : Trail) → Stands is_user_key f.users t → Stands is_session_key f.sessions t → Stands is_seat_key f.seats t
-    → ((k : Key) → value f.takes k ≡ value t k) → ((k : Key) → value f.connections k ≡ value t k) → ((k : Key) → value f.controls k ≡ value t k) → ((k : Key) → value f.owners k ≡ value t k)
-    → ((k : Key) → value f.lives k ≡ value t k) → ((k : Key) → value f.others k ≡ value t k) → (k : Key) → value (table f (home k)) k ≡ value t k
-all-stand f t users sessions seats takes conns controls owners lives others (key.User u) = users (key.User u) refl
-all-stand f t users sessions seats takes conns controls owners lives others (key.Linger u) = users (key.Linger u) refl
-all-stand f t users sessions seats takes conns controls owners lives others (key.Sess s) = sessions (key.Sess s) refl
-all-stand f t users sessions seats takes conns controls owners lives others (key.Idle s) = sessions (key.Idle s) refl
-all-stand f t users sessions seats takes conns controls owners lives others (key.Locked s) = sessions (key.Locked s) refl
-all-stand f t users sessions seats takes conns controls owners lives others (key.Sig s) = sessions (key.Sig s) refl
-all-stand f t users sessions seats takes conns controls owners lives others (key.Seat name) = seats (key.Seat name) refl
-all-stand f t users sessions seats takes conns controls owners lives others (key.Act name) = seats (key.Act name) refl
-all-stand f t users sessions seats takes conns controls owners lives others key.Vt = seats key.Vt refl
-all-stand f t users sessions seats takes conns controls owners lives others (key.Getty v) = seats (key.Getty v) refl
-all-stand f t users sessions seats takes conns controls owners lives others key.Pending = seats key.Pending refl
-all-stand f t users sessions seats takes conns controls owners lives others (key.Taken s d) = takes (key.Taken s d)
-all-stand f t users sessions seats takes conns controls owners lives others (key.Awaited s d) = takes (key.Awaited s d)
-all-stand f t users sessions seats takes conns controls owners lives others (key.Conn c) = conns (key.Conn c)
-all-stand f t users sessions seats takes conns controls owners lives others (key.Ctl s) = controls (key.Ctl s)
-all-stand f t users sessions seats takes conns controls owners lives others (key.Owner h) = owners (key.Owner h)
-all-stand f t users sessions seats takes conns controls owners lives others (key.Live h) = lives (key.Live h)
-all-stand f t users sessions seats takes conns controls owners lives others k = others k
+pub all-stand : (f : Tables) (t : Trail) → Stands is_user_key f.users t → Stands is_session_key f.sessions t → Stands is_seat_key f.seats t → Stands is_device_key f.devices t
+    → Stands is_controller_key f.controls t → Stands is_revoke_key f.takes t → ((k : Key) → value f.others k ≡ value t k) → (k : Key) → value (table f (home k)) k ≡ value t k
+all-stand f t users sessions seats devices controls takes others (key.User u) = users (key.User u) refl
+all-stand f t users sessions seats devices controls takes others (key.Linger u) = users (key.Linger u) refl
+all-stand f t users sessions seats devices controls takes others (key.Sess s) = sessions (key.Sess s) refl
+all-stand f t users sessions seats devices controls takes others (key.Idle s) = sessions (key.Idle s) refl
+all-stand f t users sessions seats devices controls takes others (key.Locked s) = sessions (key.Locked s) refl
+all-stand f t users sessions seats devices controls takes others (key.Sig s) = sessions (key.Sig s) refl
+all-stand f t users sessions seats devices controls takes others (key.Seat name) = seats (key.Seat name) refl
+all-stand f t users sessions seats devices controls takes others (key.Act name) = seats (key.Act name) refl
+all-stand f t users sessions seats devices controls takes others key.Vt = seats key.Vt refl
+all-stand f t users sessions seats devices controls takes others (key.Getty v) = seats (key.Getty v) refl
+all-stand f t users sessions seats devices controls takes others key.Pending = seats key.Pending refl
+all-stand f t users sessions seats devices controls takes others (key.Dev d) = devices (key.Dev d) refl
+all-stand f t users sessions seats devices controls takes others (key.Mode d) = devices (key.Mode d) refl
+all-stand f t users sessions seats devices controls takes others (key.Conn c) = controls (key.Conn c) refl
+all-stand f t users sessions seats devices controls takes others (key.Ctl s) = controls (key.Ctl s) refl
+all-stand f t users sessions seats devices controls takes others (key.Taken s d) = takes (key.Taken s d) refl
+all-stand f t users sessions seats devices controls takes others (key.Owner h) = takes (key.Owner h) refl
+all-stand f t users sessions seats devices controls takes others (key.Live h) = takes (key.Live h) refl
+all-stand f t users sessions seats devices controls takes others (key.Awaited s d) = takes (key.Awaited s d) refl
+all-stand f t users sessions seats devices controls takes others k = others k

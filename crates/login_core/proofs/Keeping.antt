@@ -167,11 +167,11 @@ kept-other U entries reach count t e v s n h m =
       few_marks = subst (P 4000000) (sym h) (other-within U e t 4000000 s n m.few_marks);
     }
 
-disconnect-granted : (U : Setup) (t : Trail) (c : ConnId) → verdict U t (Disconnect c) ≡ Granted
+pub disconnect-granted : (U : Setup) (t : Trail) (c : ConnId) → verdict U t (Disconnect c) ≡ Granted
 unfolding verdict
 disconnect-granted U t c = refl
 
-stop-granted : (U : Setup) (t : Trail) → verdict U t Stop ≡ Granted
+pub stop-granted : (U : Setup) (t : Trail) → verdict U t Stop ≡ Granted
 unfolding verdict
 stop-granted U t = refl
 

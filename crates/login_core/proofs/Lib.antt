@@ -11,16 +11,17 @@ pub mod Frames
 pub mod Going
 pub mod Growing
 mod Drafting
+mod EarLaws
 pub mod Devices
 pub mod Chosen
 pub mod Rounds
 pub mod Sessions
+pub mod Takers
 pub mod Closed
 pub mod ClosedHandles
 pub mod Controlled
 pub mod Locks
 pub mod Released
-pub mod Awaiting
 pub mod Blanks
 pub mod KeptRows
 pub mod TextsKept
@@ -39,5 +40,7 @@ pub mod GrantedLaws
 pub mod Entries
 pub mod Judged
 pub mod Keeping
+pub mod Listeners
 pub mod Stepping
 pub mod Starting
+pub mod Listening

@@ -1,5 +1,5 @@
 -- The tables stand for one more setting.
-use Rattle.std.proofs.Common.{◌≡◌, ℕ, ◌+◌, Bool, false, cond, ◌∷◌, refl, ap, sym, ◌∙◌, ◌⊎◌, inl, inr}
+use Rattle.std.proofs.Common.{◌≡◌, ℕ, ◌+◌, Bool, false, cond, List, ◌∷◌, refl, ap, sym, ◌∙◌, ◌⊎◌, inl, inr}
 use Rattle.login_model.specs.declared.fact.Key.{Key}
 use Rattle.login_model.specs.declared.fact.Fact.{Fact}
 use Rattle.login_model.specs.declared.mark.Mark.TheVariants.{Set}
@@ -7,8 +7,9 @@ use Rattle.login_model.specs.Same.{same_key}
 use Rattle.login_model.specs.Trail.{Trail, value}
 use Rattle.login_model.proofs.Keys.{same_key-true, test}
 use Rattle.login_table.proofs.Standing.{value-set}
+use Rattle.device_model.specs.declared.ears.Ear.{Ear}
 use Rattle.login_core.specs.declared.board.home.Home.{Home}
-use Rattle.login_core.specs.declared.board.home.Home.TheVariants.{Users, Sessions, Seats, Takes, Connections, Controls, Owners, Lives, Others}
+use Rattle.login_core.specs.declared.board.home.Home.TheVariants.{Users, Sessions, Seats, Devices, Controls, Takes, Others}
 use Rattle.login_core.specs.declared.room.counts.Counts.{Counts}
 use Rattle.login_core.specs.inner.Counts.{Follow, counts_of}
 use Rattle.login_core.specs.inner.Facts.{Tables, StandFor, table, opens, gives}
@@ -82,30 +83,20 @@ pub but-seats : (f : Tables) (rows : Trail) (counts : Counts) (session handle sp
 but-seats f rows counts session handle spare Seats = inl refl
 but-seats f rows counts session handle spare _ = inr refl
 
-pub but-takes : (f : Tables) (rows : Trail) (counts : Counts) (session handle spare : ℕ) (i : Home)
-    → (i ≡ Takes) ⊎ (table (record f { takes = rows; counts = counts; session = session; handle = handle; spare = spare }) i ≡ table f i)
-but-takes f rows counts session handle spare Takes = inl refl
-but-takes f rows counts session handle spare _ = inr refl
-
-pub but-connections : (f : Tables) (rows : Trail) (counts : Counts) (session handle spare : ℕ) (i : Home)
-    → (i ≡ Connections) ⊎ (table (record f { connections = rows; counts = counts; session = session; handle = handle; spare = spare }) i ≡ table f i)
-but-connections f rows counts session handle spare Connections = inl refl
-but-connections f rows counts session handle spare _ = inr refl
+pub but-devices : (f : Tables) (rows : Trail) (ears : List Ear) (rings : ℕ) (counts : Counts) (session handle spare : ℕ) (i : Home)
+    → (i ≡ Devices) ⊎ (table (record f { devices = rows; ears = ears; rings = rings; counts = counts; session = session; handle = handle; spare = spare }) i ≡ table f i)
+but-devices f rows ears rings counts session handle spare Devices = inl refl
+but-devices f rows ears rings counts session handle spare _ = inr refl
 
 pub but-controls : (f : Tables) (rows : Trail) (counts : Counts) (session handle spare : ℕ) (i : Home)
     → (i ≡ Controls) ⊎ (table (record f { controls = rows; counts = counts; session = session; handle = handle; spare = spare }) i ≡ table f i)
 but-controls f rows counts session handle spare Controls = inl refl
 but-controls f rows counts session handle spare _ = inr refl
 
-pub but-owners : (f : Tables) (rows : Trail) (counts : Counts) (session handle spare : ℕ) (i : Home)
-    → (i ≡ Owners) ⊎ (table (record f { owners = rows; counts = counts; session = session; handle = handle; spare = spare }) i ≡ table f i)
-but-owners f rows counts session handle spare Owners = inl refl
-but-owners f rows counts session handle spare _ = inr refl
-
-pub but-lives : (f : Tables) (rows : Trail) (counts : Counts) (session handle spare : ℕ) (i : Home)
-    → (i ≡ Lives) ⊎ (table (record f { lives = rows; counts = counts; session = session; handle = handle; spare = spare }) i ≡ table f i)
-but-lives f rows counts session handle spare Lives = inl refl
-but-lives f rows counts session handle spare _ = inr refl
+pub but-takes : (f : Tables) (rows : Trail) (counts : Counts) (session handle spare : ℕ) (i : Home)
+    → (i ≡ Takes) ⊎ (table (record f { takes = rows; counts = counts; session = session; handle = handle; spare = spare }) i ≡ table f i)
+but-takes f rows counts session handle spare Takes = inl refl
+but-takes f rows counts session handle spare _ = inr refl
 
 pub but-others : (f : Tables) (rows : Trail) (counts : Counts) (session handle spare : ℕ) (i : Home)
     → (i ≡ Others) ⊎ (table (record f { others = rows; counts = counts; session = session; handle = handle; spare = spare }) i ≡ table f i)

@@ -1,7 +1,10 @@
 -- A core before the first event.
-use Rattle.std.proofs.Common.{◌≡◌, ◌≤◌, ◌+◌, true, false, None, List, [], length, refl, ap, sym, subst, ◌∙◌, arith}
+use Rattle.std.proofs.Common.{◌≡◌, ◌≤◌, ◌+◌, ℕ, true, false, None, List, [], length, refl, ap, sym, subst, ◌∙◌, arith}
 use Rattle.login_base.specs.declared.ids.SessId.{SessId}
-use Rattle.login_model.specs.Full.{taken_by}
+use Rattle.login_model.specs.Full.{taken_by, taken_count}
+use Rattle.device_model.specs.Ears.{heard_of}
+use Rattle.device_model.specs.declared.ears.Ear.{Ear}
+use Rattle.login_laws.specs.Hearing.{heard_in}
 use Rattle.login_model.specs.Legal.{IsLegal, trail_of}
 use Rattle.login_laws.specs.Need.{need}
 use Rattle.login_laws.specs.Quiet.{IsQuiet}
@@ -14,6 +17,7 @@ use Rattle.login_model.specs.Where.{connections, locks, open_sessions, sessions}
 use Rattle.login_model.specs.declared.mark.Entry.{Entry}
 use Rattle.login_model.specs.declared.setup.Setup.{Setup}
 use Rattle.login_core.specs.inner.Board.{IsBegun}
+use Rattle.login_core.specs.inner.Ears.{AreEars}
 use Rattle.login_core.specs.inner.Inside.{IsCore}
 use Rattle.login_core.specs.Kept.{HaveTexts, copies_in}
 use Rattle.login_core.specs.declared.board.Board.{Board}
@@ -37,9 +41,21 @@ no-texts x a b = record {
   gone = record { kept = λ s e. absurd (false-true e); made = λ s e. b s };
 }
 
-pub core-new : (U : Setup) (m : Board) (x : Texts) → IsSetup U → m.journal.items ≡ [] → m.draft.trail ≡ [] → IsBegun m → 1 ≤ m.journal.entries → ((s : SessId) → copies_in x.closing.items s ≡ None) → ((s : SessId) → copies_in x.gone.items s ≡ None)
+no-taken : taken_count [] ≡ 0
+unfolding sessions taken_by names
+no-taken = refl
+
+-- nobody listens, and no device is taken
+no-ears : (es : List Entry) (ears : List Ear) (rings : ℕ) → es ≡ [] → ears ≡ [] → AreEars es ears rings
+unfolding heard_of value
+no-ears es ears rings j q =
+    let n = ap (λ (js : List Entry). taken_count (trail_of js)) j in
+    let m = no-taken in
+    record { heard = λ h. ap (λ (xs : List Ear). heard_of xs h) q ∙ ap (λ (js : List Entry). heard_in js h) (sym j); enough = omega arith }
+
+pub core-new : (U : Setup) (m : Board) (x : Texts) → IsSetup U → m.journal.items ≡ [] → m.draft.trail ≡ [] → m.draft.ears ≡ [] → IsBegun m → 1 ≤ m.journal.entries → ((s : SessId) → copies_in x.closing.items s ≡ None) → ((s : SessId) → copies_in x.gone.items s ≡ None)
     → IsCore U m x None
-core-new U m x u j k g n a b =
+core-new U m x u j k q g n a b =
     let P : List Entry → Type 0 = IsLegal U in
     let t : trail_of m.journal.items ≡ [] = ap trail_of j in
     let c = ap (λ (u : Trail). length (connections u)) t ∙ no-connections in
@@ -56,6 +72,7 @@ core-new U m x u j k g n a b =
       stop_is = ap (stop_from 1) (sym j);
       entries = omega arith;
       reach = omega arith;
+      ears = no-ears m.journal.items m.draft.ears m.draft.rings j q;
       kept_texts = subst Q (sym t) (no-texts x a b);
       few_entries = omega arith;
       few_marks = omega arith;

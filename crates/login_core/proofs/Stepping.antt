@@ -1,13 +1,16 @@
 -- What a step keeps.
 use Rattle.std.proofs.Common.{◌≡◌, ◌≤◌, ◌<◌, ◌+◌, ◌-◌, ℕ, Bool, true, false, cond, Option, Some, None, List, [], ◌∷◌, ◌++◌, length, refl, ap, sym, subst, ◌∙◌, arith}
 use Rattle.login_base.specs.declared.ids.ConnId.{ConnId}
-use Rattle.login_model.specs.Full.{mark_count}
+use Rattle.login_base.specs.declared.ids.HandleNo.{HandleNo}
+use Rattle.device_model.specs.Ears.{heard_of}
+use Rattle.login_model.specs.Full.{mark_count, taken_count}
 use Rattle.login_model.specs.Legal.{IsLegal, IsPlaced, answered, stepped, trail_of}
 use Rattle.login_laws.specs.Need.{IsDisconnect, need}
 use Rattle.login_model.specs.Policy.{verdict}
+use Rattle.login_laws.specs.Hearing.{heard_behind, heard_in}
 use Rattle.login_laws.specs.Quiet.{IsQuiet}
 use Rattle.login_laws.specs.Sound.{IsSound}
-use Rattle.login_model.specs.Built.{is_built, is_built_call}
+use Rattle.login_model.specs.Built.{is_built}
 use Rattle.login_model.specs.Stopping.{is_stop, stop_from, stopped}
 use Rattle.login_model.specs.Trail.{Trail}
 use Rattle.login_model.specs.Where.{connections}
@@ -16,32 +19,32 @@ use Rattle.login_model.specs.declared.answer.Answer.{Answer}
 use Rattle.login_model.specs.declared.answer.Answer.TheVariants.{Nothing}
 use Rattle.login_model.specs.declared.rule.Verdict.TheVariants.{Granted, Denied}
 use Rattle.login_model.specs.declared.event.Event.{Event}
-use Rattle.login_model.specs.declared.call.Call.{Call}
-use Rattle.login_model.specs.declared.call.Call.TheVariants.{ReadInput}
 use Rattle.login_model.specs.declared.event.Event.TheVariants.{Connect, Disconnect, Call as Calls, Hardware as Happens, Tick, Stop}
-use Rattle.login_model.specs.declared.event.Request.{Request}
 use Rattle.login_model.specs.declared.mark.Entry.{Entry}
 use Rattle.login_model.specs.declared.mark.Mark.{Mark}
 use Rattle.login_model.specs.declared.rule.Verdict.{Verdict}
 use Rattle.login_model.specs.declared.setup.Setup.{Setup}
 use Rattle.login_laws.proofs.Comings.{disconnect-connections}
+use Rattle.login_laws.proofs.Hearing.{hearing-goes-on}
 use Rattle.login_laws.proofs.Quiet.{stepped-quiet}
 use Rattle.login_laws.proofs.RoomLaws.{room}
 use Rattle.login_core.specs.Fullness.{always_fits}
 use Rattle.login_core.specs.inner.Board.{IsBegun}
+use Rattle.login_core.specs.inner.Ears.{AreEars, ring_count}
 use Rattle.login_core.specs.inner.Inside.{IsCore, stop_need}
 use Rattle.login_core.specs.Kept.{AreReady, HaveTexts}
 use Rattle.login_core.specs.inner.UnderWay.{entry_of}
-use Rattle.login_core.specs.State.{AnswersCall, AnswersWith, CoreState, HasAnswer, IsReady, IsRoomFor, answer_next, stop_next}
+use Rattle.login_core.specs.State.{CoreState, IsReady, IsRoomFor, answer_next, stop_next}
 use Rattle.login_core.specs.declared.board.Board.{Board}
 use Rattle.login_core.specs.declared.room.ready.Ready.{Ready}
 use Rattle.login_core.specs.declared.room.texts.Texts.{Texts}
-use Rattle.login_core.proofs.Entries.{Steps, legal-closed, length-closed, marks-counted, stop-closed, trail-closed}
+use Rattle.login_core.proofs.Entries.{Steps, legal-closed, legal-entry, length-closed, marks-counted, so_far-is, stop-closed, trail-closed}
 use Rattle.login_core.proofs.Keeping.{StaysWithin, Made, kept-disconnect, kept-other, kept-stop, small}
+use Rattle.login_core.proofs.Listeners.{disconnect-takes, other-takes, stop-takes}
 
 -- what a core of these parts is seen as
 abbrev pub seen : Setup → Board → Texts → Ready → CoreState
-seen U m x a = record { setup = U; journal = m.journal.items; entries = m.journal.entries; reach = m.draft.reach; texts = x; ready = a }
+seen U m x a = record { setup = U; journal = m.journal.items; entries = m.journal.entries; reach = m.draft.reach; rings = ring_count m.draft.ears m.draft.rings; texts = x; ready = a }
 
 -- what is so where an event is stepped
 pub record Stepping (U : Setup) (m : Board) (x : Texts) (a : Ready) (stop : Option ℕ) (e : Event) (v : Verdict) : Type 0 where
@@ -153,6 +156,15 @@ stays-within U m x a stop e v s =
     let r = k.reach_kept in
     omega arith
 
+-- there are rings for all devices that are taken behind the event
+pub taken-step : (U : Setup) (m : Board) (x : Texts) (a : Ready) (stop : Option ℕ) (e : Event) (v : Verdict) → Stepping U m x a stop e v → taken_count (stepped U v e (trail_of m.journal.items)) ≤ ring_count m.draft.ears m.draft.rings
+taken-step U m x a stop (Connect c u) v s = other-takes U (trail_of m.journal.items) (Connect c u) v (ring_count m.draft.ears m.draft.rings) s.sound (λ z. z) s.verdict_is s.ready.rings
+taken-step U m x a stop (Calls r) v s = other-takes U (trail_of m.journal.items) (Calls r) v (ring_count m.draft.ears m.draft.rings) s.sound (λ z. z) s.verdict_is s.ready.rings
+taken-step U m x a stop (Happens y) v s = other-takes U (trail_of m.journal.items) (Happens y) v (ring_count m.draft.ears m.draft.rings) s.sound (λ z. z) s.verdict_is s.ready.rings
+taken-step U m x a stop (Tick n) v s = other-takes U (trail_of m.journal.items) (Tick n) v (ring_count m.draft.ears m.draft.rings) s.sound (λ z. z) s.verdict_is s.ready.rings
+taken-step U m x a stop (Disconnect c) v s = disconnect-takes U (trail_of m.journal.items) c v (ring_count m.draft.ears m.draft.rings) s.sound s.placed.0 s.verdict_is s.core.ears.enough
+taken-step U m x a stop Stop v s = stop-takes U (trail_of m.journal.items) v (ring_count m.draft.ears m.draft.rings) s.sound s.verdict_is s.core.ears.enough
+
 disconnect-answer : (U : Setup) (c : ConnId) (t : List Entry) (v : Verdict) → Nothing ≡ answered U v (Disconnect c) t
 unfolding answer
 disconnect-answer U c t Granted = refl
@@ -163,29 +175,8 @@ unfolding answer
 stop-answer U t Granted = refl
 stop-answer U t (Denied r) = refl
 
--- where the answer is the event's, it was made ready
-answers-call : (c : CoreState) (r : Request) (x : Call) → AnswersWith c (Calls r) → AnswersCall c r x
-answers-call c r (ReadInput b) h = tt
-answers-call c r _ h = h
-
-pub has-answer : (c : CoreState) (e : Event) → AnswersWith c e → HasAnswer c e
-has-answer c (Calls r) h = answers-call c r r.call h
-has-answer c _ h = h
-
--- and the other way round, of an event that is built
-call-answer : (c : CoreState) (r : Request) (x : Call) → is_built_call x ≡ true → AnswersCall c r x → AnswersWith c (Calls r)
-call-answer c r (ReadInput b) i h = absurd (not-built i)
-  where
-    not-built : false ≡ true → ⊥
-    not-built k = cc
-call-answer c r _ i h = h
-
-ready-answer : (c : CoreState) (e : Event) → is_built e ≡ true → HasAnswer c e → AnswersWith c e
-ready-answer c (Calls r) i h = call-answer c r r.call i h
-ready-answer c _ i h = h
-
 other-answer : (U : Setup) (m : Board) (x : Texts) (a : Ready) (stop : Option ℕ) (e : Event) (v : Verdict) → IsRoomFor (seen U m x a) e → Stepping U m x a stop e v → a.answer ≡ answered U v e m.journal.items
-other-answer U m x a stop e v r s = ready-answer (seen U m x a) e s.built r.answer ∙ ap (λ (w : Verdict). answered U w e m.journal.items) (sym s.verdict_is)
+other-answer U m x a stop e v r s = r.answer ∙ ap (λ (w : Verdict). answered U w e m.journal.items) (sym s.verdict_is)
 
 -- the answer that was made ready is the event's
 pub answered-next : (U : Setup) (m : Board) (x : Texts) (a : Ready) (stop : Option ℕ) (e : Event) (v : Verdict) → Stepping U m x a stop e v → answer_next e a.answer ≡ answered U v e m.journal.items
@@ -196,11 +187,34 @@ answered-next U m x a stop (Tick n) v s = other-answer U m x a stop (Tick n) v s
 answered-next U m x a stop (Disconnect c) v s = disconnect-answer U c m.journal.items v
 answered-next U m x a stop Stop v s = stop-answer U m.journal.items v
 
+-- what handles have heard goes on behind the entry that is closed
+pub record HearsOn (m n : Board) (e : Event) (v : Verdict) (ms : List Mark) (after : Trail) : Type 0 where
+  pub heard : (h : HandleNo) → heard_of n.draft.ears h ≡ heard_behind h e v ms after (heard_of m.draft.ears h)
+  pub rings : ring_count n.draft.ears n.draft.rings ≡ ring_count m.draft.ears m.draft.rings
+
+ears-closed : (U : Setup) (m n : Board) (x : Texts) (a : Ready) (b : Answer) (stop : Option ℕ) (e : Event) (v : Verdict) (ms : List Mark) → Stepping U m x a stop e v → Steps U m.journal.items e v b ms
+    → n.journal.items ≡ m.journal.items ++ entry_of e v b ms ∷ [] → HearsOn m n e v ms (stepped U v e (trail_of m.journal.items)) → AreEars n.journal.items n.draft.ears n.draft.rings
+ears-closed U m n x a b stop e v ms s w j q =
+    let es = m.journal.items in
+    let d = entry_of e v b ms in
+    let after = sym (so_far-is es ms) ∙ w.marks_are in
+    let count = ap (λ (js : List Entry). taken_count (trail_of js)) j ∙ ap taken_count (trail-closed U es e v b ms w) in
+    let taken = taken-step U m x a stop e v s in
+    let rings = q.rings in
+    record {
+      heard = λ h. q.heard h
+          ∙ ap (heard_behind h e v ms (stepped U v e (trail_of es))) (s.core.ears.heard h)
+          ∙ sym (ap (λ (t : Trail). heard_behind h e v ms t (heard_in es h)) after)
+          ∙ sym (hearing-goes-on U es d h s.core.legal (legal-entry U es e v b ms w))
+          ∙ ap (λ (js : List Entry). heard_in js h) (sym j);
+      enough = omega arith;
+    }
+
 -- the board after the entry is closed is one of a core again
 pub core-closed : (U : Setup) (m n : Board) (x y : Texts) (a : Ready) (b : Answer) (stop next : Option ℕ) (e : Event) (v : Verdict) (ms : List Mark) → Stepping U m x a stop e v → Steps U m.journal.items e v b ms
     → n.journal.items ≡ m.journal.items ++ entry_of e v b ms ∷ [] → n.draft.trail ≡ trail_of n.journal.items → IsBegun n → n.journal.entries + 1 ≡ m.journal.entries → n.draft.reach ≡ m.draft.reach
-    → next ≡ stop_next stop e (length m.journal.items + 1) → HaveTexts y (stepped U v e (trail_of m.journal.items)) → IsCore U n y next
-core-closed U m n x y a b stop next e v ms s w j k g l r o h =
+    → next ≡ stop_next stop e (length m.journal.items + 1) → HaveTexts y (stepped U v e (trail_of m.journal.items)) → HearsOn m n e v ms (stepped U v e (trail_of m.journal.items)) → IsCore U n y next
+core-closed U m n x y a b stop next e v ms s w j k g l r o h q =
     let es = m.journal.items in
     let t = trail_of es in
     let d = entry_of e v b ms in
@@ -225,6 +239,7 @@ core-closed U m n x y a b stop next e v ms s w j k g l r o h =
       stop_is = o ∙ ap (λ (p : Option ℕ). stop_next p e (length es + 1)) s.core.stop_is ∙ sym (stop-closed es d) ∙ ap (stop_from 1) (sym j);
       entries = omega arith;
       reach = omega arith;
+      ears = ears-closed U m n x a b stop e v ms s w j q;
       kept_texts = subst Q (sym trail) h;
       few_entries = omega arith;
       few_marks = omega arith;

@@ -1,21 +1,23 @@
 -- A fact that is handed on by what is read of it does what the fact does.
-use Rattle.std.proofs.Common.{◌≡◌, refl}
+use Rattle.std.proofs.Common.{◌≡◌, ℕ, refl}
 use Rattle.login_base.specs.declared.ids.SessId.{SessId}
 use Rattle.login_base.specs.declared.ids.DevNo.{DevNo}
 use Rattle.login_base.specs.declared.ids.Uid.{Uid}
 use Rattle.login_base.specs.declared.ids.HandleNo.{HandleNo}
 use Rattle.login_model.specs.declared.fact.Fact.{Fact}
-use Rattle.login_model.specs.declared.fact.Fact.TheVariants.{Absent, Handle, Controller, Device, Number}
+use Rattle.login_model.specs.declared.fact.Fact.TheVariants.{Absent, Handle, Controller, Device, Number, Owned}
 use Rattle.login_model.specs.declared.hardware.DevKind.TheVariants.{Evdev, Drm}
 use Rattle.login_model.specs.declared.mark.Notice.{Notice}
 use Rattle.login_model.specs.Trail.{Trail}
 use Rattle.login_model.specs.Procedure.{tell_controller, kill, force_handle, renew, revive, resume_handle, tell_new_user}
 use Rattle.login_model.specs.Switching.{await_handle, complete}
+use Rattle.login_model.specs.Taking.{lose_seat, set_mode}
 use Rattle.login_model.specs.declared.setup.Setup.{Setup}
 use Rattle.login_model.specs.Direct.{control_from}
 use Rattle.login_base.specs.declared.ids.ConnId.{ConnId}
-use Rattle.login_core.specs.inner.Told.{handle_fact, controller_fact, kind_fact, absent_or_known, terminal_fact}
-use Rattle.login_model.specs.Facts.{handle_in, controller_in, kind_in, is_absent, number_in_fact}
+use Rattle.login_core.specs.inner.Handles.{owner_fact}
+use Rattle.login_core.specs.inner.Told.{handle_fact, controller_fact, graphics_fact, graphics_seat, kind_fact, absent_or_known, terminal_fact}
+use Rattle.login_model.specs.Facts.{handle_in, controller_in, kind_in, is_absent, number_in_fact, owner_in}
 
 pub told : (f : Fact) (n : Notice) (t : Trail) → tell_controller (controller_fact (controller_in f)) n t ≡ tell_controller f n t
 told (Controller c) n t = refl
@@ -57,3 +59,12 @@ taken-from _ c s t = refl
 pub completed : (U : Setup) (f : Fact) (t : Trail) → complete U (terminal_fact (number_in_fact f)) t ≡ complete U f t
 completed U (Number v) t = refl
 completed U _ t = refl
+
+pub set-mode : (f : Fact) (n : ℕ) (t : Trail) → set_mode (owner_fact (owner_in f)) n t ≡ set_mode f n t
+set-mode (Owned o) n t = refl
+set-mode _ n t = refl
+
+pub lost : (f : Fact) (t : Trail) → lose_seat (graphics_fact (graphics_seat f)) t ≡ lose_seat f t
+lost (Device Drm seat) t = refl
+lost (Device Evdev seat) t = refl
+lost _ t = refl

@@ -5,13 +5,16 @@ use Rattle.login_model.specs.declared.call.Call.{Call}
 use Rattle.login_model.specs.declared.call.Call.TheVariants.{Create}
 use Rattle.login_model.specs.declared.call.Creation.{Creation}
 use Rattle.login_model.specs.declared.event.Event.{Event}
-use Rattle.login_model.specs.declared.event.Event.TheVariants.{Call as Calls}
+use Rattle.login_model.specs.declared.event.Event.TheVariants.{Call as Calls, Hardware as Happens}
 use Rattle.login_model.specs.declared.fact.Key.TheVariants.{Sess}
+use Rattle.login_model.specs.declared.hardware.Hardware.{Hardware}
+use Rattle.login_model.specs.declared.hardware.Hardware.TheVariants.{Add}
 use Rattle.login_model.specs.MadeWith.{texts_in}
 use Rattle.login_model.specs.Trail.{Trail, value}
 use Rattle.login_model.specs.Where.{is_open, is_session}
 use Rattle.login_core.specs.declared.room.copies.Copies.{Copies}
 use Rattle.login_core.specs.declared.room.kept.KeptRow.{KeptRow}
+use Rattle.login_core.specs.declared.room.slots.SeatSlots.{SeatSlots}
 use Rattle.login_core.specs.declared.room.texts.FreshTexts.{FreshTexts}
 use Rattle.login_core.specs.declared.room.texts.Texts.{Texts}
 use Rattle.login_core.specs.Texts.{AreSome, session_texts}
@@ -65,7 +68,17 @@ abbrev pub AreReadyToCall : Call → Texts → Type 0
 AreReadyToCall (Create x) texts = AreReadyFor x texts
 AreReadyToCall _ texts = Unit {0}
 
--- the texts for an event are there
+-- there is memory for the seat of a device
+abbrev pub HasSlots : Option SeatSlots → Type 0
+HasSlots None = ⊥
+HasSlots (Some slots) = Unit {0}
+
+abbrev pub AreReadyToHappen : Hardware → Texts → Type 0
+AreReadyToHappen (Add d kind seat) texts = HasSlots texts.seats
+AreReadyToHappen _ texts = Unit {0}
+
+-- the texts for an event are there, and the memory of a seat
 abbrev pub AreReady : Event → Texts → Type 0
 AreReady (Calls r) texts = AreReadyToCall r.call texts
+AreReady (Happens x) texts = AreReadyToHappen x texts
 AreReady _ texts = Unit {0}

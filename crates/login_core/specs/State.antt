@@ -1,16 +1,13 @@
 -- What a core is seen as.
 use Rattle.std.specs.Prelude.{ℕ, ◌≡◌, ◌+◌, ◌≤◌, List, [], ◌∷◌, ◌++◌, length, Option, Some, None, Result, Ok, Err, if◌then◌else◌}
-use Rattle.login_model.specs.Full.{connected_after, full}
+use Rattle.login_model.specs.Full.{connected_after, full, taken_count}
 use Rattle.login_model.specs.Legal.{answered, trail_of}
 use Rattle.login_laws.specs.Need.{most_marks, most_rise, need}
 use Rattle.login_model.specs.Policy.{verdict}
 use Rattle.login_model.specs.Stopping.{is_stop, stopped}
 use Rattle.login_model.specs.declared.answer.Answer.{Answer}
 use Rattle.login_model.specs.declared.event.Event.{Event}
-use Rattle.login_model.specs.declared.call.Call.{Call}
-use Rattle.login_model.specs.declared.call.Call.TheVariants.{ReadInput}
-use Rattle.login_model.specs.declared.event.Event.TheVariants.{Call as Calls, Disconnect, Stop}
-use Rattle.login_model.specs.declared.event.Request.{Request}
+use Rattle.login_model.specs.declared.event.Event.TheVariants.{Disconnect, Stop}
 use Rattle.login_model.specs.declared.mark.Entry.{Entry}
 use Rattle.login_model.specs.declared.setup.Setup.{Setup}
 use Rattle.login_model.specs.declared.answer.Answer.TheVariants.{Nothing}
@@ -22,13 +19,14 @@ use Rattle.login_core.specs.declared.state.Refused.TheVariants.{NoMemory, Full, 
 use Rattle.login_core.specs.declared.room.ready.Ready.{Ready}
 use Rattle.login_core.specs.declared.room.texts.Texts.{Texts}
 
--- the setup, the journal, and what was made ready: room for so many more entries, for
--- so many marks in all, the copies of texts, and the verdict and the answer of the next event
+-- the setup, the journal, and what was made ready: room for so many more entries, for so many marks in all, and
+-- for the inputs of so many handles; the copies of texts; and the verdict and the answer of the next event
 pub record CoreState : Type 0 where
   pub setup : Setup
   pub journal : List Entry
   pub entries : ℕ
   pub reach : ℕ
+  pub rings : ℕ
   pub texts : Texts
   pub ready : Ready
 
@@ -36,23 +34,16 @@ pub record CoreState : Type 0 where
 abbrev pub AnswersWith : CoreState → Event → Type 0
 AnswersWith c e = c.ready.answer ≡ answered c.setup (verdict c.setup (trail_of c.journal) e) e c.journal
 
--- each call's answer was made ready but a read's, which takes its inputs as it is stepped
-abbrev pub AnswersCall : CoreState → Request → Call → Type 0
-AnswersCall c r (ReadInput h) = Unit {0}
-AnswersCall c r _ = AnswersWith c (Calls r)
-
-abbrev pub HasAnswer : CoreState → Event → Type 0
-HasAnswer c (Calls r) = AnswersCall c r r.call
-HasAnswer c e = AnswersWith c e
-
--- room was made for the event's entry and marks, and for all that connections and the stop need after it
+-- room was made for the event's entry and marks, for one device more that is taken, and for all that connections and
+-- the stop need after it
 pub record IsRoomFor (c : CoreState) (e : Event) : Type 0 where
   pub entries : connected_after c.setup (trail_of c.journal) e + 2 ≤ c.entries
   pub reach : length (trail_of c.journal) + need (trail_of c.journal) + most_marks (trail_of c.journal) + most_rise (trail_of c.journal) ≤ c.reach
+  pub rings : taken_count (trail_of c.journal) + 1 ≤ c.rings
   pub small : full c.setup c.journal e ≡ None
   pub texts : AreReady e c.texts
   pub judged : c.ready.verdict ≡ verdict c.setup (trail_of c.journal) e
-  pub answer : HasAnswer c e
+  pub answer : AnswersWith c e
 
 -- the event can be stepped without memory; a disconnect and the stop always can
 abbrev pub IsReady : CoreState → Event → Type 0

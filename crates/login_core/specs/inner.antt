@@ -2,6 +2,7 @@ pub mod Chosen
 pub mod Rounds
 pub mod Counts
 pub mod Home
+pub mod Ears
 pub mod Facts
 pub mod Told
 pub mod Handles
@@ -11,8 +12,8 @@ pub mod UnderWay
 pub mod Seating
 pub mod Draft
 pub mod Board
-pub mod Awaiting
 pub mod Leaving
 pub mod Places
 pub mod Calls
+pub mod Reads
 pub mod Inside

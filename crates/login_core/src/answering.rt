@@ -1,21 +1,26 @@
 // What a granted event is answered. The answer is made before the event's marks, since it may take memory.
 
-ghost use Rattle.std.specs.Prelude.{◌≡◌, true, IfOk, List, map};
+ghost use Rattle.std.specs.Prelude.{◌≡◌, true, IfOk, IsSome, List, None, Some, map};
+ghost use Rattle.device_model.specs.Ears.{heard_of};
+ghost use Rattle.login_base.specs.declared.ids.DevNo.{DevNo as AnyDevice};
 ghost use Rattle.login_model.specs.Fresh.{next_session, next_handle};
 ghost use Rattle.login_model.specs.Where.{sessions, users, seats};
 ghost use Rattle.login_model.specs.Creating.{seat_of};
-ghost use Rattle.login_model.specs.Answers.{name_among, user_name, session_row, known_user, session_answer, seat_answer, marks_answer, answer};
+ghost use Rattle.login_model.specs.Answers.{name_among, user_name, session_row, known_user, session_answer, seat_answer, taken_answer, marks_answer, answer};
 ghost use Rattle.login_model.specs.Built.{is_built, is_built_call};
 ghost use Rattle.login_model.specs.Legal.{trail_of};
+ghost use Rattle.login_model.specs.declared.answer.Input.{Input as AnyInput};
 ghost use Rattle.login_model.specs.declared.mark.Entry.{Entry};
+ghost use Rattle.login_core.specs.inner.Reads.{read_handle};
 
+use crate::board::Draft;
 use crate::creating::created::seat_of;
-use login_base::{ConnId, Items, NoMemory, SeatName, SessId, Uid, Word};
+use login_base::{ConnId, HandleNo, Items, NoMemory, SeatName, SessId, Uid, Word};
 use login_model::{
     Answer, Boxed, Call, Created, Creation, Event, Fact, Key, KnownUser, Look, SessionRow, Setup,
     UserRow,
 };
-use login_table::{list, seat_of_session};
+use login_table::{is_active, list, seat_of_session};
 use std::alloc::Global;
 
 /// The name of the first of these users that has the number.
@@ -151,6 +156,16 @@ fn seat_answer(alloc: Global, seat: Option<SeatName>) -> Result<Answer, NoMemory
     }
 }
 
+/// What TakeDevice answers: the handle, and whether the session is inactive.
+fn taken_answer<F: Look>(facts: &F, session: Option<SessId>) -> Answer
+    ensures { result ≡ taken_answer (F.trail facts.now) session }
+{
+    match session {
+        Some(session) => Answer::Taken(facts.fresh_handle(), !is_active(facts, session)),
+        None => Answer::Nothing,
+    }
+}
+
 /// What CreateSession answers.
 fn created<F: Look>(facts: &F, session: SessId, creation: &Creation) -> Created
     requires { session ≡ next_session (F.trail facts.now) }
@@ -192,13 +207,35 @@ fn call_answer<F: Look>(
         Call::ListSessions => list_sessions(alloc, facts, setup),
         Call::ListUsers => list_users(alloc, facts, setup),
         Call::ListSeats => list_seats(alloc, facts),
-        Call::ListInhibitors | Call::Can(_) | Call::Inhibit(_) | Call::TakeDevice(..) =>
-            unreachable!(),
+        Call::TakeDevice(..) => Ok(taken_answer(facts, call.session())),
+        Call::ListInhibitors | Call::Can(_) | Call::Inhibit(_) => unreachable!(),
         _ => Ok(Answer::Nothing),
     }
 }
 
-/// What a granted event is answered; `session` is the number of the next session.
+/// The handle that is read.
+pub fn read_handle(event: &Event) -> Option<HandleNo>
+    ensures { result ≡ read_handle event.now }
+{
+    match event {
+        Event::Call(request) => match &request.call {
+            Call::ReadInput(handle) => Some(*handle),
+            _ => None,
+        },
+        _ => None,
+    }
+}
+
+/// What a read of a handle is answered that listens: what it has heard.
+pub fn read_answer(alloc: Global, draft: &Draft, handle: HandleNo) -> Result<Answer, NoMemory>
+    requires listens { IsSome (heard_of draft.now.ears handle) }
+    ensures { (d : AnyDevice) (xs : List AnyInput) → heard_of draft.now.ears handle ≡ Some (d, xs) → IfOk result (λ a. a ≡ Answer.Inputs xs) }
+{
+    let heard = Vec::from_slice(alloc, draft.heard(handle))?;
+    Ok(Answer::Inputs(Items::from_vec(heard)))
+}
+
+/// What a granted event is answered that reads no handle; `session` is the number of the next session.
 #[tactic(auto, unfolding(login_model::specs::Answers::answer))]
 pub fn answer_of<F: Look>(
     alloc: Global,
@@ -209,6 +246,7 @@ pub fn answer_of<F: Look>(
 ) -> Result<Answer, NoMemory>
     requires session { session ≡ next_session (F.trail facts.now) }
     requires built { is_built event.now ≡ true }
+    requires other { read_handle event.now ≡ None }
     ensures { (before : List Entry) → trail_of before ≡ F.trail facts.now → IfOk result (λ a. a ≡ answer setup.now before event.now) }
 {
     match event {

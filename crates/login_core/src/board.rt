@@ -2,17 +2,25 @@
 
 pub mod choosing;
 pub mod facts;
+pub mod hearing;
 pub mod home;
 pub mod rounds;
 pub mod seating;
 pub mod setting;
 
-ghost use Rattle.std.specs.Prelude.{◌≡◌, ◌+◌, ◌<◌, ◌≤◌, ◌^◌, [], OnOk, OnErr, length};
-ghost use Rattle.login_model.specs.Trail.{put};
+ghost use Rattle.std.specs.Prelude.{◌≡◌, ◌+◌, ◌<◌, ◌≤◌, ◌^◌, [], IsSome, List, OnOk, OnErr, Some, length};
+ghost use Rattle.login_base.specs.declared.ids.DevNo.{DevNo as AnyDevice};
+ghost use Rattle.login_base.specs.declared.ids.HandleNo.{HandleNo as AnyHandle};
+ghost use Rattle.login_model.specs.declared.answer.Input.{Input as AnyInput};
+ghost use Rattle.login_model.specs.declared.mark.Mark.{Mark as AnyMark};
+ghost use Rattle.login_model.specs.Trail.{after, put};
 ghost use Rattle.login_model.specs.Fresh.{next_session};
 ghost use Rattle.login_model.specs.Devices.{is_awaiting};
 ghost use Rattle.login_core.specs.inner.Counts.{AreCounted};
-ghost use Rattle.login_core.specs.inner.Draft.{marked_by, reaching, tell, Fits};
+ghost use Rattle.device_model.specs.Ears.{heard_of};
+ghost use Rattle.login_laws.specs.Hearing.{heard_behind};
+ghost use Rattle.login_core.specs.inner.Draft.{marked_by, reaching, tell, with_ears, with_rings, Fits};
+ghost use Rattle.login_core.specs.inner.Ears.{AreEnough, ListenLive, ring_count};
 
 use crate::board::facts::Facts;
 use crate::board::seating::Seating;
@@ -20,7 +28,8 @@ use crate::room::counts::Counts;
 use crate::room::ledger::Ledger;
 use login_base::{ConnId, DevNo, HandleNo, LockNo, NoMemory, Reserved, SeatName, SessId, Uid};
 use login_model::{
-    Answer, Entry, Event, Fact, Journal, Key, Look, Mark, Notice, Verdict, Whom, is_same_fact,
+    Answer, Entry, Event, Fact, Input, Inputs, Journal, Key, Look, Mark, Notice, Verdict, Whom,
+    is_same_fact,
 };
 use std::alloc::Global;
 use std::marker::Model;
@@ -52,6 +61,8 @@ impl Model for Draft {
       before = trail_of d.journal.value.items;
       trail = so_far d.journal.value.items d.marks.items;
       reach = d.reach;
+      ears = d.facts.ears;
+      rings = d.facts.rings;
     } };
 
     ghost invariant = { λ d. IsDraft (so_far d.journal.value.items d.marks.items) d.marks d.facts d.seating d.made d.reach };
@@ -63,6 +74,7 @@ impl Draft {
         ensures before { result.before ≡ [] }
         ensures trail { result.trail ≡ [] }
         ensures reach { result.reach ≡ 0 }
+        ensures ears { result.ears ≡ [] }
     {
         Draft {
             journal: Snapshot::of(&Journal::new(alloc)),
@@ -101,6 +113,36 @@ impl Draft {
         self.facts.reserve(more as usize)?;
         self.reach = reach;
         Ok(())
+    }
+
+    /// Makes rings for so many handles, with those that are in use.
+    pub fn make_rings(&mut self, handles: usize) -> Result<(), NoMemory>
+        ensures ok { OnOk result (handles ≤ ring_count self.new.ears self.new.rings) }
+        ensures rings { self.old.rings ≤ self.new.rings }
+        ensures rest { self.new ≡ with_rings self.new.rings self.old }
+    {
+        self.facts.make_rings(handles)
+    }
+
+    /// What a handle that listens has heard, the oldest first.
+    pub fn heard(&self, handle: HandleNo) -> &[Input]
+        requires { IsSome (heard_of self.now.ears handle) }
+        ensures { (d : AnyDevice) (xs : List AnyInput) → heard_of self.now.ears handle ≡ Some (d, xs) → result.now ≡ xs }
+    {
+        self.facts.heard(handle)
+    }
+
+    /// What handles hear is settled behind the marks of the entry under way. What is read goes to `read`. It
+    /// takes no memory.
+    pub fn settle_ears(&mut self, event: &Event, verdict: Verdict, read: &mut Inputs)
+        requires live { ListenLive self.old.ears self.old.before }
+        requires enough { AreEnough (ring_count self.old.ears self.old.rings) self.old.trail }
+        ensures heard { (ms : List AnyMark) → after self.old.before ms ≡ self.old.trail → (h : AnyHandle) → heard_of self.new.ears h ≡ heard_behind h event.now verdict ms self.old.trail (heard_of self.old.ears h) }
+        ensures rings { ring_count self.new.ears self.new.rings ≡ ring_count self.old.ears self.old.rings }
+        ensures rest { self.new ≡ with_ears self.new.ears self.new.rings self.old }
+    {
+        self.facts
+            .settle_ears(event, verdict, self.marks.as_slice(), read);
     }
 
     /// The number of the next session.
@@ -196,6 +238,10 @@ impl Look for Draft {
         self.facts.counts().connections
     }
 
+    fn device_count(&self) -> u32 {
+        self.facts.counts().devices
+    }
+
     fn on_terminal(&self, vt: u32) -> Option<SessId> {
         self.session_on(vt)
     }
@@ -221,6 +267,7 @@ impl Board {
     pub fn new(alloc: Global) -> Board
         ensures journal { result.journal.items ≡ [] }
         ensures marks { result.draft.trail ≡ [] }
+        ensures ears { result.draft.ears ≡ [] }
         ensures begun { IsBegun result }
     {
         Board {
@@ -242,6 +289,8 @@ impl Board {
         ensures keeps_reach { self.old.draft.reach ≤ self.new.draft.reach }
         ensures items { self.new.journal.items ≡ self.old.journal.items }
         ensures trail { self.new.draft.trail ≡ self.old.draft.trail }
+        ensures ears { self.new.draft.ears ≡ self.old.draft.ears }
+        ensures rings { self.new.draft.rings ≡ self.old.draft.rings }
         ensures begun { IsBegun self.new }
     {
         if reach <= self.draft.reach() {
@@ -259,6 +308,8 @@ impl Board {
         ensures no_marks { self.new.draft.trail ≡ trail_of self.new.journal.items }
         ensures entries { self.new.journal.entries + 1 ≡ self.old.journal.entries }
         ensures reach { self.new.draft.reach ≡ self.old.draft.reach }
+        ensures ears { self.new.draft.ears ≡ self.old.draft.ears }
+        ensures rings { self.new.draft.rings ≡ self.old.draft.rings }
         ensures begun { IsBegun self.new }
     {
         let draft = &mut self.draft;

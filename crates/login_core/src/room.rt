@@ -7,4 +7,5 @@ pub mod fullness;
 pub mod kept;
 pub mod ledger;
 pub mod ready;
+pub mod slots;
 pub mod texts;

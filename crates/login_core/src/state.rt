@@ -3,6 +3,7 @@
 ghost use Rattle.std.specs.Prelude.{◌≡◌, ◌≢◌, ◌+◌, ◌^◌, ◌≤◌, ◌++◌, [], ◌∷◌, length, true, false, None, Err, IfOk, IfErr, OnOk};
 ghost use Rattle.std.specs.Borrow.{sem};
 ghost use Rattle.std.specs.Io.BufRead.{Rests};
+ghost use Rattle.login_model.specs.Answers.{answer};
 ghost use Rattle.login_model.specs.Built.{is_built};
 ghost use Rattle.login_model.specs.Full.{connected_after, full, mark_count, marks_needed};
 ghost use Rattle.login_laws.specs.Lawful.{IsLawful};
@@ -17,14 +18,14 @@ ghost use Rattle.login_core.specs.State.{CoreState, IsReady, IsRoomFor, IsSame, 
 ghost use Rattle.login_core.specs.contracts.state.Core.{the_row};
 ghost use Rattle.login_model.specs.Limits.{entries_limit, marks_limit};
 
-use crate::answering::answer_of;
+use crate::answering::{answer_of, read_answer, read_handle};
 use crate::board::{Board, Draft};
 use crate::room::fullness::{always_fits, connected_after, full};
 use crate::room::ready::Ready;
 use crate::room::texts::Texts;
 use login_base::{ConnId, DevNo, HandleNo, LockNo, NoMemory, SeatName, SessId, Uid};
 use login_judge::judge;
-use login_model::{Answer, Count, Entry, Event, Fact, Journal, Key, Look, Setup, Verdict};
+use login_model::{Answer, Count, Entry, Event, Fact, Inputs, Journal, Key, Look, Setup, Verdict};
 use std::alloc::Global;
 use std::marker::Model;
 use std::mem;
@@ -89,10 +90,13 @@ pub struct Core {
     texts: Texts,
     ready: Ready,
     stop: Option<u32>,
+    /// What a read takes from its handle goes here, and is no longer wanted.
+    read: Inputs,
 }
 
 impl Model for Core {
     ghost use Rattle.login_core.specs.State.{CoreState};
+    ghost use Rattle.login_core.specs.inner.Ears.{ring_count};
     ghost use Rattle.login_core.specs.inner.Inside.{IsCore};
 
     ghost Value = { CoreState };
@@ -102,6 +106,7 @@ impl Model for Core {
       journal = c.board.journal.items;
       entries = c.board.journal.entries;
       reach = c.board.draft.reach;
+      rings = ring_count c.board.draft.ears c.board.draft.rings;
       texts = c.texts;
       ready = c.ready;
     } };
@@ -116,6 +121,7 @@ impl Core {
         ensures setup { IfOk result (λ core. core.setup ≡ setup) }
         ensures journal { IfOk result (λ core. core.journal ≡ []) }
     {
+        let read = Inputs::new(alloc)?;
         let mut board = Board::new(alloc);
         board.reserve(1, 0)?;
         Ok(Core {
@@ -127,12 +133,14 @@ impl Core {
                 answer: Answer::Nothing,
             },
             stop: None,
+            read,
         })
     }
 
-    /// Makes ready for an event: takes the memory of its entry, its marks, its answer and its texts, and
-    /// of all that connections may need when they end. A refusal leaves setup and journal as they were, and
-    /// one that is not for want of memory leaves what was made ready before.
+    /// Makes ready for an event: takes the memory of its entry, its marks, its answer, its texts and the
+    /// inputs of a device that it takes, and of all that connections may need when they end. A refusal
+    /// leaves setup and journal as they were, and one that is not for want of memory leaves what was made
+    /// ready before.
     /// The stop is looked at first, then whether the journal is full; memory is asked for last, and none
     /// for a disconnect or the stop, whose room is kept.
     pub fn room(&mut self, event: &Event) -> Result<(), Refused>
@@ -185,19 +193,30 @@ impl Core {
         )
     }
 
+    /// The answer of an event that is granted.
+    fn granted_answer(&self, event: &Event) -> Result<Answer, NoMemory>
+        requires built { is_built event.now ≡ true }
+        requires granted { policy_verdict self.now.setup (trail_of self.now.journal) event.now ≡ Verdict.Granted }
+        ensures { IfOk result (λ a. a ≡ answer self.now.setup self.now.journal event.now) }
+    {
+        let draft = &self.board.draft;
+        match read_handle(event) {
+            Some(handle) => read_answer(self.board.alloc, draft, handle),
+            None => {
+                let session = draft.fresh_session();
+                answer_of(self.board.alloc, draft, &self.setup, session, event)
+            }
+        }
+    }
+
     /// The answer of an event with this verdict.
     fn answer_to(&self, event: &Event, verdict: Verdict) -> Result<Answer, NoMemory>
-        requires { is_built event.now ≡ true }
+        requires built { is_built event.now ≡ true }
+        requires judged { verdict ≡ policy_verdict self.now.setup (trail_of self.now.journal) event.now }
         ensures { IfOk result (λ a. a ≡ answered self.now.setup verdict event.now self.now.journal) }
     {
         match verdict {
-            Verdict::Granted => answer_of(
-                self.board.alloc,
-                &self.board.draft,
-                &self.setup,
-                self.board.draft.fresh_session(),
-                event,
-            ),
+            Verdict::Granted => self.granted_answer(event),
             Verdict::Denied(_) => Ok(Answer::Nothing),
         }
     }
@@ -233,6 +252,8 @@ impl Core {
         let entries = self.entries_for(event, verdict);
         let reach = self.reach_for();
         self.board.reserve(entries as u32, reach as u32)?;
+        let taken = self.board.draft.counts().taken;
+        self.board.draft.make_rings(taken as usize + 1)?;
         self.texts.prepare(self.board.alloc, event)?;
         let answer = self.answer_to(event, verdict)?;
         self.ready = Ready { verdict, answer };
@@ -253,6 +274,9 @@ impl Core {
         self.board
             .draft
             .perform(&self.setup, &event, verdict, &mut self.texts);
+        self.board
+            .draft
+            .settle_ears(&event, verdict, &mut self.read);
         let number = (self.board.journal.journal().len() + 1) as u32;
         self.stop = stop_after(self.stop, &event, number);
         self.board.close_entry(event, verdict, answer);
@@ -335,6 +359,10 @@ impl Look for Core {
 
     fn conn_count(&self) -> u32 {
         self.board.draft.conn_count()
+    }
+
+    fn device_count(&self) -> u32 {
+        self.board.draft.device_count()
     }
 
     fn on_terminal(&self, vt: u32) -> Option<SessId> {

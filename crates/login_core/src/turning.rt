@@ -10,6 +10,7 @@ ghost use Rattle.login_core.specs.inner.Draft.{marked_by, Fits};
 ghost use Rattle.login_core.specs.inner.Seating.{AreLow};
 
 use crate::board::Draft;
+use crate::board::seating::BUCKETS;
 use login_base::{SeatName, SessId};
 use login_model::{Key, Look};
 use login_table::{active_on, current_vt, is_on_seat};
@@ -121,7 +122,7 @@ impl Draft {
         ensures { result ≡ behind way start (open_terminals self.now.trail) }
     {
         let mut best = None;
-        for vt in 0..64 {
+        for vt in 0..BUCKETS as u32 {
             best = self.nearer_terminal(way, start, vt, best);
         }
         best

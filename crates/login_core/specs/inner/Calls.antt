@@ -4,11 +4,13 @@ use Rattle.login_base.specs.Seat.{is_seat_name}
 use Rattle.login_base.specs.declared.ids.ConnId.{ConnId}
 use Rattle.login_base.specs.declared.ids.SessId.{SessId}
 use Rattle.login_model.specs.declared.call.Call.{Call}
-use Rattle.login_model.specs.declared.call.Call.TheVariants.{Create, Activate, ActivateOnSeat, Lock, Unlock, Kill, Terminate, TerminateUser, TerminateSeat, SetIdle, SetLocked, Control, Uncontrol, Close, SwitchToNext, SwitchToPrevious}
+use Rattle.login_model.specs.declared.call.Call.TheVariants.{Create, Activate, ActivateOnSeat, Lock, Unlock, Kill, Terminate, TerminateUser, TerminateSeat, SetIdle, SetLocked, Control, Uncontrol, TakeDevice, ReleaseDevice, PauseComplete, Close, SwitchToNext, SwitchToPrevious}
 use Rattle.login_base.specs.SessionId.{session_of}
 use Rattle.login_model.specs.Trail.{Trail, put}
 use Rattle.login_model.specs.Where.{is_session}
-use Rattle.login_model.specs.Procedure.{release}
+use Rattle.login_model.specs.Fresh.{next_handle}
+use Rattle.login_model.specs.Procedure.{release, untake}
+use Rattle.login_model.specs.Taking.{acknowledge, take_device}
 use Rattle.login_model.specs.Direct.{activate, lock_session, unlock_session, control}
 use Rattle.login_model.specs.Words.{whom_of}
 use Rattle.login_model.specs.declared.fact.Key.TheVariants.{Sig, Idle, Locked}
@@ -43,6 +45,9 @@ call_on who (SetIdle id on) s t = put (Idle s) (Flag on) t
 call_on who (SetLocked id on) s t = put (Locked s) (Flag on) t
 call_on who (Control id force) s t = control who s t
 call_on who (Uncontrol id) s t = release s t
+call_on who (TakeDevice id d) s t = take_device who s d (next_handle t) t
+call_on who (ReleaseDevice id d) s t = untake s d t
+call_on who (PauseComplete id d) s t = acknowledge s d t
 call_on who _ s t = t
 
 -- what exits is a session that is not gone

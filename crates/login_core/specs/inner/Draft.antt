@@ -1,23 +1,26 @@
 -- What a draft is seen as, and what it does to be marked.
-use Rattle.std.specs.Prelude.{ℕ, ◌≡◌, ◌+◌, ◌<◌, ◌≤◌, ◌^◌, ◌∷◌, length}
+use Rattle.std.specs.Prelude.{ℕ, ◌≡◌, ◌+◌, ◌<◌, ◌≤◌, ◌^◌, ◌∷◌, List, length}
 use Rattle.login_base.specs.Room.{Room}
 use Rattle.login_model.specs.declared.mark.Mark.{Mark}
 use Rattle.login_model.specs.declared.mark.Mark.TheVariants.{Say}
 use Rattle.login_model.specs.declared.mark.Whom.{Whom}
 use Rattle.login_model.specs.declared.mark.Notice.{Notice}
 use Rattle.login_model.specs.Trail.{Trail}
+use Rattle.device_model.specs.declared.ears.Ear.{Ear}
 use Rattle.login_core.specs.declared.board.seating.Seating.{Seating}
 use Rattle.login_core.specs.inner.Facts.{Tables, StandFor}
 use Rattle.login_core.specs.inner.Seating.{AreSeated}
 
--- the marks before the entry under way, and those so far, both the newest first; and how many marks there may
--- be in all
+-- the marks before the entry under way, and those so far, both the newest first; how many marks there may be in
+-- all; the handles that listen to devices, and how many rings are spare
 pub record DraftState : Type 0 where
   pub before : Trail
   pub trail : Trail
   pub reach : ℕ
+  pub ears : List Ear
+  pub rings : ℕ
 
--- the marks so far are others; those before are the same, and there may be as many
+-- the marks so far are others, and all else is the same
 abbrev pub with_trail : DraftState → Trail → DraftState
 with_trail d t = record d { trail = t }
 
@@ -33,12 +36,20 @@ Fits f d = length (f d.trail) ≤ d.reach
 abbrev pub reaching : ℕ → DraftState → DraftState
 reaching n d = record d { reach = n }
 
+-- so many rings are spare
+abbrev pub with_rings : ℕ → DraftState → DraftState
+with_rings n d = record d { rings = n }
+
+-- these handles listen, and so many rings are spare
+abbrev pub with_ears : List Ear → ℕ → DraftState → DraftState
+with_ears es n d = record d { ears = es; rings = n }
+
 -- a notice to these
 abbrev pub tell : Whom → Notice → Trail → Trail
 tell w n t = Say w n ∷ t
 
--- the facts are those that the marks so far leave, so many, and so is where sessions are; there is room for all marks that there may be, and
--- they can be numbered
+-- the facts, and where sessions sit, are as the marks so far leave them; these are counted; and there is room for as
+-- many as there may be, which can be numbered
 pub record IsDraft (trail : Trail) (marks : Room Mark) (facts : Tables) (seating : Seating) (made reach : ℕ) : Type 0 where
   pub stands : StandFor facts trail
   pub seated : AreSeated seating trail

@@ -1,28 +1,30 @@
 -- The facts in their tables.
-use Rattle.std.specs.Prelude.{ℕ, ◌≡◌, ◌+◌, ◌<◌, ◌^◌, if◌then◌else◌, length}
+use Rattle.std.specs.Prelude.{ℕ, ◌≡◌, ◌+◌, ◌<◌, ◌^◌, if◌then◌else◌, List, length}
 use Rattle.login_model.specs.declared.fact.Key.{Key}
 use Rattle.login_model.specs.declared.fact.Key.TheVariants.{Owner}
 use Rattle.login_model.specs.declared.fact.Fact.{Fact}
 use Rattle.login_model.specs.Trail.{Trail, value}
 use Rattle.login_model.specs.Fresh.{fresh_session, fresh_handle, is_owned_fact}
+use Rattle.device_model.specs.declared.ears.Ear.{Ear}
 use Rattle.login_core.specs.declared.board.home.Home.{Home}
-use Rattle.login_core.specs.declared.board.home.Home.TheVariants.{Users, Sessions, Seats, Takes, Connections, Controls, Owners, Lives, Others}
+use Rattle.login_core.specs.declared.board.home.Home.TheVariants.{Users, Sessions, Seats, Devices, Controls, Takes, Others}
 use Rattle.login_core.specs.declared.room.counts.Counts.{Counts}
 use Rattle.login_core.specs.inner.Counts.{AreCounted, counts_of}
 use Rattle.login_core.specs.inner.Home.{home}
 
--- what facts are seen as: what each table has, as settings; how many there are of what needs room; the numbers
--- of the next session and the next handle; and how many more settings go in without memory
+-- what facts are seen as: what each table has, as settings; the handles that listen to devices, and how many rings
+-- are spare; how many there are of what needs room; the numbers of the next session and the next handle; and how
+-- many more settings go in without memory
 pub record Tables : Type 0 where
   pub users : Trail
   pub sessions : Trail
   pub seats : Trail
-  pub takes : Trail
-  pub connections : Trail
+  pub devices : Trail
   pub controls : Trail
-  pub owners : Trail
-  pub lives : Trail
+  pub takes : Trail
   pub others : Trail
+  pub ears : List Ear
+  pub rings : ℕ
   pub counts : Counts
   pub session : ℕ
   pub handle : ℕ
@@ -33,11 +35,9 @@ abbrev pub table : Tables → Home → Trail
 table f Users = f.users
 table f Sessions = f.sessions
 table f Seats = f.seats
-table f Takes = f.takes
-table f Connections = f.connections
+table f Devices = f.devices
 table f Controls = f.controls
-table f Owners = f.owners
-table f Lives = f.lives
+table f Takes = f.takes
 table f Others = f.others
 
 -- each fact is the one that the marks leave, in the table where it has its home; the counts are those of what is

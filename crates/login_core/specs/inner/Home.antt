@@ -2,7 +2,7 @@
 use Rattle.login_model.specs.declared.fact.Key.{Key}
 use Rattle.login_model.specs.declared.fact.Key.TheVariants as key
 use Rattle.login_core.specs.declared.board.home.Home.{Home}
-use Rattle.login_core.specs.declared.board.home.Home.TheVariants.{Users, Sessions, Seats, Takes, Connections, Controls, Owners, Lives, Others}
+use Rattle.login_core.specs.declared.board.home.Home.TheVariants.{Users, Sessions, Seats, Devices, Controls, Takes, Others}
 
 -- by what the key is about
 abbrev pub home : Key → Home
@@ -17,10 +17,12 @@ home (key.Act name) = Seats
 home key.Vt = Seats
 home (key.Getty v) = Seats
 home key.Pending = Seats
-home (key.Taken s d) = Takes
-home (key.Awaited s d) = Takes
-home (key.Conn c) = Connections
+home (key.Dev d) = Devices
+home (key.Mode d) = Devices
+home (key.Conn c) = Controls
 home (key.Ctl s) = Controls
-home (key.Owner h) = Owners
-home (key.Live h) = Lives
+home (key.Taken s d) = Takes
+home (key.Owner h) = Takes
+home (key.Live h) = Takes
+home (key.Awaited s d) = Takes
 home _ = Others

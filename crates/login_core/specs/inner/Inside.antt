@@ -9,6 +9,7 @@ use Rattle.login_model.specs.Where.{connections}
 use Rattle.login_model.specs.declared.setup.Setup.{Setup}
 use Rattle.login_core.specs.Kept.{HaveTexts}
 use Rattle.login_core.specs.inner.Board.{IsBegun}
+use Rattle.login_core.specs.inner.Ears.{AreEars}
 use Rattle.login_core.specs.declared.board.Board.{Board}
 use Rattle.login_core.specs.declared.room.texts.Texts.{Texts}
 use Rattle.login_model.specs.Limits.{entries_limit, marks_limit}
@@ -20,7 +21,7 @@ stop_need (Some n) = 0
 
 -- The setup is one, the journal is legal under it, no operation is asked for, and no entry is under way. There
 -- is room for the end of each connection and for the stop: their entries, their marks, the texts of the
--- sessions that close; and with them the journal stays within its limits.
+-- sessions that close; and with them the journal stays within its limits. Handles have heard what they read.
 pub record IsCore (U : Setup) (m : Board) (texts : Texts) (stop : Option ℕ) : Type 0 where
   pub set_up : IsSetup U
   pub legal : IsLegal U m.journal.items
@@ -30,6 +31,7 @@ pub record IsCore (U : Setup) (m : Board) (texts : Texts) (stop : Option ℕ) : 
   pub stop_is : stop ≡ stop_from 1 m.journal.items
   pub entries : length (connections (trail_of m.journal.items)) + stop_need stop ≤ m.journal.entries
   pub reach : length (trail_of m.journal.items) + need (trail_of m.journal.items) ≤ m.draft.reach
+  pub ears : AreEars m.journal.items m.draft.ears m.draft.rings
   pub kept_texts : HaveTexts texts (trail_of m.journal.items)
   pub few_entries : length m.journal.items + length (connections (trail_of m.journal.items)) + stop_need stop ≤ entries_limit
   pub few_marks : length (trail_of m.journal.items) + need (trail_of m.journal.items) ≤ marks_limit

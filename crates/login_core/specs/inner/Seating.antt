@@ -12,13 +12,17 @@ use Rattle.login_core.specs.declared.board.seating.Tally.{Tally}
 use Rattle.login_core.specs.declared.board.seating.Seating.{Seating}
 use Rattle.login_core.specs.inner.Counts.{one_if}
 
+-- how many buckets a tally has
+abbrev pub buckets : ℕ
+buckets = 64
+
 -- the terminal of an open session of seat0
 abbrev pub terminal_in : Fact → Option ℕ
 terminal_in x = if is_open_fact x && is_seat0 (seat_in_fact x) then Some (vt_in x) else None
 
 -- zero for an open session of seat0 whose terminal has no bucket of its own
 abbrev pub high_in : Fact → Option ℕ
-high_in x = if is_open_fact x && is_seat0 (seat_in_fact x) && nat_le 64 (vt_in x) then Some 0 else None
+high_in x = if is_open_fact x && is_seat0 (seat_in_fact x) && nat_le buckets (vt_in x) then Some 0 else None
 
 -- the user of an open session that has a seat
 abbrev pub user_in : Fact → Option ℕ
@@ -26,7 +30,7 @@ user_in x = if is_open_fact x && is_some (seat_in_fact x) then Some (owner_of x)
 
 -- the bucket of a number
 abbrev pub bucket_of : ℕ → ℕ
-bucket_of n = n % 64
+bucket_of n = n % buckets
 
 -- whether the number is in a bucket
 abbrev pub is_at : Option ℕ → ℕ → Bool
@@ -44,16 +48,16 @@ placed_at place_in t v = filter (λ s. is_at (place_in (value t (key.Sess s))) v
 
 -- a tally has the number of sessions of each bucket
 pub record AreTallied (place_in : Fact → Option ℕ) (c : Tally) (t : Trail) : Type 0 where
-  pub at : (v : ℕ) → v < 64 → slice_index c.counts v ≡ length (placed_at place_in t v)
+  pub at : (v : ℕ) → v < buckets → slice_index c.counts v ≡ length (placed_at place_in t v)
 
 -- the one can leave, and the other can come
 pub record CanShift (c : Tally) (lost gained : Option ℕ) : Type 0 where
-  pub leaves : (v : ℕ) → v < 64 → one_if (is_at lost v) ≤ slice_index c.counts v
-  pub comes : (v : ℕ) → v < 64 → slice_index c.counts v + one_if (is_at gained v) < 2 ^ 32
+  pub leaves : (v : ℕ) → v < buckets → one_if (is_at lost v) ≤ slice_index c.counts v
+  pub comes : (v : ℕ) → v < buckets → slice_index c.counts v + one_if (is_at gained v) < 2 ^ 32
 
 -- the one left, and the other came
 pub record Shifts (c : Tally) (lost gained : Option ℕ) (d : Tally) : Type 0 where
-  pub at : (v : ℕ) → v < 64 → slice_index d.counts v + one_if (is_at lost v) ≡ slice_index c.counts v + one_if (is_at gained v)
+  pub at : (v : ℕ) → v < buckets → slice_index d.counts v + one_if (is_at lost v) ≡ slice_index c.counts v + one_if (is_at gained v)
 
 -- the tallies have the numbers that the marks leave
 pub record AreSeated (s : Seating) (t : Trail) : Type 0 where

@@ -1,10 +1,11 @@
 -- What is read of a fact and handed on by value, and the fact that it stands for.
-use Rattle.std.specs.Prelude.{ℕ, Bool, true, false, Option, Some, None, []}
+use Rattle.std.specs.Prelude.{ℕ, Bool, true, false, Option, Some, None, List, []}
 use Rattle.login_base.specs.declared.ids.ConnId.{ConnId}
 use Rattle.login_base.specs.declared.ids.HandleNo.{HandleNo}
 use Rattle.login_model.specs.declared.fact.Fact.{Fact}
 use Rattle.login_model.specs.declared.fact.Fact.TheVariants.{Absent, Handle, Controller, Device, Known, Number}
 use Rattle.login_model.specs.declared.hardware.DevKind.{DevKind}
+use Rattle.login_model.specs.declared.hardware.DevKind.TheVariants.{Drm}
 
 abbrev pub handle_fact : Option HandleNo → Fact
 handle_fact (Some h) = Handle h
@@ -17,6 +18,15 @@ controller_fact None = Absent
 abbrev pub kind_fact : Option DevKind → Fact
 kind_fact (Some kind) = Device kind []
 kind_fact None = Absent
+
+-- the seat of a graphics device
+abbrev pub graphics_seat : Fact → Option (List ℕ)
+graphics_seat (Device Drm seat) = Some seat
+graphics_seat _ = None
+
+abbrev pub graphics_fact : Option (List ℕ) → Fact
+graphics_fact (Some seat) = Device Drm seat
+graphics_fact None = Absent
 
 -- a user that is absent, or one that is not
 abbrev pub absent_or_known : Bool → Fact

@@ -1,24 +1,30 @@
 // The facts, in their tables.
 
-ghost use Rattle.std.specs.Prelude.{◌≡◌, ◌+◌, ◌<◌, ◌≤◌, [], ◌∷◌, OnOk, nat_lt};
+ghost use Rattle.std.specs.Prelude.{◌≡◌, ◌+◌, ◌<◌, ◌≤◌, [], ◌∷◌, IsSome, List, OnOk, Some, length, nat_lt};
 ghost use Rattle.login_model.specs.Trail.{Trail, value};
 ghost use Rattle.login_model.specs.Fresh.{next_session, next_handle};
 ghost use Rattle.login_model.specs.Names.{IsNext, session_lt, user_lt, conn_lt, seat_lt, device_lt, lock_lt};
 ghost use Rattle.login_model.specs.Where.{is_session, is_user, is_connected, is_seat, is_device, is_lock};
-ghost use Rattle.login_model.specs.Devices.{taken_in, is_taken, is_awaiting};
+ghost use Rattle.login_model.specs.Devices.{is_taken, is_awaiting};
 ghost use Rattle.login_model.specs.declared.mark.Mark.TheVariants.{Set};
-ghost use Rattle.login_table.specs.Nearest.{nearer};
-ghost use Rattle.login_table.specs.declared.rows.Row.{Row as RowValue};
-ghost use Rattle.std.specs.List.{list_any};
-ghost use Rattle.login_core.specs.inner.Awaiting.{is_awaited_key};
 ghost use Rattle.login_core.specs.inner.Counts.{AreCounted};
+ghost use Rattle.device_model.specs.Ears.{heard_of};
+ghost use Rattle.login_laws.specs.Hearing.{heard_behind};
+ghost use Rattle.login_base.specs.declared.ids.DevNo.{DevNo as AnyDevice};
+ghost use Rattle.login_base.specs.declared.ids.HandleNo.{HandleNo as AnyHandle};
+ghost use Rattle.login_model.specs.declared.answer.Input.{Input as AnyInput};
+ghost use Rattle.login_core.specs.inner.Ears.{AreEnough, ListenOn, ring_count};
 ghost use Rattle.login_core.specs.inner.Facts.{StandFor, StandForFew, table, gives};
 
+use crate::board::hearing::settle;
 use crate::board::home::Home;
 use crate::room::counts::Counts;
+use controller::Controller;
+use device_model::DeviceModel;
+use device_revoke::DeviceRevoke;
 use login_base::{ConnId, DevNo, HandleNo, LockNo, NoMemory, SeatName, SessId, Uid};
-use login_model::{Fact, Key};
-use login_table::{Row, Rows, Table, is_above, is_lower};
+use login_model::{Event, Fact, Input, Inputs, Key, Mark, Verdict};
+use login_table::{Rows, Table};
 use seats_vts::SeatsVts;
 use sessions::Sessions;
 use std::alloc::Global;
@@ -26,18 +32,15 @@ use std::marker::Model;
 use users_linger::UsersLinger;
 
 /// The facts, how many there are of what needs room, and the numbers of the next session and the next handle.
-/// They stand for the marks whose settings were put in. Facts whose names keep growing have rows of their own,
-/// so that a new one comes last and moves none.
+/// They stand for the marks whose settings were put in. With the devices stands what handles hear of them.
 #[derive(Drop)]
 pub struct Facts {
     users: UsersLinger,
     sessions: Sessions,
     seats: SeatsVts,
-    takes: Rows,
-    connections: Rows,
-    controls: Rows,
-    owners: Rows,
-    lives: Rows,
+    devices: DeviceModel,
+    controls: Controller,
+    takes: DeviceRevoke,
     others: Rows,
     counts: Counts,
     session: u32,
@@ -55,19 +58,19 @@ impl Model for Facts {
       users = f.users.trail;
       sessions = f.sessions.trail;
       seats = f.seats.trail;
-      takes = f.takes.trail;
-      connections = f.connections.trail;
+      devices = f.devices.trail;
       controls = f.controls.trail;
-      owners = f.owners.trail;
-      lives = f.lives.trail;
+      takes = f.takes.trail;
       others = f.others.trail;
+      ears = f.devices.ears;
+      rings = f.devices.rings;
       counts = f.counts;
       session = f.session;
       handle = f.handle;
       spare = f.spare;
     } };
 
-    ghost invariant = { λ f. (f.spare ≤ f.users.spare) × (f.spare ≤ f.sessions.spare) × (f.spare ≤ f.seats.spare) × (f.spare ≤ f.takes.spare) × (f.spare ≤ f.connections.spare) × (f.spare ≤ f.controls.spare) × (f.spare ≤ f.owners.spare) × (f.spare ≤ f.lives.spare) × (f.spare ≤ f.others.spare) };
+    ghost invariant = { λ f. (f.spare ≤ f.users.spare) × (f.spare ≤ f.sessions.spare) × (f.spare ≤ f.seats.spare) × (f.spare ≤ f.devices.spare) × (f.spare ≤ f.controls.spare) × (f.spare ≤ f.takes.spare) × (f.spare ≤ f.others.spare) };
 }
 
 /// How many handles a setting gives out.
@@ -80,89 +83,20 @@ fn given(key: &Key, fact: &Fact) -> u32
     }
 }
 
-/// The device of a key about what a session has taken.
-fn taken_in(session: SessId, key: &Key) -> Option<DevNo>
-    ensures { result ≡ taken_in session key.now }
-{
-    match key {
-        Key::Taken(other, device) => {
-            if other.0 == session.0 {
-                Some(*device)
-            } else {
-                None
-            }
-        }
-        _ => None,
-    }
-}
-
-/// The lower of the best device so far and another, if that is above and the session has taken it.
-fn nearer_taken(
-    takes: &Rows,
-    session: SessId,
-    above: Option<DevNo>,
-    device: Option<DevNo>,
-    best: Option<DevNo>,
-) -> Option<DevNo>
-    ensures { result ≡ nearer device_lt (is_taken takes.now.trail session) above device best }
-{
-    match device {
-        Some(device) => {
-            if is_above(above, device)
-                && is_lower(device, best)
-                && takes.fact(&Key::Taken(session, device)).is_handle()
-            {
-                Some(device)
-            } else {
-                best
-            }
-        }
-        None => best,
-    }
-}
-
-/// The least device above that one that a session has taken.
-fn next_taken(takes: &Rows, session: SessId, above: Option<DevNo>) -> Option<DevNo>
-    ensures { IsNext device_lt (is_taken takes.now.trail session) above result }
-{
-    let mut best = None;
-    for row in takes.as_slice() {
-        best = nearer_taken(takes, session, above, taken_in(session, &row.key), best);
-    }
-    best
-}
-
-/// Whether a key is about a pause that has still to be acknowledged.
-fn is_awaited(takes: &Rows, key: &Key) -> bool
-    ensures { result ≡ is_awaited_key takes.now.trail key.now }
-{
-    match key {
-        Key::Awaited(_, _) => takes.fact(key).is_set(),
-        _ => false,
-    }
-}
-
-fn is_any_awaited(takes: &Rows, rows: &[Row]) -> bool
-    ensures { result ≡ list_any (λ (x : RowValue). is_awaited_key takes.now.trail x.key) rows.now }
-{
-    rows.iter().any(|row| is_awaited(takes, &row.key))
-}
-
 #[tactic(auto, unfolding(crate::specs::inner::Facts::StandFor))]
 impl Facts {
     /// The facts of no marks. It takes no memory.
     pub fn new(alloc: Global) -> Facts
-        ensures { StandFor result [] }
+        ensures stands { StandFor result [] }
+        ensures ears { result.ears ≡ [] }
     {
         Facts {
             users: UsersLinger::new(alloc),
             sessions: Sessions::new(alloc),
             seats: SeatsVts::new(alloc),
-            takes: Rows::new(alloc),
-            connections: Rows::new(alloc),
-            controls: Rows::new(alloc),
-            owners: Rows::new(alloc),
-            lives: Rows::new(alloc),
+            devices: DeviceModel::new(alloc),
+            controls: Controller::new(alloc),
+            takes: DeviceRevoke::new(alloc),
             others: Rows::new(alloc),
             counts: Counts::NONE,
             session: 1,
@@ -176,6 +110,8 @@ impl Facts {
         ensures ok { OnOk result (more ≤ self.new.spare) }
         ensures stands { (t : Trail) → StandFor self.old t → StandFor self.new t }
         ensures spare { self.old.spare ≤ self.new.spare }
+        ensures ears { self.new.ears ≡ self.old.ears }
+        ensures rings { self.new.rings ≡ self.old.rings }
     {
         if more <= self.spare {
             return Ok(());
@@ -183,30 +119,38 @@ impl Facts {
         self.users.room(more)?;
         self.sessions.room(more)?;
         self.seats.room(more)?;
-        self.takes.reserve(more)?;
-        self.connections.reserve(more)?;
-        self.controls.reserve(more)?;
-        self.owners.reserve(more)?;
-        self.lives.reserve(more)?;
+        self.devices.room(more)?;
+        self.controls.room(more)?;
+        self.takes.room(more)?;
         self.others.reserve(more)?;
         self.spare = more;
         Ok(())
     }
 
-    /// The rows of a table.
-    fn rows(&self, at: Home) -> &Rows
-        ensures { result.now.trail ≡ table self.now at }
+    /// Makes rings for so many handles, with those that are in use.
+    pub fn make_rings(&mut self, handles: usize) -> Result<(), NoMemory>
+        ensures ok { OnOk result (handles ≤ ring_count self.new.ears self.new.rings) }
+        ensures stands { (t : Trail) → StandFor self.old t → StandFor self.new t }
+        ensures spare { self.new.spare ≡ self.old.spare }
+        ensures ears { self.new.ears ≡ self.old.ears }
+        ensures rings { self.old.rings ≤ self.new.rings }
+    {
+        let spare = handles.saturating_sub(self.devices.listening());
+        self.devices.rings(spare)
+    }
+
+    /// The fact under a key in a table.
+    fn fact_in(&self, at: Home, key: &Key) -> &Fact
+        ensures { result.now ≡ value (table self.now at) key.now }
     {
         match at {
-            Home::Users => self.users.rows(),
-            Home::Sessions => self.sessions.rows(),
-            Home::Seats => self.seats.rows(),
-            Home::Takes => &self.takes,
-            Home::Connections => &self.connections,
-            Home::Controls => &self.controls,
-            Home::Owners => &self.owners,
-            Home::Lives => &self.lives,
-            Home::Others => &self.others,
+            Home::Users => self.users.fact(key),
+            Home::Sessions => self.sessions.fact(key),
+            Home::Seats => self.seats.fact(key),
+            Home::Devices => self.devices.fact(key),
+            Home::Controls => self.controls.fact(key),
+            Home::Takes => self.takes.fact(key),
+            Home::Others => self.others.fact(key),
         }
     }
 
@@ -214,7 +158,7 @@ impl Facts {
     pub fn fact(&self, key: &Key) -> &Fact
         ensures { (t : Trail) → StandFor self.now t → result.now ≡ value t key.now }
     {
-        self.rows(Home::of(key)).fact(key)
+        self.fact_in(Home::of(key), key)
     }
 
     /// Puts a setting in. It takes no memory.
@@ -223,6 +167,8 @@ impl Facts {
         requires few { StandForFew self.old }
         ensures stands { (t : Trail) → StandFor self.old t → StandFor self.new (Set key fact ∷ t) }
         ensures spare { self.old.spare ≡ self.new.spare + 1 }
+        ensures ears { self.new.ears ≡ self.old.ears }
+        ensures rings { self.new.rings ≡ self.old.rings }
     {
         let lost = Counts::of(&key, self.fact(&key));
         let gained = Counts::of(&key, &fact);
@@ -234,11 +180,9 @@ impl Facts {
             Home::Users => self.users.set(key, fact),
             Home::Sessions => self.sessions.set(key, fact),
             Home::Seats => self.seats.set(key, fact),
-            Home::Takes => self.takes.set(key, fact),
-            Home::Connections => self.connections.set(key, fact),
+            Home::Devices => self.devices.set(key, fact),
             Home::Controls => self.controls.set(key, fact),
-            Home::Owners => self.owners.set(key, fact),
-            Home::Lives => self.lives.set(key, fact),
+            Home::Takes => self.takes.set(key, fact),
             Home::Others => self.others.set(key, fact),
         }
     }
@@ -289,7 +233,7 @@ impl Facts {
     pub fn next_device(&self, above: Option<DevNo>) -> Option<DevNo>
         ensures { (t : Trail) → StandFor self.now t → IsNext device_lt (is_device t) above result }
     {
-        self.others.next(above)
+        self.devices.next_device(above)
     }
 
     /// The least lock above that one that stands.
@@ -303,20 +247,47 @@ impl Facts {
     pub fn next_conn(&self, above: Option<ConnId>) -> Option<ConnId>
         ensures { (t : Trail) → StandFor self.now t → IsNext conn_lt (is_connected t) above result }
     {
-        self.connections.next(above)
+        self.controls.next_conn(above)
     }
 
     /// The least device above that one that a session has taken.
     pub fn next_taken(&self, session: SessId, above: Option<DevNo>) -> Option<DevNo>
         ensures { (t : Trail) → StandFor self.now t → IsNext device_lt (is_taken t session) above result }
     {
-        next_taken(&self.takes, session, above)
+        self.takes.next_taken(session, above)
     }
 
     /// Whether the pause of some device has still to be acknowledged.
     pub fn is_awaiting(&self) -> bool
         ensures { (t : Trail) → StandFor self.now t → result ≡ is_awaiting t }
     {
-        is_any_awaited(&self.takes, self.takes.as_slice())
+        self.takes.is_awaiting()
+    }
+
+    /// What a handle that listens has heard, the oldest first.
+    pub fn heard(&self, handle: HandleNo) -> &[Input]
+        requires { IsSome (heard_of self.now.ears handle) }
+        ensures { (d : AnyDevice) (xs : List AnyInput) → heard_of self.now.ears handle ≡ Some (d, xs) → result.now ≡ xs }
+    {
+        self.devices.heard(handle)
+    }
+
+    /// What handles hear is settled behind the marks of an entry: each hears what a granted event brings, and
+    /// those that the marks make live begin anew. What is read goes to `read`. It takes no memory.
+    pub fn settle_ears(
+        &mut self,
+        event: &Event,
+        verdict: Verdict,
+        marks: &[Mark],
+        read: &mut Inputs,
+    )
+        requires listen { ListenOn self.old.ears marks.now self.old.takes }
+        requires enough { AreEnough (ring_count self.old.ears self.old.rings) self.old.takes }
+        ensures heard { (h : AnyHandle) → heard_of self.new.ears h ≡ heard_behind h event.now verdict marks.now self.old.takes (heard_of self.old.ears h) }
+        ensures rings { ring_count self.new.ears self.new.rings ≡ ring_count self.old.ears self.old.rings }
+        ensures stands { (t : Trail) → StandFor self.old t → StandFor self.new t }
+        ensures spare { self.new.spare ≡ self.old.spare }
+    {
+        settle(&self.takes, &mut self.devices, event, verdict, marks, read);
     }
 }

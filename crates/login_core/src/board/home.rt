@@ -14,16 +14,12 @@ pub enum Home {
     Sessions,
     /// The seats and the virtual terminals.
     Seats,
-    /// The devices that sessions have taken, and the pauses that are awaited.
-    Takes,
-    /// Whose each connection is.
-    Connections,
-    /// Which connection controls each session.
+    /// The devices, and their modes.
+    Devices,
+    /// Whose each connection is, and which controls each session.
     Controls,
-    /// Whose each handle is.
-    Owners,
-    /// Which handles give access to their devices.
-    Lives,
+    /// What sessions have taken, whose each handle is and whether it gives access, and the awaited pauses.
+    Takes,
     /// All other facts.
     Others,
 }
@@ -37,11 +33,9 @@ impl Home {
             Key::User(_) | Key::Linger(_) => Home::Users,
             Key::Sess(_) | Key::Idle(_) | Key::Locked(_) | Key::Sig(_) => Home::Sessions,
             Key::Seat(_) | Key::Act(_) | Key::Vt | Key::Getty(_) | Key::Pending => Home::Seats,
-            Key::Taken(_, _) | Key::Awaited(_, _) => Home::Takes,
-            Key::Conn(_) => Home::Connections,
-            Key::Ctl(_) => Home::Controls,
-            Key::Owner(_) => Home::Owners,
-            Key::Live(_) => Home::Lives,
+            Key::Dev(_) | Key::Mode(_) => Home::Devices,
+            Key::Conn(_) | Key::Ctl(_) => Home::Controls,
+            Key::Taken(_, _) | Key::Owner(_) | Key::Live(_) | Key::Awaited(_, _) => Home::Takes,
             _ => Home::Others,
         }
     }

@@ -1,42 +1,47 @@
-// Where the open sessions with a seat are, so that no entry goes over all sessions to find one.
+// Where the open sessions with a seat are.
 
 ghost use Rattle.std.specs.Prelude.{◌≡◌, ℕ, ◌+◌, ◌<◌, ◌≤◌, ◌^◌, [], true, false, None, Some, slice_index};
 ghost use Rattle.login_model.specs.Standing.{has_seat};
 ghost use Rattle.login_model.specs.Where.{session_on};
 ghost use Rattle.login_core.specs.inner.Counts.{one_if};
-ghost use Rattle.login_core.specs.inner.Seating.{AreLow, AreSeated, CanSeat, CanShift, Seats, Shifts, bucket_of, high_in, is_at, is_none_at, is_one_at, terminal_in, user_in};
+ghost use Rattle.login_core.specs.inner.Seating.{buckets, AreLow, AreSeated, CanSeat, CanShift, Seats, Shifts, bucket_of, high_in, is_at, is_none_at, is_one_at, terminal_in, user_in};
 
 use crate::board::Draft;
 use login_base::SessId;
 use login_model::{Fact, Key, Look};
 
+/// How many buckets a tally has: one for each terminal of seat0, and one more.
+pub const BUCKETS: usize = 64;
+
 /// The bucket of a number.
 fn bucket_of(number: u32) -> usize
     ensures value { result ≡ bucket_of number }
-    ensures bound { result < 64 }
+    ensures bound { result < buckets }
 {
-    (number % 64) as usize
+    number as usize % BUCKETS
 }
 
 /// How many sessions there are by a number of each: a terminal, or a user. Numbers that leave the same remainder
 /// share a bucket.
 #[derive(Clone, Copy, Debug)]
 pub struct Tally {
-    counts: [u32; 64],
+    counts: [u32; BUCKETS],
 }
 
 impl Tally {
     /// There are no sessions.
     fn new() -> Tally
-        ensures { (v : ℕ) → v < 64 → slice_index result.counts v ≡ 0 }
+        ensures { (v : ℕ) → v < buckets → slice_index result.counts v ≡ 0 }
     {
-        Tally { counts: [0; 64] }
+        Tally {
+            counts: [0; BUCKETS],
+        }
     }
 
     /// A session with this number goes.
     fn lose(&mut self, number: Option<u32>)
-        requires { (v : ℕ) → v < 64 → one_if (is_at number v) ≤ slice_index self.old.counts v }
-        ensures { (v : ℕ) → v < 64 → slice_index self.new.counts v + one_if (is_at number v) ≡ slice_index self.old.counts v }
+        requires { (v : ℕ) → v < buckets → one_if (is_at number v) ≤ slice_index self.old.counts v }
+        ensures { (v : ℕ) → v < buckets → slice_index self.new.counts v + one_if (is_at number v) ≡ slice_index self.old.counts v }
     {
         if let Some(number) = number {
             self.counts[bucket_of(number)] -= 1;
@@ -45,8 +50,8 @@ impl Tally {
 
     /// A session with this number comes.
     fn gain(&mut self, number: Option<u32>)
-        requires { (v : ℕ) → v < 64 → slice_index self.old.counts v + one_if (is_at number v) < 2 ^ 32 }
-        ensures { (v : ℕ) → v < 64 → slice_index self.new.counts v ≡ slice_index self.old.counts v + one_if (is_at number v) }
+        requires { (v : ℕ) → v < buckets → slice_index self.old.counts v + one_if (is_at number v) < 2 ^ 32 }
+        ensures { (v : ℕ) → v < buckets → slice_index self.new.counts v ≡ slice_index self.old.counts v + one_if (is_at number v) }
     {
         if let Some(number) = number {
             self.counts[bucket_of(number)] += 1;
@@ -98,7 +103,13 @@ fn high_in(fact: &Fact) -> Option<u32>
     ensures { result ≡ high_in fact.now }
 {
     match terminal_in(fact) {
-        Some(terminal) => { if terminal >= 64 { Some(0) } else { None } }
+        Some(terminal) => {
+            if terminal as usize >= BUCKETS {
+                Some(0)
+            } else {
+                None
+            }
+        }
         None => None,
     }
 }
@@ -122,7 +133,7 @@ pub struct Seating {
     /// Those whose terminal has no bucket of its own.
     high: Tally,
     users: Tally,
-    last: [u32; 64],
+    last: [u32; BUCKETS],
 }
 
 impl Seating {
@@ -134,7 +145,7 @@ impl Seating {
             terminals: Tally::new(),
             high: Tally::new(),
             users: Tally::new(),
-            last: [0; 64],
+            last: [0; BUCKETS],
         }
     }
 

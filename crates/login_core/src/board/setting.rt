@@ -9,8 +9,9 @@ ghost use Rattle.login_model.specs.Facts.{handle_in, controller_in};
 ghost use Rattle.login_core.specs.inner.Draft.{marked_by, Fits};
 
 use crate::board::Draft;
+use crate::room::slots::SeatSlots;
 use login_base::{ConnId, DevNo, HandleNo, SeatName, SessId};
-use login_model::{Fact, Key, Look, Notice, Owner, Whom};
+use login_model::{DevKind, Fact, Key, Look, Notice, Owner, Whom};
 
 #[tactic(auto, using(crate::proofs::Growing::growing))]
 impl Draft {
@@ -97,6 +98,27 @@ impl Draft {
         ensures marked { self.new ≡ marked_by (put (Key.Act seat) (Fact.Active session)) self.old }
     {
         self.put(Key::Act(seat), Fact::Active(session), Fact::Active(session));
+    }
+
+    /// A seat is present.
+    pub fn put_present(&mut self, seat: SeatName)
+        requires room { Fits (put (Key.Seat seat) Fact.Present) self.old }
+        ensures marked { self.new ≡ marked_by (put (Key.Seat seat) Fact.Present) self.old }
+    {
+        self.put(Key::Seat(seat), Fact::Present, Fact::Present);
+    }
+
+    /// A device of a kind is on a seat. The memory of the seat comes twice: for the mark and for the facts.
+    pub fn put_device(&mut self, device: DevNo, kind: DevKind, seat: SeatName, slots: SeatSlots)
+        requires room { Fits (put (Key.Dev device) (Fact.Device kind seat)) self.old }
+        ensures marked { self.new ≡ marked_by (put (Key.Dev device) (Fact.Device kind seat)) self.old }
+    {
+        let SeatSlots { mark, fact } = slots;
+        self.put(
+            Key::Dev(device),
+            Fact::Device(kind, mark.fill(seat)),
+            Fact::Device(kind, fact.fill(seat)),
+        );
     }
 
     /// Sends a notice to all.

@@ -50,6 +50,9 @@ impl Draft {
             Call::SetLocked(_, is_locked) => self.put_locked(session, *is_locked),
             Call::Control(_, _) => self.control(who, session),
             Call::Uncontrol(_) => self.release(session),
+            Call::TakeDevice(_, device) => self.take_device(who, session, *device),
+            Call::ReleaseDevice(_, device) => self.untake(session, *device),
+            Call::PauseComplete(_, device) => self.acknowledge(session, *device),
             _ => {}
         }
     }
@@ -152,11 +155,8 @@ impl Draft {
             Call::SwitchTo(_, vt) => self.request(*vt),
             Call::SwitchToNext(seat) => self.next_on(seat),
             Call::SwitchToPrevious(seat) => self.previous_on(seat),
+            Call::SetMode(handle, mode) => self.set_mode(*handle, *mode),
             Call::Power(_) | Call::Inhibit(_) => unreachable!(),
-            Call::TakeDevice(..) | Call::ReleaseDevice(..) | Call::PauseComplete(..) => {
-                unreachable!()
-            }
-            Call::SetMode(..) => unreachable!(),
             Call::GetSession(_) => {}
             _ => self.call_session(who, call),
         }

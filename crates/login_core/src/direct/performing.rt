@@ -8,18 +8,19 @@ ghost use Rattle.login_model.specs.MadeWith.{texts_in};
 ghost use Rattle.login_model.specs.Where.{is_open, is_session};
 ghost use Rattle.login_model.specs.Creating.{create};
 ghost use Rattle.login_model.specs.Direct.{at_session, direct, exit, happen};
+ghost use Rattle.login_model.specs.Taking.{add_device};
 ghost use Rattle.login_model.specs.Policy.{verdict as policy_verdict};
 ghost use Rattle.login_model.specs.declared.rule.Verdict.TheVariants.{Granted};
 ghost use Rattle.login_model.specs.Built.{is_built, is_built_hardware};
 ghost use Rattle.login_laws.specs.Sound.{IsSound};
 ghost use Rattle.login_core.specs.inner.Calls.{ExitsHere};
-ghost use Rattle.login_core.specs.Kept.{AreReady, AreReadyFor, HaveTexts};
+ghost use Rattle.login_core.specs.Kept.{AreReady, AreReadyFor, AreReadyToHappen, HasSlots, HaveTexts};
 ghost use Rattle.login_core.specs.inner.Draft.{marked_by, Fits};
 
 use crate::board::Draft;
 use crate::room::texts::{FreshTexts, Texts};
-use login_base::{ConnId, SessId, Uid, Word};
-use login_model::{Creation, Event, Fact, Hardware, Key, Setup};
+use login_base::{ConnId, DevNo, SeatName, SessId, Uid, Word};
+use login_model::{Creation, DevKind, Event, Fact, Hardware, Key, Setup};
 
 #[tactic(auto, using(crate::proofs::Growing::growing))]
 impl Draft {
@@ -75,16 +76,34 @@ impl Draft {
         }
     }
 
+    /// A device comes, and the memory that was made for its seat is used.
+    fn add_kept(&mut self, device: DevNo, kind: DevKind, seat: SeatName, texts: &mut Texts)
+        requires ready { HasSlots texts.old.seats }
+        requires texts { HaveTexts texts.old self.old.trail }
+        requires room { Fits (add_device device kind seat) self.old }
+        ensures marked { self.new ≡ marked_by (add_device device kind seat) self.old }
+        ensures texts { HaveTexts texts.new self.new.trail }
+    {
+        match texts.seats.take() {
+            Some(slots) => self.add_device(device, kind, seat, slots),
+            None => unreachable!(),
+        }
+    }
+
     /// What happens to the machine.
     fn happen(&mut self, setup: &Setup, hardware: &Hardware, texts: &mut Texts)
         requires here { ExitsHere self.old.trail hardware.now }
         requires built { is_built_hardware hardware.now ≡ true }
+        requires ready { AreReadyToHappen hardware.now texts.old }
         requires texts { HaveTexts texts.old self.old.trail }
         requires room { Fits (happen setup.now hardware.now) self.old }
         ensures marked { self.new ≡ marked_by (happen setup.now hardware.now) self.old }
         ensures texts { HaveTexts texts.new self.new.trail }
     {
         match hardware {
+            Hardware::Add(device, kind, seat) => self.add_kept(*device, *kind, *seat, texts),
+            Hardware::Remove(device) => self.remove_device(*device, &mut texts.closing),
+            Hardware::Input(..) => {}
             Hardware::VtKey(vt) => self.request(*vt),
             Hardware::Exit(id) => self.exit_id(setup, id, texts),
             _ => unreachable!(),

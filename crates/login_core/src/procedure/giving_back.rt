@@ -43,7 +43,7 @@ impl Task<DevNo> for Revoke {
 #[tactic(auto, using(crate::proofs::Growing::growing))]
 impl Draft {
     /// The handle of a taken device is dead.
-    fn make_dead(&mut self, taken: Option<HandleNo>)
+    pub(crate) fn make_dead(&mut self, taken: Option<HandleNo>)
         requires room { Fits (kill (handle_fact taken)) self.old }
         ensures marked { self.new ≡ marked_by (kill (handle_fact taken)) self.old }
     {
@@ -74,7 +74,7 @@ impl Draft {
     }
 
     /// A device goes from a session, whose controller is told.
-    fn revoke(&mut self, session: SessId, device: DevNo)
+    pub(crate) fn revoke(&mut self, session: SessId, device: DevNo)
         requires room { Fits (revoke session device) self.old }
         ensures marked { self.new ≡ marked_by (revoke session device) self.old }
     {

@@ -1,4 +1,4 @@
-// How many there are of what needs room.
+// How many there are of what needs room or has a limit.
 
 ghost use Rattle.std.specs.Prelude.{◌≡◌, ◌+◌, ◌<◌, ◌≤◌, ◌^◌};
 ghost use Rattle.login_model.specs.Full.{marks_needed};
@@ -7,13 +7,15 @@ ghost use Rattle.login_core.specs.inner.Counts.{AreCounted, CanAllMove, Follow, 
 
 use login_model::{Fact, Key};
 
-/// How many there are of what needs room in the journal.
+/// How many there are of what needs room in the journal or has a limit.
 #[derive(Clone, Copy, Debug)]
 pub struct Counts {
     /// Clients that are connected.
     pub connections: u32,
     /// Sessions that some connection controls.
     pub controlled: u32,
+    /// Devices that are there.
+    pub devices: u32,
     /// Locks that stand.
     pub locks: u32,
     /// Sessions that are open.
@@ -47,6 +49,7 @@ impl Counts {
     pub const NONE: Counts = Counts {
         connections: 0,
         controlled: 0,
+        devices: 0,
         locks: 0,
         opened: 0,
         present: 0,
@@ -65,6 +68,10 @@ impl Counts {
             },
             Key::Ctl(_) => Counts {
                 controlled: one_if(fact.is_controlled()),
+                ..Counts::NONE
+            },
+            Key::Dev(_) => Counts {
+                devices: one_if(fact.is_device()),
                 ..Counts::NONE
             },
             Key::Lock(_) => Counts {
@@ -96,6 +103,7 @@ impl Counts {
         Counts {
             connections: moved(self.connections, lost.connections, gained.connections),
             controlled: moved(self.controlled, lost.controlled, gained.controlled),
+            devices: moved(self.devices, lost.devices, gained.devices),
             locks: moved(self.locks, lost.locks, gained.locks),
             opened: moved(self.opened, lost.opened, gained.opened),
             present: moved(self.present, lost.present, gained.present),

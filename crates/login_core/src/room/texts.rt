@@ -2,12 +2,13 @@
 
 ghost use Rattle.std.specs.Prelude.{◌≡◌, OnOk, IfOk, Some, None};
 ghost use Rattle.login_base.specs.declared.ids.SessId.{SessId as SessionId};
-ghost use Rattle.login_core.specs.Kept.{AreReady, AreFresh, copies_in};
+ghost use Rattle.login_core.specs.Kept.{AreReady, AreReadyToCall, AreReadyToHappen, AreFresh, copies_in};
 
 use crate::room::copies::{Copies, copies_of};
 use crate::room::kept::Spares;
+use crate::room::slots::SeatSlots;
 use login_base::NoMemory;
-use login_model::{Call, Creation, Event};
+use login_model::{Call, Creation, Event, Hardware};
 use std::alloc::Global;
 
 /// The texts of a session that is created, for its whole life.
@@ -18,13 +19,14 @@ pub struct FreshTexts {
     pub gone: Copies,
 }
 
-/// The copies with which open sessions close, those with which sessions go, and those of the session
-/// that is created next.
+/// The copies with which open sessions close, those with which sessions go, those of the session that is
+/// created next, and memory for the seat of the device that comes next.
 #[derive(Drop)]
 pub struct Texts {
     pub closing: Spares,
     pub gone: Spares,
     pub fresh: Option<FreshTexts>,
+    pub seats: Option<SeatSlots>,
 }
 
 /// The copies of a creation's texts.
@@ -51,22 +53,46 @@ impl Texts {
             closing: Spares::new(alloc),
             gone: Spares::new(alloc),
             fresh: None,
+            seats: None,
         }
     }
 
-    /// Makes the copies that an event needs.
+    /// Makes the copies that a call needs.
+    fn prepare_call(&mut self, alloc: Global, call: &Call) -> Result<(), NoMemory>
+        ensures ready { OnOk result (AreReadyToCall call.now self.new) }
+        ensures closing { self.new.closing.items ≡ self.old.closing.items }
+        ensures gone { self.new.gone.items ≡ self.old.gone.items }
+    {
+        if let Call::Create(creation) = call {
+            self.closing.reserve()?;
+            self.gone.reserve()?;
+            self.fresh = Some(fresh_of(alloc, creation)?);
+        }
+        Ok(())
+    }
+
+    /// Takes the memory that a hardware event needs.
+    fn prepare_hardware(&mut self, alloc: Global, hardware: &Hardware) -> Result<(), NoMemory>
+        ensures ready { OnOk result (AreReadyToHappen hardware.now self.new) }
+        ensures closing { self.new.closing.items ≡ self.old.closing.items }
+        ensures gone { self.new.gone.items ≡ self.old.gone.items }
+    {
+        if let Hardware::Add(..) = hardware {
+            self.seats = Some(SeatSlots::new(alloc)?);
+        }
+        Ok(())
+    }
+
+    /// Makes the copies that an event needs, and takes the memory of a seat.
     pub fn prepare(&mut self, alloc: Global, event: &Event) -> Result<(), NoMemory>
         ensures ready { OnOk result (AreReady event.now self.new) }
         ensures closing { self.new.closing.items ≡ self.old.closing.items }
         ensures gone { self.new.gone.items ≡ self.old.gone.items }
     {
-        if let Event::Call(request) = event {
-            if let Call::Create(creation) = &request.call {
-                self.closing.reserve()?;
-                self.gone.reserve()?;
-                self.fresh = Some(fresh_of(alloc, creation)?);
-            }
+        match event {
+            Event::Call(request) => self.prepare_call(alloc, &request.call),
+            Event::Hardware(hardware) => self.prepare_hardware(alloc, hardware),
+            _ => Ok(()),
         }
-        Ok(())
     }
 }

@@ -10,7 +10,7 @@ invariant_of-result c =
     let ms = c.new-2.result.items in
     let none : es ≡ [] = ap (λ j. j.items) c.of-2.ensures ∙ c.new.ensures in
     record {
-      stands = stand-start c.new-3.result es ms c.new-3.ensures none c.new-2.ensures;
+      stands = stand-start c.new-3.result es ms c.new-3.ensures.stands none c.new-2.ensures;
       seated = subst (AreSeated c.new-4.result) (sym (nothing-marked es ms none c.new-2.ensures)) c.new-4.ensures;
       counted = sym (none-start es ms none c.new-2.ensures);
       marks_fit = omega arith;

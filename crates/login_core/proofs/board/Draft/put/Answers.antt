@@ -23,7 +23,7 @@ note-requires c =
     let f = c.self.inside in
     let t = so_far f.journal.value.items f.marks.items in
     let other : same_fact (value d.trail c.args.key) c.args.fact ≡ false = ap (λ (f : Fact). same_fact f c.args.fact) (sym c.fact.ensures) ∙ sym c.is_same_fact.ensures ∙ c.if-is_same_fact.false in
-    let room = room-inside f.journal.value.items f.marks.items f.reach d c.self.view_is (one-more c.args.key c.args.fact d other c.requires.room) in
+    let room = room-inside f.journal.value.items f.marks.items f.facts f.reach d c.self.view_is (one-more c.args.key c.args.fact d other c.requires.room) in
     let numbered = c.self.invariant.numbered in
     seated-room f.seating c.args.key c.args.copy c.fact-2.result.now t c.self.invariant.seated (c.fact-2.ensures t c.self.invariant.stands) (omega arith)
 
@@ -32,7 +32,7 @@ set-requires-clause-spare c =
     let d = c.args.self.now in
     let f = c.self.inside in
     let other : same_fact (value d.trail c.args.key) c.args.fact ≡ false = ap (λ (f : Fact). same_fact f c.args.fact) (sym c.fact.ensures) ∙ sym c.is_same_fact.ensures ∙ c.if-is_same_fact.false in
-    let room = room-inside f.journal.value.items f.marks.items f.reach d c.self.view_is (one-more c.args.key c.args.fact d other c.requires.room) in
+    let room = room-inside f.journal.value.items f.marks.items f.facts f.reach d c.self.view_is (one-more c.args.key c.args.fact d other c.requires.room) in
     let counted = c.self.invariant.counted in
     let fit = c.self.invariant.facts_fit in
     omega arith
@@ -42,7 +42,7 @@ push-requires c =
     let d = c.args.self.now in
     let f = c.self.inside in
     let other : same_fact (value d.trail c.args.key) c.args.fact ≡ false = ap (λ (f : Fact). same_fact f c.args.fact) (sym c.fact.ensures) ∙ sym c.is_same_fact.ensures ∙ c.if-is_same_fact.false in
-    let room = room-inside f.journal.value.items f.marks.items f.reach d c.self.view_is (one-more c.args.key c.args.fact d other c.requires.room) in
+    let room = room-inside f.journal.value.items f.marks.items f.facts f.reach d c.self.view_is (one-more c.args.key c.args.fact d other c.requires.room) in
     let counted = c.self.invariant.counted in
     let fit = c.self.invariant.marks_fit in
     omega arith
@@ -54,7 +54,7 @@ invariant_of-self c =
     let es = f.journal.value.items in
     let ms = f.marks.items in
     let other : same_fact (value d.trail c.args.key) c.args.fact ≡ false = ap (λ (f : Fact). same_fact f c.args.fact) (sym c.fact.ensures) ∙ sym c.is_same_fact.ensures ∙ c.if-is_same_fact.false in
-    let room = room-inside es ms f.reach d c.self.view_is (one-more c.args.key c.args.fact d other c.requires.room) in
+    let room = room-inside es ms f.facts f.reach d c.self.view_is (one-more c.args.key c.args.fact d other c.requires.room) in
     let P : Fact → Type 0 = λ y. StandFor c.set.new.self (Set c.args.key y ∷ so_far es ms) in
     draft-more es f.marks c.push.new.self f.facts c.set.new.self f.seating c.note.new.self f.made f.reach (Set c.args.key c.args.fact) c.self.invariant room
     c.push.ensures.items c.push.ensures.spare (omega (arith, c.set.ensures.spare)) (subst P c.requires.copy (c.set.ensures.stands (so_far es ms) c.self.invariant.stands))
@@ -66,6 +66,7 @@ returns c =
     let f = c.self.inside in
     let other : same_fact (value d.trail c.args.key) c.args.fact ≡ false = ap (λ (f : Fact). same_fact f c.args.fact) (sym c.fact.ensures) ∙ sym c.is_same_fact.ensures ∙ c.if-is_same_fact.false in
     record {
-      marked = seen-more f.journal.value.items f.marks.items c.push.new.self.items f.reach (Set c.args.key c.args.fact) d c.self.view_is c.push.ensures.items
+      marked = seen-more f.journal.value.items f.marks.items c.push.new.self.items f.facts c.set.new.self f.reach (Set c.args.key c.args.fact) d c.self.view_is
+          c.push.ensures.items c.set.ensures.ears c.set.ensures.rings
           ∙ ap (with_trail d) (sym (put-other c.args.key c.args.fact d.trail other));
     }

@@ -1,4 +1,4 @@
-use Rattle.std.proofs.Common.{arith}
+use Rattle.std.proofs.Common.{arith, refl}
 use Rattle.login_model.specs.declared.mark.Mark.TheVariants.{Say}
 use Rattle.login_core.specs.inner.UnderWay.{so_far}
 use Rattle.login_core.proofs.Standing.{stand-say}
@@ -9,7 +9,7 @@ use Rattle.login_core.proofs.board.Draft.tell.Goals as goal
 pub push-requires : goal.push-requires
 push-requires c =
     let f = c.self.inside in
-    let room = room-inside f.journal.value.items f.marks.items f.reach c.args.self.now c.self.view_is (said-room c.args.whom c.args.notice c.args.self.now c.requires.room) in
+    let room = room-inside f.journal.value.items f.marks.items f.facts f.reach c.args.self.now c.self.view_is (said-room c.args.whom c.args.notice c.args.self.now c.requires.room) in
     let counted = c.self.invariant.counted in
     let fit = c.self.invariant.marks_fit in
     omega arith
@@ -19,7 +19,7 @@ invariant_of-self c =
     let f = c.self.inside in
     let es = f.journal.value.items in
     let ms = f.marks.items in
-    let room = room-inside es ms f.reach c.args.self.now c.self.view_is (said-room c.args.whom c.args.notice c.args.self.now c.requires.room) in
+    let room = room-inside es ms f.facts f.reach c.args.self.now c.self.view_is (said-room c.args.whom c.args.notice c.args.self.now c.requires.room) in
     draft-more es f.marks c.push.new.self f.facts f.facts f.seating f.seating f.made f.reach (Say c.args.whom c.args.notice) c.self.invariant room
     c.push.ensures.items c.push.ensures.spare (omega arith) (stand-say f.facts (so_far es ms) c.args.whom c.args.notice c.self.invariant.stands)
     (seated-say f.seating c.args.whom c.args.notice (so_far es ms) c.self.invariant.seated)
@@ -27,4 +27,4 @@ invariant_of-self c =
 pub returns : goal.returns
 returns c =
     let f = c.self.inside in
-    record { marked = seen-more f.journal.value.items f.marks.items c.push.new.self.items f.reach (Say c.args.whom c.args.notice) c.args.self.now c.self.view_is c.push.ensures.items }
+    record { marked = seen-more f.journal.value.items f.marks.items c.push.new.self.items f.facts f.facts f.reach (Say c.args.whom c.args.notice) c.args.self.now c.self.view_is c.push.ensures.items refl refl }

@@ -1,14 +1,18 @@
-use Rattle.std.proofs.Common.{◌≡◌, ◌+◌, ◌∙◌, List, ap, sym, arith}
+use Rattle.std.proofs.Common.{◌≡◌, ◌+◌, ◌∙◌, List, ap, sym, subst, arith}
 use Rattle.login_model.specs.Full.{connected_after, full, mark_count, marks_needed}
-use Rattle.login_model.specs.Legal.{answered, trail_of}
+use Rattle.login_model.specs.Legal.{IsLegal, answered, trail_of}
 use Rattle.login_model.specs.Policy.{verdict}
+use Rattle.login_model.specs.Trail.{Trail}
 use Rattle.login_model.specs.declared.rule.Verdict.{Verdict}
 use Rattle.login_model.specs.declared.mark.Entry.{Entry}
 use Rattle.login_laws.proofs.RoomLaws.{room}
+use Rattle.login_core.specs.inner.Counts.{AreCounted}
+use Rattle.login_core.specs.inner.Draft.{DraftState}
 use Rattle.login_core.specs.State.{CoreState}
+use Rattle.login_core.proofs.CountedLaws.{legal-holders}
 use Rattle.login_core.proofs.Entries.{marks-counted}
 use Rattle.login_core.proofs.Keeping.{small}
-use Rattle.login_core.proofs.Stepping.{has-answer, seen}
+use Rattle.login_core.proofs.PairLaws.{pairs-taken}
 use Rattle.login_core.proofs.state.Core.make_ready.Goals as goal
 
 pub overflow_cast-reach : goal.overflow_cast-reach
@@ -43,11 +47,19 @@ returns-clause-ready c =
     let counted = marks-counted es in
     let entries = c.in_ok-reserve.ensures.entries in
     let far = c.in_ok-reserve.ensures.reach in
+    let P : Trail → Type 0 = AreCounted c.counts-taken.result in
+    let Q : List Entry → Type 0 = IsLegal U in
+    let legal = subst Q (sym c.reserve.ensures.items) c.self.invariant.legal in
+    let trail = c.reserve.ensures.trail ∙ c.self.invariant.no_marks ∙ ap trail_of (sym c.reserve.ensures.items) in
+    let taken = (subst P trail c.counts-taken.ensures).taken ∙ pairs-taken (trail_of es) (legal-holders U es legal) in
+    let rings = c.in_ok-make_rings.ensures in
+    let same = ap (λ (d : DraftState). d.reach) c.make_rings.ensures.rest in
     record {
       entries = omega arith;
       reach = omega arith;
+      rings = omega arith;
       small = (λ i. full (sym setup i) (sym journal i) e) ∙ c.requires.small;
       texts = c.in_ok-prepare.ensures.ready;
       judged = judged;
-      answer = has-answer (seen U c.reserve.new.self c.prepare.new.self (record { verdict = c.args.verdict; answer = c.in_ok-answer.answer })) e (c.in_ok-answer.ensures ∙ ap (λ (v : Verdict). answered U v e es) judged);
+      answer = c.in_ok-answer.ensures ∙ ap (λ (v : Verdict). answered U v e es) judged;
     }

@@ -1,10 +1,11 @@
 use Rattle.std.proofs.Common.{◌≡◌, true, ◌≤◌, ◌∙◌, ◌∷◌, ◌++◌, [], List, Option, ℕ, sym, ap, subst, refl, arith, length}
-use Rattle.login_model.specs.Legal.{IsLegal, IsPlaced, stepped}
+use Rattle.login_base.specs.declared.ids.HandleNo.{HandleNo}
+use Rattle.login_model.specs.Legal.{IsLegal, IsPlaced, stepped, trail_of}
 use Rattle.login_model.specs.Policy.{verdict}
 use Rattle.login_laws.specs.Quiet.{IsQuiet}
 use Rattle.login_laws.specs.Sound.{IsSound}
 use Rattle.login_model.specs.Built.{is_built}
-use Rattle.login_model.specs.Trail.{Trail}
+use Rattle.login_model.specs.Trail.{Trail, after}
 use Rattle.login_model.specs.declared.answer.Answer.{Answer}
 use Rattle.login_model.specs.declared.event.Event.{Event}
 use Rattle.login_model.specs.declared.mark.Entry.{Entry}
@@ -13,7 +14,12 @@ use Rattle.login_model.specs.declared.setup.Setup.{Setup}
 use Rattle.login_model.specs.declared.rule.Verdict.{Verdict}
 use Rattle.login_laws.proofs.SoundLaws.{sound-journal}
 use Rattle.login_laws.proofs.LawfulLaws.{legal-is-lawful}
-use Rattle.login_core.specs.inner.Draft.{DraftState, marked_by}
+use Rattle.device_model.specs.Ears.{heard_of}
+use Rattle.device_model.specs.declared.ears.Ear.{Ear}
+use Rattle.login_laws.specs.Hearing.{heard_behind}
+use Rattle.login_core.specs.inner.Board.{IsBegun}
+use Rattle.login_core.specs.inner.Draft.{DraftState, marked_by, with_ears}
+use Rattle.login_core.specs.inner.Ears.{AreEnough, ListenLive, ring_count}
 use Rattle.login_core.specs.inner.Inside.{IsCore}
 use Rattle.login_core.specs.Kept.{HaveTexts}
 use Rattle.login_core.specs.inner.UnderWay.{so_far, entry_of}
@@ -21,13 +27,14 @@ use Rattle.login_core.specs.State.{CoreState, IsReady, answer_next, stop_next}
 use Rattle.login_core.specs.declared.board.Board.{Board}
 use Rattle.login_core.specs.declared.room.ready.Ready.{Ready}
 use Rattle.login_core.specs.declared.room.texts.Texts.{Texts}
-use Rattle.login_core.proofs.Entries.{Steps, begun-marked, last-is, legal-closed}
+use Rattle.login_core.proofs.Entries.{Steps, begun-marked, last-is, legal-closed, so_far-is}
 use Rattle.login_core.proofs.Growing.{trails}
 use Rattle.login_core.proofs.Judged.{judged-inside, ready-judged}
-use Rattle.login_core.proofs.Stepping.{Stepping, answered-next, core-closed, has-entry, ready-texts, stays-within}
+use Rattle.login_core.proofs.Listeners.{are-enough, listen-live, stepped-between}
+use Rattle.login_core.proofs.Stepping.{HearsOn, Stepping, answered-next, core-closed, has-entry, ready-texts, seen, stays-within, taken-step}
 use Rattle.login_core.proofs.state.Core.step.Goals as goal
 
-stepping : (U : Setup) (m : Board) (x : Texts) (a : Ready) (stop : Option ℕ) (now : CoreState) (e : Event) (v : Verdict) → IsCore U m x stop → record { setup = U; journal = m.journal.items; entries = m.journal.entries; reach = m.draft.reach; texts = x; ready = a } ≡ now
+stepping : (U : Setup) (m : Board) (x : Texts) (a : Ready) (stop : Option ℕ) (now : CoreState) (e : Event) (v : Verdict) → IsCore U m x stop → seen U m x a ≡ now
     → IsPlaced now.journal e → IsReady now e → is_built e ≡ true → v ≡ verdict U m.draft.trail e → Stepping U m x a stop e v
 stepping U m x a stop now e v k w p r b h =
     let P : CoreState → Type 0 = λ s. IsPlaced s.journal e in
@@ -77,9 +84,31 @@ perform-requires-clause-room c =
     let P : Trail → Type 0 = λ t. length (stepped U v c.args.event t) ≤ m.draft.reach in
     subst P (sym c.self.invariant.no_marks) (stays-within U m c.self.inside.texts c.self.inside.ready c.self.inside.stop c.args.event v s)
 
+pub settle_ears-requires-clause-live : goal.settle_ears-requires-clause-live
+settle_ears-requires-clause-live c =
+    let m = c.self.inside.board in
+    let P : DraftState → Type 0 = λ d. ListenLive d.ears d.before in
+    let Q : Trail → Type 0 = ListenLive m.draft.ears in
+    subst P (sym c.perform.ensures.marked) (subst Q (sym c.self.invariant.begun.before) (listen-live m.journal.items m.draft.ears m.draft.rings c.self.invariant.ears))
+
+pub settle_ears-requires-clause-enough : goal.settle_ears-requires-clause-enough
+settle_ears-requires-clause-enough c =
+    let U = c.self.inside.setup in
+    let m = c.self.inside.board in
+    let e = c.args.event in
+    let v = c.verdict_for-verdict.result in
+    let rings = ring_count m.draft.ears m.draft.rings in
+    let s = stepping U m c.self.inside.texts c.self.inside.ready c.self.inside.stop c.args.self.now e v c.self.invariant c.self.view_is c.requires.placed c.requires.ready c.requires.placed.2 c.verdict_for-verdict.ensures in
+    let P : DraftState → Type 0 = λ d. AreEnough (ring_count d.ears d.rings) d.trail in
+    let Q : Trail → Type 0 = λ t. AreEnough rings (stepped U v e t) in
+    let between = stepped-between U m.journal.items e v s.verdict_is s.placed s.sound in
+    let taken = taken-step U m c.self.inside.texts c.self.inside.ready c.self.inside.stop e v s in
+    subst P (sym c.perform.ensures.marked) (subst Q (sym c.self.invariant.no_marks) (are-enough U (stepped U v e (trail_of m.journal.items)) rings between taken))
+
 pub close_entry-requires-clause-begun : goal.close_entry-requires-clause-begun
 close_entry-requires-clause-begun c =
-    begun-marked (stepped c.self.inside.setup c.verdict_for-verdict.result c.args.event) c.self.inside.board c.perform.new.self c.perform.ensures.marked c.self.invariant.begun
+    let d = c.settle_ears.new.self in
+    begun-marked (stepped c.self.inside.setup c.verdict_for-verdict.result c.args.event) c.self.inside.board d (c.settle_ears.ensures.rest ∙ ap (with_ears d.ears d.rings) c.perform.ensures.marked) c.self.invariant.begun
 
 pub close_entry-requires-clause-entries : goal.close_entry-requires-clause-entries
 close_entry-requires-clause-entries c =
@@ -90,14 +119,30 @@ close_entry-requires-clause-entries c =
     has-entry U m c.self.inside.texts c.self.inside.ready c.self.inside.stop c.args.event v s
 
 -- the entry that is closed
-steps : (U : Setup) (m : Board) (d : DraftState) (x : Texts) (ready : Ready) (a : Answer) (stop : Option ℕ) (e : Event) (v : Verdict) (ms : List Mark) → Stepping U m x ready stop e v → a ≡ answer_next e ready.answer → d ≡ marked_by (stepped U v e) m.draft
-    → so_far m.journal.items ms ≡ d.trail → Steps U m.journal.items e v a ms
+steps : (U : Setup) (m : Board) (d : DraftState) (x : Texts) (ready : Ready) (a : Answer) (stop : Option ℕ) (e : Event) (v : Verdict) (ms : List Mark) → Stepping U m x ready stop e v → a ≡ answer_next e ready.answer
+    → d.trail ≡ stepped U v e m.draft.trail → so_far m.journal.items ms ≡ d.trail → Steps U m.journal.items e v a ms
 steps U m d x ready a stop e v ms s h k made = record {
   placed = s.placed;
   verdict_is = s.verdict_is;
   answer_is = h ∙ answered-next U m x ready stop e v s;
-  marks_are = made ∙ trails k ∙ ap (stepped U v e) s.core.no_marks;
+  marks_are = made ∙ k ∙ ap (stepped U v e) s.core.no_marks;
 }
+
+-- what handles have heard behind it, after its marks were made and what is heard was settled
+hears-on : (U : Setup) (m n : Board) (p d : DraftState) (e : Event) (v : Verdict) (ms : List Mark) → IsBegun m → m.draft.trail ≡ trail_of m.journal.items → p ≡ marked_by (stepped U v e) m.draft → d ≡ with_ears d.ears d.rings p
+    → so_far m.journal.items ms ≡ d.trail → ((xs : List Mark) → after p.before xs ≡ p.trail → (h : HandleNo) → heard_of d.ears h ≡ heard_behind h e v xs p.trail (heard_of p.ears h))
+    → ring_count d.ears d.rings ≡ ring_count p.ears p.rings → n.draft.ears ≡ d.ears → n.draft.rings ≡ d.rings → HearsOn m n e v ms (stepped U v e (trail_of m.journal.items))
+hears-on U m n p d e v ms b none marked rest made heard rings ears_are rings_are =
+    let before : p.before ≡ trail_of m.journal.items = ap (λ (x : DraftState). x.before) marked ∙ b.before in
+    let trail : p.trail ≡ stepped U v e (trail_of m.journal.items) = trails marked ∙ ap (stepped U v e) none in
+    let all = ap (λ (t : Trail). after t ms) before ∙ sym (so_far-is m.journal.items ms) ∙ made ∙ trails rest in
+    record {
+      heard = λ h. ap (λ (xs : List Ear). heard_of xs h) ears_are
+          ∙ heard ms all h
+          ∙ ap (λ (t : Trail). heard_behind h e v ms t (heard_of p.ears h)) trail
+          ∙ ap (λ (x : DraftState). heard_behind h e v ms (stepped U v e (trail_of m.journal.items)) (heard_of x.ears h)) marked;
+      rings = (λ i. ring_count (ears_are i) (rings_are i)) ∙ rings ∙ ap (λ (x : DraftState). ring_count x.ears x.rings) marked;
+    }
 
 pub invariant_of-self : goal.invariant_of-self
 invariant_of-self c =
@@ -111,15 +156,19 @@ invariant_of-self c =
     let stop = c.self.inside.stop in
     let closes = c.close_entry.ensures.closes in
     let s = stepping U m x a stop c.args.self.now e v c.self.invariant c.self.view_is c.requires.placed c.requires.ready c.requires.placed.2 c.verdict_for-verdict.ensures in
-    let w = steps U m c.perform.new.self x a b stop e v closes.marks s c.answer_for-answer.ensures c.perform.ensures.marked closes.made in
+    let d = c.settle_ears.new.self in
+    let settle = c.settle_ears.ensures in
+    let close = c.close_entry.ensures in
+    let w = steps U m d x a b stop e v closes.marks s c.answer_for-answer.ensures (trails settle.rest ∙ trails c.perform.ensures.marked) closes.made in
+    let hears = hears-on U m c.close_entry.new.self c.perform.new.self d e v closes.marks c.self.invariant.begun c.self.invariant.no_marks c.perform.ensures.marked settle.rest closes.made settle.heard settle.rings close.ears close.rings in
     let P : Trail → Type 0 = λ t. HaveTexts c.perform.new.texts (stepped U v e t) in
     let Q : Trail → Type 0 = HaveTexts c.perform.new.texts in
     let len = ap length c.journal.ensures in
     let value = c.len.ensures.value in
     let few = c.self.invariant.few_entries in
     core-closed U m c.close_entry.new.self x c.perform.new.texts a b stop c.stop_after-self-inside.result e v closes.marks s w
-    closes.entry c.close_entry.ensures.no_marks c.close_entry.ensures.begun c.close_entry.ensures.entries (c.close_entry.ensures.reach ∙ ap (λ (d : DraftState). d.reach) c.perform.ensures.marked)
-    (c.stop_after-self-inside.ensures ∙ ap (stop_next stop e) (omega arith)) (subst P c.self.invariant.no_marks (subst Q (trails c.perform.ensures.marked) c.perform.ensures.texts))
+    closes.entry close.no_marks close.begun close.entries (close.reach ∙ ap (λ (y : DraftState). y.reach) settle.rest ∙ ap (λ (y : DraftState). y.reach) c.perform.ensures.marked)
+    (c.stop_after-self-inside.ensures ∙ ap (stop_next stop e) (omega arith)) (subst P c.self.invariant.no_marks (subst Q (trails c.perform.ensures.marked) c.perform.ensures.texts)) hears
 
 pub returns : goal.returns
 returns c =
@@ -134,7 +183,7 @@ returns c =
     let closes = c.close_entry.ensures.closes in
     let ms = closes.marks in
     let s = stepping U m x a stop old c.args.event v c.self.invariant c.self.view_is c.requires.placed c.requires.ready c.requires.placed.2 c.verdict_for-verdict.ensures in
-    let w = steps U m c.perform.new.self x a b stop c.args.event v ms s c.answer_for-answer.ensures c.perform.ensures.marked closes.made in
+    let w = steps U m c.settle_ears.new.self x a b stop c.args.event v ms s c.answer_for-answer.ensures (trails c.settle_ears.ensures.rest ∙ trails c.perform.ensures.marked) closes.made in
     let e : Entry = entry_of c.args.event v b ms in
     let is : c.entry.result.now ≡ e = last-is m.journal.items c.journal-journal.result.now.items e c.entry.result.now c.len-2.result (c.journal-journal.ensures ∙ closes.entry) c.len-2.ensures.value c.entry.ensures in
     let P : CoreState → Type 0 = λ q. IsLegal q.setup (q.journal ++ e ∷ []) in

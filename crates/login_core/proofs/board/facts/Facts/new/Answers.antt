@@ -11,11 +11,11 @@ use Rattle.login_core.proofs.board.facts.Facts.new.Goals as goal
 none : {rows : Trail} → rows ≡ [] → (k : Key) → value rows k ≡ value [] k
 none e k = ap (λ (t : Trail). value t k) e
 
-pub returns : goal.returns
-returns c =
-    let f : Tables = record { users = c.new.result.trail; sessions = c.new-2.result.trail; seats = c.new-3.result.trail; takes = c.new-4.result.trail; connections = c.new-5.result.trail; controls = c.new-6.result.trail; owners = c.new-7.result.trail; lives = c.new-8.result.trail; others = c.new-9.result.trail; counts = record { connections = 0; controlled = 0; locks = 0; opened = 0; present = 0; taken = 0; users = 0 }; session = 1; handle = 1; spare = 0 } in
+pub returns-clause-stands : goal.returns-clause-stands
+returns-clause-stands c =
+    let f : Tables = record { users = c.new.result.trail; sessions = c.new-2.result.trail; seats = c.new-3.result.trail; devices = c.new-4.result.trail; controls = c.new-5.result.trail; takes = c.new-6.result.trail; others = c.new-7.result.trail; ears = c.new-4.result.ears; rings = c.new-4.result.rings; counts = record { connections = 0; controlled = 0; devices = 0; locks = 0; opened = 0; present = 0; taken = 0; users = 0 }; session = 1; handle = 1; spare = 0 } in
     closed f [] (record {
-      facts = all-stand f [] c.new.ensures c.new-2.ensures c.new-3.ensures (none c.new-4.ensures) (none c.new-5.ensures) (none c.new-6.ensures) (none c.new-7.ensures) (none c.new-8.ensures) (none c.new-9.ensures);
+      facts = all-stand f [] c.new.ensures c.new-2.ensures c.new-3.ensures c.new-4.ensures.stands c.new-5.ensures c.new-6.ensures (none c.new-7.ensures);
       counts = counted-none;
       session = sym sessions-none;
       handle = sym handles-none;

@@ -3,13 +3,14 @@ use Rattle.login_model.specs.declared.fact.Key.{Key}
 use Rattle.login_model.specs.declared.fact.Fact.{Fact}
 use Rattle.login_model.specs.Fresh.{fresh_session, fresh_handle}
 use Rattle.login_model.specs.Trail.{value}
-use Rattle.login_core.specs.declared.board.home.Home.TheVariants.{Users, Sessions, Seats, Takes, Connections, Controls, Owners, Lives, Others}
+use Rattle.login_core.specs.declared.board.home.Home.TheVariants.{Users, Sessions, Seats, Devices, Controls, Takes, Others}
+use Rattle.login_core.specs.declared.board.facts.Facts.TheInside.{Inside}
 use Rattle.login_core.specs.declared.room.counts.Counts.{Counts}
 use Rattle.login_core.specs.inner.Counts.{CanAllMove, Follow, counts_of}
 use Rattle.login_core.specs.inner.Facts.{Tables, StandFor, opens}
 use Rattle.login_core.proofs.CountedLaws.{counted-fit}
 use Rattle.login_core.proofs.Counting.{opens-bound, gives-bound, sessions-bound, handles-bound}
-use Rattle.login_core.proofs.Placed.{Moves, Places, stands-placed, but-users, but-sessions, but-seats, but-takes, but-connections, but-controls, but-owners, but-lives, but-others}
+use Rattle.login_core.proofs.Placed.{Moves, Places, stands-placed, but-users, but-sessions, but-seats, but-devices, but-controls, but-takes, but-others}
 use Rattle.login_core.proofs.Standing.{opened}
 use Rattle.login_core.proofs.board.facts.Facts.set.Goals as goal
 
@@ -24,6 +25,24 @@ follow n lost gained m k x y v l e g h =
     let P : Counts → Type 0 = λ a. Follow n a gained m in
     let Q : Counts → Type 0 = λ a. Follow n (counts_of k v) a m in
     subst Q g (subst P (l ∙ ap (counts_of k) e) h)
+
+-- what facts of these parts are seen as
+abbrev tables_of : Inside → Tables
+tables_of f = record {
+  users = f.users.trail;
+  sessions = f.sessions.trail;
+  seats = f.seats.trail;
+  devices = f.devices.trail;
+  controls = f.controls.trail;
+  takes = f.takes.trail;
+  others = f.others.trail;
+  ears = f.devices.ears;
+  rings = f.devices.rings;
+  counts = f.counts;
+  session = f.session;
+  handle = f.handle;
+  spare = f.spare;
+}
 
 pub moved-self-inside-requires : goal.moved-self-inside-requires
 moved-self-inside-requires c =
@@ -63,7 +82,7 @@ returns-in-Users-clause-stands c = λ t s.
     let P : Tables → Type 0 = λ f. StandFor f t in
     let k = c.args.key in
     let x = c.args.fact in
-    let f : Tables = record { users = c.self.inside.users.trail; sessions = c.self.inside.sessions.trail; seats = c.self.inside.seats.trail; takes = c.self.inside.takes.trail; connections = c.self.inside.connections.trail; controls = c.self.inside.controls.trail; owners = c.self.inside.owners.trail; lives = c.self.inside.lives.trail; others = c.self.inside.others.trail; counts = c.self.inside.counts; session = c.self.inside.session; handle = c.self.inside.handle; spare = c.self.inside.spare } in
+    let f = tables_of c.self.inside in
     let rows = c.set.new.self.trail in
     let counts = c.moved-self-inside.result in
     let session = c.self.inside.session + c.of-gained.result.opened in
@@ -83,7 +102,7 @@ returns-in-Sessions-clause-stands c = λ t s.
     let P : Tables → Type 0 = λ f. StandFor f t in
     let k = c.args.key in
     let x = c.args.fact in
-    let f : Tables = record { users = c.self.inside.users.trail; sessions = c.self.inside.sessions.trail; seats = c.self.inside.seats.trail; takes = c.self.inside.takes.trail; connections = c.self.inside.connections.trail; controls = c.self.inside.controls.trail; owners = c.self.inside.owners.trail; lives = c.self.inside.lives.trail; others = c.self.inside.others.trail; counts = c.self.inside.counts; session = c.self.inside.session; handle = c.self.inside.handle; spare = c.self.inside.spare } in
+    let f = tables_of c.self.inside in
     let rows = c.set-in-Sessions.new.self.trail in
     let counts = c.moved-self-inside.result in
     let session = c.self.inside.session + c.of-gained.result.opened in
@@ -103,7 +122,7 @@ returns-in-Seats-clause-stands c = λ t s.
     let P : Tables → Type 0 = λ f. StandFor f t in
     let k = c.args.key in
     let x = c.args.fact in
-    let f : Tables = record { users = c.self.inside.users.trail; sessions = c.self.inside.sessions.trail; seats = c.self.inside.seats.trail; takes = c.self.inside.takes.trail; connections = c.self.inside.connections.trail; controls = c.self.inside.controls.trail; owners = c.self.inside.owners.trail; lives = c.self.inside.lives.trail; others = c.self.inside.others.trail; counts = c.self.inside.counts; session = c.self.inside.session; handle = c.self.inside.handle; spare = c.self.inside.spare } in
+    let f = tables_of c.self.inside in
     let rows = c.set-in-Seats.new.self.trail in
     let counts = c.moved-self-inside.result in
     let session = c.self.inside.session + c.of-gained.result.opened in
@@ -118,52 +137,34 @@ returns-in-Seats-clause-stands c = λ t s.
     } in
     stands-placed f g k x Seats t places moves (subst P (sym c.self.view_is) s)
 
-pub returns-in-Takes-clause-stands : goal.returns-in-Takes-clause-stands
-returns-in-Takes-clause-stands c = λ t s.
+pub returns-in-Devices-clause-stands : goal.returns-in-Devices-clause-stands
+returns-in-Devices-clause-stands c = λ t s.
     let P : Tables → Type 0 = λ f. StandFor f t in
     let k = c.args.key in
     let x = c.args.fact in
-    let f : Tables = record { users = c.self.inside.users.trail; sessions = c.self.inside.sessions.trail; seats = c.self.inside.seats.trail; takes = c.self.inside.takes.trail; connections = c.self.inside.connections.trail; controls = c.self.inside.controls.trail; owners = c.self.inside.owners.trail; lives = c.self.inside.lives.trail; others = c.self.inside.others.trail; counts = c.self.inside.counts; session = c.self.inside.session; handle = c.self.inside.handle; spare = c.self.inside.spare } in
-    let rows = c.set-in-Takes.new.self.trail in
+    let f = tables_of c.self.inside in
+    let rows = c.set-in-Devices.new.self.trail in
+    let ears = c.set-in-Devices.new.self.ears in
+    let rings = c.set-in-Devices.new.self.rings in
     let counts = c.moved-self-inside.result in
     let session = c.self.inside.session + c.of-gained.result.opened in
     let handle = c.self.inside.handle + c.given.result in
     let spare = c.self.inside.spare - 1 in
-    let g : Tables = record f { takes = rows; counts = counts; session = session; handle = handle; spare = spare } in
-    let places : Places f g k x Takes = record { at_home = sym c.of.ensures ∙ c.in-Takes.is; set = c.set-in-Takes.ensures.facts; stays = but-takes f rows counts session handle spare } in
+    let g : Tables = record f { devices = rows; ears = ears; rings = rings; counts = counts; session = session; handle = handle; spare = spare } in
+    let places : Places f g k x Devices = record { at_home = sym c.of.ensures ∙ c.in-Devices.is; set = c.set-in-Devices.ensures.facts; stays = but-devices f rows ears rings counts session handle spare } in
     let moves : Moves f g k x t = record {
       counts = follow c.self.inside.counts c.of-lost.result c.of-gained.result counts k x c.fact.result.now (value t k) c.of-lost.ensures (c.fact.ensures t s) c.of-gained.ensures c.moved-self-inside.ensures;
       session = ap (λ (n : Counts). c.self.inside.session + n.opened) c.of-gained.ensures;
       handle = ap (λ (n : ℕ). c.self.inside.handle + n) c.given.ensures;
     } in
-    stands-placed f g k x Takes t places moves (subst P (sym c.self.view_is) s)
-
-pub returns-in-Connections-clause-stands : goal.returns-in-Connections-clause-stands
-returns-in-Connections-clause-stands c = λ t s.
-    let P : Tables → Type 0 = λ f. StandFor f t in
-    let k = c.args.key in
-    let x = c.args.fact in
-    let f : Tables = record { users = c.self.inside.users.trail; sessions = c.self.inside.sessions.trail; seats = c.self.inside.seats.trail; takes = c.self.inside.takes.trail; connections = c.self.inside.connections.trail; controls = c.self.inside.controls.trail; owners = c.self.inside.owners.trail; lives = c.self.inside.lives.trail; others = c.self.inside.others.trail; counts = c.self.inside.counts; session = c.self.inside.session; handle = c.self.inside.handle; spare = c.self.inside.spare } in
-    let rows = c.set-in-Connections.new.self.trail in
-    let counts = c.moved-self-inside.result in
-    let session = c.self.inside.session + c.of-gained.result.opened in
-    let handle = c.self.inside.handle + c.given.result in
-    let spare = c.self.inside.spare - 1 in
-    let g : Tables = record f { connections = rows; counts = counts; session = session; handle = handle; spare = spare } in
-    let places : Places f g k x Connections = record { at_home = sym c.of.ensures ∙ c.in-Connections.is; set = c.set-in-Connections.ensures.facts; stays = but-connections f rows counts session handle spare } in
-    let moves : Moves f g k x t = record {
-      counts = follow c.self.inside.counts c.of-lost.result c.of-gained.result counts k x c.fact.result.now (value t k) c.of-lost.ensures (c.fact.ensures t s) c.of-gained.ensures c.moved-self-inside.ensures;
-      session = ap (λ (n : Counts). c.self.inside.session + n.opened) c.of-gained.ensures;
-      handle = ap (λ (n : ℕ). c.self.inside.handle + n) c.given.ensures;
-    } in
-    stands-placed f g k x Connections t places moves (subst P (sym c.self.view_is) s)
+    stands-placed f g k x Devices t places moves (subst P (sym c.self.view_is) s)
 
 pub returns-in-Controls-clause-stands : goal.returns-in-Controls-clause-stands
 returns-in-Controls-clause-stands c = λ t s.
     let P : Tables → Type 0 = λ f. StandFor f t in
     let k = c.args.key in
     let x = c.args.fact in
-    let f : Tables = record { users = c.self.inside.users.trail; sessions = c.self.inside.sessions.trail; seats = c.self.inside.seats.trail; takes = c.self.inside.takes.trail; connections = c.self.inside.connections.trail; controls = c.self.inside.controls.trail; owners = c.self.inside.owners.trail; lives = c.self.inside.lives.trail; others = c.self.inside.others.trail; counts = c.self.inside.counts; session = c.self.inside.session; handle = c.self.inside.handle; spare = c.self.inside.spare } in
+    let f = tables_of c.self.inside in
     let rows = c.set-in-Controls.new.self.trail in
     let counts = c.moved-self-inside.result in
     let session = c.self.inside.session + c.of-gained.result.opened in
@@ -178,52 +179,32 @@ returns-in-Controls-clause-stands c = λ t s.
     } in
     stands-placed f g k x Controls t places moves (subst P (sym c.self.view_is) s)
 
-pub returns-in-Owners-clause-stands : goal.returns-in-Owners-clause-stands
-returns-in-Owners-clause-stands c = λ t s.
+pub returns-in-Takes-clause-stands : goal.returns-in-Takes-clause-stands
+returns-in-Takes-clause-stands c = λ t s.
     let P : Tables → Type 0 = λ f. StandFor f t in
     let k = c.args.key in
     let x = c.args.fact in
-    let f : Tables = record { users = c.self.inside.users.trail; sessions = c.self.inside.sessions.trail; seats = c.self.inside.seats.trail; takes = c.self.inside.takes.trail; connections = c.self.inside.connections.trail; controls = c.self.inside.controls.trail; owners = c.self.inside.owners.trail; lives = c.self.inside.lives.trail; others = c.self.inside.others.trail; counts = c.self.inside.counts; session = c.self.inside.session; handle = c.self.inside.handle; spare = c.self.inside.spare } in
-    let rows = c.set-in-Owners.new.self.trail in
+    let f = tables_of c.self.inside in
+    let rows = c.set-in-Takes.new.self.trail in
     let counts = c.moved-self-inside.result in
     let session = c.self.inside.session + c.of-gained.result.opened in
     let handle = c.self.inside.handle + c.given.result in
     let spare = c.self.inside.spare - 1 in
-    let g : Tables = record f { owners = rows; counts = counts; session = session; handle = handle; spare = spare } in
-    let places : Places f g k x Owners = record { at_home = sym c.of.ensures ∙ c.in-Owners.is; set = c.set-in-Owners.ensures.facts; stays = but-owners f rows counts session handle spare } in
+    let g : Tables = record f { takes = rows; counts = counts; session = session; handle = handle; spare = spare } in
+    let places : Places f g k x Takes = record { at_home = sym c.of.ensures ∙ c.in-Takes.is; set = c.set-in-Takes.ensures.facts; stays = but-takes f rows counts session handle spare } in
     let moves : Moves f g k x t = record {
       counts = follow c.self.inside.counts c.of-lost.result c.of-gained.result counts k x c.fact.result.now (value t k) c.of-lost.ensures (c.fact.ensures t s) c.of-gained.ensures c.moved-self-inside.ensures;
       session = ap (λ (n : Counts). c.self.inside.session + n.opened) c.of-gained.ensures;
       handle = ap (λ (n : ℕ). c.self.inside.handle + n) c.given.ensures;
     } in
-    stands-placed f g k x Owners t places moves (subst P (sym c.self.view_is) s)
-
-pub returns-in-Lives-clause-stands : goal.returns-in-Lives-clause-stands
-returns-in-Lives-clause-stands c = λ t s.
-    let P : Tables → Type 0 = λ f. StandFor f t in
-    let k = c.args.key in
-    let x = c.args.fact in
-    let f : Tables = record { users = c.self.inside.users.trail; sessions = c.self.inside.sessions.trail; seats = c.self.inside.seats.trail; takes = c.self.inside.takes.trail; connections = c.self.inside.connections.trail; controls = c.self.inside.controls.trail; owners = c.self.inside.owners.trail; lives = c.self.inside.lives.trail; others = c.self.inside.others.trail; counts = c.self.inside.counts; session = c.self.inside.session; handle = c.self.inside.handle; spare = c.self.inside.spare } in
-    let rows = c.set-in-Lives.new.self.trail in
-    let counts = c.moved-self-inside.result in
-    let session = c.self.inside.session + c.of-gained.result.opened in
-    let handle = c.self.inside.handle + c.given.result in
-    let spare = c.self.inside.spare - 1 in
-    let g : Tables = record f { lives = rows; counts = counts; session = session; handle = handle; spare = spare } in
-    let places : Places f g k x Lives = record { at_home = sym c.of.ensures ∙ c.in-Lives.is; set = c.set-in-Lives.ensures.facts; stays = but-lives f rows counts session handle spare } in
-    let moves : Moves f g k x t = record {
-      counts = follow c.self.inside.counts c.of-lost.result c.of-gained.result counts k x c.fact.result.now (value t k) c.of-lost.ensures (c.fact.ensures t s) c.of-gained.ensures c.moved-self-inside.ensures;
-      session = ap (λ (n : Counts). c.self.inside.session + n.opened) c.of-gained.ensures;
-      handle = ap (λ (n : ℕ). c.self.inside.handle + n) c.given.ensures;
-    } in
-    stands-placed f g k x Lives t places moves (subst P (sym c.self.view_is) s)
+    stands-placed f g k x Takes t places moves (subst P (sym c.self.view_is) s)
 
 pub returns-in-Others-clause-stands : goal.returns-in-Others-clause-stands
 returns-in-Others-clause-stands c = λ t s.
     let P : Tables → Type 0 = λ f. StandFor f t in
     let k = c.args.key in
     let x = c.args.fact in
-    let f : Tables = record { users = c.self.inside.users.trail; sessions = c.self.inside.sessions.trail; seats = c.self.inside.seats.trail; takes = c.self.inside.takes.trail; connections = c.self.inside.connections.trail; controls = c.self.inside.controls.trail; owners = c.self.inside.owners.trail; lives = c.self.inside.lives.trail; others = c.self.inside.others.trail; counts = c.self.inside.counts; session = c.self.inside.session; handle = c.self.inside.handle; spare = c.self.inside.spare } in
+    let f = tables_of c.self.inside in
     let rows = c.set-in-Others.new.self.trail in
     let counts = c.moved-self-inside.result in
     let session = c.self.inside.session + c.of-gained.result.opened in

@@ -1,0 +1,182 @@
+// How devices come and go, and seats with them.
+
+ghost use Rattle.std.specs.Prelude.{◌≡◌};
+ghost use Rattle.login_model.specs.declared.fact.Key.TheVariants.{Dev};
+ghost use Rattle.login_model.specs.Facts.{is_graphics_on};
+ghost use Rattle.login_model.specs.Trail.{value, put, tell_all};
+ghost use Rattle.login_model.specs.Where.{sessions_on};
+ghost use Rattle.login_model.specs.Devices.{is_taken};
+ghost use Rattle.login_model.specs.Procedure.{each, revoke, shut};
+ghost use Rattle.login_model.specs.Taking.{add_device, appear_seat, has_graphics, lose_seat, remove_device, takers};
+ghost use Rattle.login_laws.proofs.Grows.{revoke-grows};
+ghost use Rattle.login_core.specs.Kept.{AreClosing};
+ghost use Rattle.login_core.specs.inner.Told.{graphics_fact, graphics_seat};
+ghost use Rattle.login_core.specs.inner.Draft.{marked_by, Fits};
+
+use crate::board::Draft;
+use crate::board::rounds::Task;
+use crate::room::kept::Spares;
+use crate::room::slots::SeatSlots;
+use login_base::{DevNo, SeatName, SessId};
+use login_model::{DevKind, Fact, Key, Look, Notice};
+use login_table::Test;
+
+/// It has taken a device.
+#[derive(Drop)]
+struct HasTaken(DevNo);
+
+impl Test<SessId> for HasTaken {
+    ghost meets = { λ test t s. is_taken t s test.0 };
+
+    fn is_met<F: Look>(&self, facts: &F, session: SessId) -> bool {
+        facts.fact(&Key::Taken(session, self.0)).is_handle()
+    }
+}
+
+/// It is a graphics device on a seat.
+#[derive(Drop)]
+struct IsGraphicsOn(SeatName);
+
+impl Test<DevNo> for IsGraphicsOn {
+    ghost meets = { λ test t d. is_graphics_on test.0 (value t (Dev d)) };
+
+    fn is_met<F: Look>(&self, facts: &F, device: DevNo) -> bool {
+        facts
+            .fact(&Key::Dev(device))
+            .is_graphics_on(self.0.as_slice())
+    }
+}
+
+/// A device goes from a session.
+#[derive(Drop)]
+struct RevokeFrom(DevNo);
+
+impl Task<SessId> for RevokeFrom {
+    ghost does = { λ x s t. revoke s x.0 t };
+
+    ghost adds = { λ x s t. revoke-grows s x.0 t };
+
+    fn run(&self, draft: &mut Draft, session: SessId) {
+        draft.revoke(session, self.0);
+    }
+}
+
+/// The seat of a graphics device.
+fn graphics_seat(fact: &Fact) -> Option<SeatName>
+    ensures { result ≡ graphics_seat fact.now }
+{
+    match fact {
+        Fact::Device(DevKind::Drm, seat) => Some(*seat.get()),
+        _ => None,
+    }
+}
+
+#[tactic(auto, using(crate::proofs::Growing::growing))]
+impl Draft {
+    /// A seat is there, and all are told.
+    fn bring_seat(&mut self, seat: SeatName)
+        requires room { Fits (λ t. tell_all (Notice.SeatNew seat) (put (Key.Seat seat) Fact.Present t)) self.old }
+        ensures marked { self.new ≡ marked_by (λ t. tell_all (Notice.SeatNew seat) (put (Key.Seat seat) Fact.Present t)) self.old }
+    {
+        self.put_present(seat);
+        self.tell_all(Notice::SeatNew(seat));
+    }
+
+    /// A seat appears with its first graphics device.
+    fn appear_seat(&mut self, kind: DevKind, seat: SeatName)
+        requires room { Fits (appear_seat kind seat) self.old }
+        ensures marked { self.new ≡ marked_by (appear_seat kind seat) self.old }
+    {
+        match kind {
+            DevKind::Drm => {
+                if !self.fact(&Key::Seat(seat)).is_seat() {
+                    self.bring_seat(seat);
+                }
+            }
+            DevKind::Evdev => {}
+        }
+    }
+
+    /// A device of a kind comes to a seat, for whose name there is memory.
+    #[tactic(auto, using(crate::proofs::Growing::growing), unfolding(login_model::specs::Taking::add_device))]
+    pub fn add_device(&mut self, device: DevNo, kind: DevKind, seat: SeatName, slots: SeatSlots)
+        requires room { Fits (add_device device kind seat) self.old }
+        ensures marked { self.new ≡ marked_by (add_device device kind seat) self.old }
+    {
+        self.put_device(device, kind, seat, slots);
+        self.appear_seat(kind, seat);
+    }
+
+    /// A device goes from the sessions that have it taken, in order.
+    #[tactic(auto, using(crate::proofs::Growing::growing), unfolding(login_model::specs::Taking::takers, login_model::specs::Where::sessions))]
+    fn revoke_takers(&mut self, device: DevNo)
+        requires room { Fits (λ t. each (λ s u. revoke s device u) (takers t device) t) self.old }
+        ensures marked { self.new ≡ marked_by (λ t. each (λ s u. revoke s device u) (takers t device) t) self.old }
+    {
+        self.for_each_that(HasTaken(device), &RevokeFrom(device));
+    }
+
+    /// A device is absent, and so it is from sessions.
+    fn drop_device(&mut self, device: DevNo)
+        requires room { Fits (λ t. put (Key.Mode device) (Fact.Number 0) (put (Key.Dev device) Fact.Absent (each (λ s u. revoke s device u) (takers t device) t))) self.old }
+        ensures marked { self.new ≡ marked_by (λ t. put (Key.Mode device) (Fact.Number 0) (put (Key.Dev device) Fact.Absent (each (λ s u. revoke s device u) (takers t device) t))) self.old }
+    {
+        self.revoke_takers(device);
+        self.put_absent(Key::Dev(device));
+        self.put_number(Key::Mode(device), 0);
+    }
+
+    /// Whether a graphics device is on a seat.
+    fn has_graphics(&self, seat: SeatName) -> bool
+        ensures { result ≡ has_graphics self.now.trail seat }
+    {
+        self.next_that(&IsGraphicsOn(seat), None).is_some()
+    }
+
+    /// The sessions on a seat close, the seat is absent, and all are told.
+    fn remove_seat(&mut self, seat: SeatName, closing: &mut Spares)
+        requires copies { AreClosing closing.old.items self.old.trail }
+        requires room { Fits (λ t. tell_all (Notice.SeatRemoved seat) (put (Key.Seat seat) Fact.Absent (each shut (sessions_on t seat) t))) self.old }
+        ensures marked { self.new ≡ marked_by (λ t. tell_all (Notice.SeatRemoved seat) (put (Key.Seat seat) Fact.Absent (each shut (sessions_on t seat) t))) self.old }
+        ensures copies { AreClosing closing.new.items self.new.trail }
+    {
+        self.terminate_seat(seat, closing);
+        self.put_absent(Key::Seat(seat));
+        self.tell_all(Notice::SeatRemoved(seat));
+    }
+
+    /// A seat from which a graphics device went goes with its last one; seat0 stays.
+    fn lose_graphics(&mut self, seat: SeatName, closing: &mut Spares)
+        requires copies { AreClosing closing.old.items self.old.trail }
+        requires room { Fits (lose_seat (Fact.Device DevKind.Drm seat)) self.old }
+        ensures marked { self.new ≡ marked_by (lose_seat (Fact.Device DevKind.Drm seat)) self.old }
+        ensures copies { AreClosing closing.new.items self.new.trail }
+    {
+        if !seat.is_seat0() && !self.has_graphics(seat) {
+            self.remove_seat(seat, closing);
+        }
+    }
+
+    fn lose_seat(&mut self, graphics: Option<SeatName>, closing: &mut Spares)
+        requires copies { AreClosing closing.old.items self.old.trail }
+        requires room { Fits (lose_seat (graphics_fact graphics)) self.old }
+        ensures marked { self.new ≡ marked_by (lose_seat (graphics_fact graphics)) self.old }
+        ensures copies { AreClosing closing.new.items self.new.trail }
+    {
+        if let Some(seat) = graphics {
+            self.lose_graphics(seat, closing);
+        }
+    }
+
+    /// A device goes: from the sessions that have it taken, and from its seat.
+    pub fn remove_device(&mut self, device: DevNo, closing: &mut Spares)
+        requires copies { AreClosing closing.old.items self.old.trail }
+        requires room { Fits (remove_device device) self.old }
+        ensures marked { self.new ≡ marked_by (remove_device device) self.old }
+        ensures copies { AreClosing closing.new.items self.new.trail }
+    {
+        let graphics = graphics_seat(self.fact(&Key::Dev(device)));
+        self.drop_device(device);
+        self.lose_seat(graphics, closing);
+    }
+}
