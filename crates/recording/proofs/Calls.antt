@@ -240,7 +240,11 @@ call_short (call.SwitchToPrevious id) b f t = let a = spell_text_short 512 id t.
 call_short (call.ActivateOnSeat id seat) b f t = let a = spell_text_short 512 id t.0 in let d = spell_text_short 512 seat t.1.0 in omega arith
 call_short (call.GetUser u) b f t = let a = decimal_short u.0 f in omega arith
 call_short (call.TerminateUser u) b f t = let a = decimal_short u.0 f in omega arith
+call_short (call.ReadInput h) b f t = let a = decimal_short h.0 f in omega arith
+call_short (call.SetMode h mode) b f t = let a = decimal_short h.0 f.0 in let d = decimal_short mode f.1 in omega arith
 call_short (call.Close h) b f t = let a = decimal_short h.0 f in omega arith
+call_short (call.TakeDevice id d) b f t = let a = spell_text_short 512 id t.0 in let e = decimal_short d.major f.0 in let g = decimal_short d.minor f.1 in omega arith
+call_short (call.ReleaseDevice id d) b f t = let a = spell_text_short 512 id t.0 in let e = decimal_short d.major f.0 in let g = decimal_short d.minor f.1 in omega arith
 call_short (call.Kill id who signal) b f t = let a = spell_text_short 512 id t.0 in let d = spell_text_short 512 who t.1.0 in let e = signed_short signal f in omega arith
 call_short (call.SetLinger u on) b f t = let a = decimal_short u.0 f in let d = spell_flag_short on in omega arith
 call_short (call.SetIdle id on) b f t = let a = spell_text_short 512 id t.0 in let d = spell_flag_short on in omega arith

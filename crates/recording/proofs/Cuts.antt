@@ -9,10 +9,6 @@ pub NoLineFeed-push : (xs : List ℕ) (b : ℕ) → NoLineFeed xs → b ≢ 10 �
 NoLineFeed-push [] b h ne = (ne, tt)
 NoLineFeed-push (x ∷ xs) b h ne = (h.0, NoLineFeed-push xs b h.1 ne)
 
-pub NoLineFeed-append : (xs ys : List ℕ) → NoLineFeed xs → NoLineFeed ys → NoLineFeed (xs ++ ys)
-NoLineFeed-append [] ys h k = k
-NoLineFeed-append (x ∷ xs) ys h k = (h.0, NoLineFeed-append xs ys h.1 k)
-
 other : (b : ℕ) → b ≢ 10 → eqb b 10 ≡ false
 other b ne = grind (arith, nat_tests)
 

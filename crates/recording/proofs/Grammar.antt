@@ -175,9 +175,3 @@ built_or_not bytes line r u =
     let same = spells_one bytes r.written u.line r.spells r.fits u.spells u.written in
     let wrong : true ≡ false = sym r.built ∙ (ap is_built_line same ∙ u.unbuilt) in
     cc
-
--- the bytes are a text without a line feed, and a line feed
-pub record IsWhole (bytes : List ℕ) : Type 0 where
-  pub text : List ℕ
-  pub whole : bytes ≡ text ++ 10 ∷ []
-  pub feedless : NoLineFeed text

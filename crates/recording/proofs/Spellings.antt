@@ -1,5 +1,5 @@
 -- The spellings of lines: where their words part, that no line feed stands in them, and how long they are.
-use Rattle.std.proofs.Common.{◌≡◌, ℕ, subst, ◌<◌, ◌≤◌, ◌^◌, List, [], ◌∷◌, ◌++◌, length, refl, arith, rules, codes, ap, sym, ◌∙◌, Bool, true, false, eqb, Some, length-append}
+use Rattle.std.proofs.Common.{◌≡◌, ℕ, subst, ◌<◌, ◌≤◌, ◌^◌, List, [], ◌∷◌, ◌++◌, length, refl, arith, rules, codes, ap, sym, ◌∙◌, Bool, true, false, eqb, leb, Some, length-append}
 use Rattle.std.specs.Fmt.{decimal}
 use Rattle.std.specs.List.{slice_split, join_with_byte, AllByRecursion}
 use Rattle.std.proofs.lemmas.Fmt.{length-decimal-le}
@@ -8,11 +8,15 @@ use Rattle.std.proofs.lemmas.List.Elements.{All-from_recursion}
 use Rattle.std.proofs.lemmas.List.Splits.{slice_split_none, slice_split_at, join_with_byte-slice_split}
 use Rattle.std.proofs.lemmas.Bool.Decides.{nat_tests}
 use Rattle.login_base.specs.declared.ids.DevNo.{DevNo}
+use Rattle.login_base.specs.Seat.{is_seat_name}
+use Rattle.login_model.specs.declared.hardware.DevKind.{DevKind}
+use Rattle.login_model.specs.declared.hardware.DevKind.TheVariants.{Evdev, Drm}
 use Rattle.login_model.specs.declared.hardware.Hardware.{Hardware}
 use Rattle.login_model.specs.declared.hardware.Hardware.TheVariants.{Add, Remove, Input, VtKey, Key, Dock, Exit, JobDone}
 use Rattle.login_model.specs.declared.event.Event.{Event}
 use Rattle.login_model.specs.declared.event.Event.TheVariants.{Connect, Disconnect, Call as Calls, Hardware as Happens, Tick, Stop}
 use Rattle.login_model.specs.Built.{is_built_hardware, is_built}
+use Rattle.login_model.specs.Words.{device_kind_word}
 use Rattle.recording.specs.declared.line.Line.{Line}
 use Rattle.recording.specs.declared.line.Line.TheVariants.{Header, Guid, User, Conf, Action, Go, Event as EventLine, Link, In, Hangup, End}
 use Rattle.recording.specs.Calls.{device_words, call_words, FitsDevice}
@@ -25,7 +29,7 @@ use Rattle.recording.specs.inner.LineReadings.{line_of}
 use Rattle.recording.proofs.Texts.{both}
 use Rattle.recording.proofs.Arguments.{IsWord, AreWords, decimal_IsWord, number_IsWord, spell_text_IsWord, spell_flag_IsWord, signed_IsWord, device_kind_IsWord, key_IsWord, seat_IsWord, guid_IsWord, hex_IsWord}
 use Rattle.recording.proofs.Calls.{call_of_is, call_of-words, call_short}
-use Rattle.recording.proofs.Lengths.{size, join_short, decimal_short, spell_text_short, request_word_short}
+use Rattle.recording.proofs.Lengths.{size, join_short, decimal_short, spell_text_short, signed_short, request_word_short}
 use Rattle.recording.proofs.Built.{meant_line, event_written, means_itself}
 use Rattle.recording.proofs.ReadLines.{LineIs, line_of_is, parts, line_of-parts, behind_conf, behind_action}
 
@@ -169,8 +173,27 @@ written_no_feed End h = no_feed_join (fields End) (line_AreWords End h)
 moment_short : (n : ℕ) → n < 2 ^ 64 → length (decimal n) ≤ 20
 moment_short n small = length-decimal-le 20 n (omega arith) (omega arith) (omega (arith, small))
 
+kind_short : (kind : DevKind) → length (device_kind_word kind) ≤ 5
+kind_short Evdev = omega arith
+kind_short Drm = omega arith
+
+seat_short : (seat : List ℕ) → is_seat_name seat ≡ true → length seat ≤ 255
+seat_short seat e = short (both _ (leb (length seat) 255) e).1
+  where
+    short : leb (length seat) 255 ≡ true → length seat ≤ 255
+    short h = grind (arith, nat_tests)
+
 hardware_short : (x : Hardware) → is_built_hardware x ≡ true → FitsHardware x → size (hardware_words x) ≤ 16000
 unfolding hardware_words
+hardware_short (Add d kind seat) b f = let a = decimal_short d.major f.0.0 in let e = decimal_short d.minor f.0.1 in let g = kind_short kind in let h = seat_short seat f.1 in omega arith
+hardware_short (Remove d) b f = let a = decimal_short d.major f.0 in let e = decimal_short d.minor f.1 in omega arith
+hardware_short (Input d type code value) b f =
+    let a = decimal_short d.major f.0.0 in
+    let e = decimal_short d.minor f.0.1 in
+    let g = decimal_short type (omega (arith, f.1)) in
+    let h = decimal_short code (omega (arith, f.2)) in
+    let k = signed_short value f.3 in
+    omega arith
 hardware_short (VtKey vt) b f = let a = decimal_short vt f in omega arith
 hardware_short (Exit id) b f = let a = spell_text_short 512 id f in omega arith
 hardware_short _ b f = cc

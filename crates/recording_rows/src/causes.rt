@@ -49,14 +49,14 @@ const LINES: [(Option<LineFault>, &str); 8] = [
     ),
     (
         Some(LineFault::NotBuilt),
-        "conf /conf  [Login] x/action a b c d/action    /add 226 0 drm seat0/remove 1 1/\
-         input 13 64 1 30 -2147483648/link 1 0/in 1 00ff/hangup 1",
+        "conf /conf  [Login] x/action a b c d/action    /link 1 0/in 1 00ff/hangup 1",
     ),
     (
         None,
         "login-recording 1/guid 0123456789abcdef0123456789abcdef/user 4294967295 0 %/\
          connect 3 4294967295/disconnect 1/vtkey 4294967295/exit c1/exit %/\
-         tick 18446744073709551615/stop",
+         tick 18446744073709551615/stop/add 226 0 drm seat0/add 13 4294967295 evdev seat-x/\
+         remove 1 1/input 13 64 1 30 -2147483648/input 0 0 65535 65535 2147483647",
     ),
 ];
 
@@ -64,9 +64,8 @@ const LINES: [(Option<LineFault>, &str); 8] = [
 const CALLS: [(Option<LineFault>, &str); 2] = [
     (
         Some(LineFault::NotBuilt),
-        "list-inhibitors/power hybrid-sleep/can poweroff/inhibit sleep a b delay/take c1 226 0/\
-         release c1 226 0/paused c1 226 0/read 1/set-mode 1 7/get x % a/get-all x %/set x % a/\
-         ping/machine-id/hello/owner x/add-match %/remove-match %",
+        "list-inhibitors/power hybrid-sleep/can poweroff/inhibit sleep a b delay/paused c1 226 0/\
+         get x % a/get-all x %/set x % a/ping/machine-id/hello/owner x/add-match %/remove-match %",
     ),
     (
         None,
@@ -75,7 +74,8 @@ const CALLS: [(Option<LineFault>, &str); 2] = [
          activate-on c1 seat0/lock c1/unlock c1/lock-all/unlock-all/kill c1 all -1/\
          kill-user 1000 9/terminate c1/terminate-user 1000/terminate-seat seat0/linger 1000 true/\
          idle c1 true/locked c1 false/control c1 true/uncontrol c1/switch seat0 2/next seat0/\
-         prev seat0/close 1/no-object/no-method/bad-args/nothing",
+         prev seat0/take c1 226 4294967295/release c1 226 0/read 4294967295/set-mode 1 4294967295/\
+         close 1/no-object/no-method/bad-args/nothing",
     ),
 ];
 

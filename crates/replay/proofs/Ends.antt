@@ -2,7 +2,7 @@
 use Rattle.std.proofs.Common.{◌<◌, ◌≤◌, ◌≡◌, ℕ, ◌+◌, List, [], ◌∷◌, ◌++◌, length, refl, arith, ap, sym, ◌∙◌, subst, append_assoc, append-nil, Option, Some, None, Err}
 use Rattle.std.specs.Option.{IfSome}
 use Rattle.login_edge.specs.Texts.{Gains, GainsFront}
-use Rattle.login_edge.specs.Gained.{Gains-nothing, Gains-whole, Gains-front-more}
+use Rattle.login_edge.proofs.Gained.{Gains-nothing, Gains-whole, Gains-front-more}
 use Rattle.login_model.specs.declared.count.Count.{Count}
 use Rattle.login_model.specs.declared.mark.Entry.{Entry}
 use Rattle.recording.specs.declared.line.Line.{Line}

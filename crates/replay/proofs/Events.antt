@@ -3,7 +3,7 @@ use Rattle.std.proofs.Common.{◌≡◌, ◌<◌, ℕ, ◌+◌, List, [], ◌∷
 use Rattle.std.specs.Option.{IfSome}
 use Rattle.std.proofs.lemmas.List.{map-append}
 use Rattle.login_edge.specs.Texts.{Gains, GainsFront}
-use Rattle.login_edge.specs.Gained.{Gains-nothing, Gains-more, Gains-front-more}
+use Rattle.login_edge.proofs.Gained.{Gains-nothing, Gains-more, Gains-front-more}
 use Rattle.login_model.specs.declared.count.Count.{Count}
 use Rattle.login_model.specs.declared.event.Event.{Event as AnEvent}
 use Rattle.login_model.specs.declared.mark.Entry.{Entry}

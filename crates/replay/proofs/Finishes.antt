@@ -2,7 +2,7 @@
 use Rattle.std.proofs.Common.{◌≡◌, ◌≤◌, ◌<◌, ℕ, ◌+◌, List, [], ◌∷◌, ◌++◌, length, refl, ap, sym, ◌∙◌, subst, append-nil, Option, Some, None, Err}
 use Rattle.std.specs.Option.{IfSome}
 use Rattle.login_edge.specs.Texts.{Gains}
-use Rattle.login_edge.specs.Gained.{Gains-more}
+use Rattle.login_edge.proofs.Gained.{Gains-more}
 use Rattle.login_model.specs.declared.mark.Entry.{Entry}
 use Rattle.login_core.specs.State.{CoreState}
 use Rattle.login_laws.proofs.LawfulLaws.{legal-is-lawful}

@@ -2,7 +2,7 @@
 use Rattle.std.proofs.Common.{◌≡◌, ℕ, ◌+◌, ◌<◌, List, [], ◌∷◌, ◌++◌, length, length-append, refl, arith, ap, sym, ◌∙◌, subst, Option, Some, None}
 use Rattle.std.specs.Option.{IfSome}
 use Rattle.login_edge.specs.Texts.{Gains}
-use Rattle.login_edge.specs.Gained.{Gains-nothing}
+use Rattle.login_edge.proofs.Gained.{Gains-nothing}
 use Rattle.login_model.specs.declared.setup.UserRow.{UserRow}
 use Rattle.login_model.specs.declared.setup.Setup.{Setup}
 use Rattle.login_model.specs.Conf.{default_conf}
