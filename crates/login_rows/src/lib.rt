@@ -12,6 +12,8 @@ mod core_calls;
 #[cfg(test)]
 mod denials;
 #[cfg(test)]
+mod devices;
+#[cfg(test)]
 mod faults;
 #[cfg(test)]
 mod limits;

@@ -4,12 +4,15 @@ use crate::running::{accept, refuse};
 use std::test::Fail;
 
 /// What may not stand before `go`.
-const BEFORE_GO: [(&[u8], &str); 11] = [
+const BEFORE_GO: [(&[u8], &str); 14] = [
     (b"login-recording 1\n", "wrong-place"),
     (b"connect 1 0\n", "wrong-place"),
     (b"disconnect 1\n", "wrong-place"),
     (b"call 1 1 nothing\n", "wrong-place"),
     (b"send 1 1 nothing\n", "wrong-place"),
+    (b"add 226 0 drm seat0\n", "wrong-place"),
+    (b"remove 226 0\n", "wrong-place"),
+    (b"input 13 64 1 30 1\n", "wrong-place"),
     (b"vtkey 2\n", "wrong-place"),
     (b"exit c1\n", "wrong-place"),
     (b"tick 5\n", "wrong-place"),
@@ -52,12 +55,15 @@ const BEHIND_DISCONNECT: [(&[u8], &str); 5] = [
 ];
 
 /// What may not stand behind the stop.
-const BEHIND_STOP: [(&[u8], &str); 14] = [
+const BEHIND_STOP: [(&[u8], &str); 17] = [
     (b"connect 2 0\n", "wrong-place"),
     (b"connect 1 0\n", "wrong-place"),
     (b"disconnect 2\n", "wrong-place"),
     (b"call 1 1 nothing\n", "wrong-place"),
     (b"send 1 1 nothing\n", "wrong-place"),
+    (b"add 226 0 drm seat0\n", "wrong-place"),
+    (b"remove 226 0\n", "wrong-place"),
+    (b"input 13 64 1 30 1\n", "wrong-place"),
     (b"vtkey 2\n", "wrong-place"),
     (b"exit c1\n", "wrong-place"),
     (b"tick 5\n", "wrong-place"),
@@ -70,12 +76,13 @@ const BEHIND_STOP: [(&[u8], &str); 14] = [
 ];
 
 /// What may not follow `end`.
-const BEHIND_END: [(&[u8], &str); 7] = [
+const BEHIND_END: [(&[u8], &str); 8] = [
     (b"end\n", "wrong-place"),
     (b"\n", "unknown-word"),
     (b"x", "ended"),
     (b"go\n", "wrong-place"),
     (b"connect 1 0\n", "wrong-place"),
+    (b"add 226 0 drm seat0\n", "wrong-place"),
     (b"link 1 0\n", "not-built"),
     (b"frob\n", "unknown-word"),
 ];

@@ -171,7 +171,7 @@ const CREATIONS: [(&[u8], &str); 8] = [
     ),
 ];
 
-/// What may not follow them, and has another fault: words that are not built.
+/// What may not follow them, and has another fault: words of devices, and words that are not built.
 const FAULTS_FIRST: [(&[u8], &str); 12] = [
     (b"add 226 1 drm desk\n", "bad-name"),
     (b"add 226 1 tty seat0\n", "unknown-word"),
@@ -188,12 +188,9 @@ const FAULTS_FIRST: [(&[u8], &str); 12] = [
 ];
 
 /// The events and lines of links that are not built.
-const UNBUILT_LINES: [(&[u8], &str); 14] = [
+const UNBUILT_LINES: [(&[u8], &str); 11] = [
     (b"conf\n", "not-built"),
     (b"action chvt yes yes yes\n", "not-built"),
-    (b"add 226 1 drm seat0\n", "not-built"),
-    (b"remove 226 1\n", "not-built"),
-    (b"input 13 64 1 30 1\n", "not-built"),
     (b"key power\n", "not-built"),
     (b"key suspend\n", "not-built"),
     (b"key hibernate\n", "not-built"),
@@ -206,16 +203,12 @@ const UNBUILT_LINES: [(&[u8], &str); 14] = [
 ];
 
 /// The calls that are not built, also of a connection that is not connected.
-const UNBUILT_CALLS: [(&[u8], &str); 20] = [
+const UNBUILT_CALLS: [(&[u8], &str); 16] = [
     (b"call 1 1 list-inhibitors\n", "not-built"),
     (b"call 1 1 power poweroff\n", "not-built"),
     (b"call 1 1 can suspend\n", "not-built"),
     (b"call 1 1 inhibit sleep who why block\n", "not-built"),
-    (b"call 1 1 take c1 226 1\n", "not-built"),
-    (b"call 1 1 release c1 226 1\n", "not-built"),
     (b"call 1 1 paused c1 226 1\n", "not-built"),
-    (b"call 1 1 read 1\n", "not-built"),
-    (b"call 1 1 set-mode 1 7\n", "not-built"),
     (
         b"call 1 1 get /org/freedesktop/login1 % Docked\n",
         "not-built",
@@ -251,15 +244,15 @@ const NUMBERS: [(&[u8], &str); 30] = [
     (b"tick\n", "missing-word"),
     (b"tick \n", "bad-number"),
     (
-        b"input 4294967295 4294967295 65535 65535 2147483647\n",
-        "not-built",
+        b"input 4294967295 4294967295 65535 65535 2147483647 0\n",
+        "extra-word",
     ),
     (b"input 4294967296 0 0 0 0\n", "bad-number"),
     (b"input 0 4294967296 0 0 0\n", "bad-number"),
     (b"input 0 0 65536 0 0\n", "bad-number"),
     (b"input 0 0 0 65536 0\n", "bad-number"),
     (b"input 0 0 0 0 2147483648\n", "bad-number"),
-    (b"input 0 0 0 0 -2147483648\n", "not-built"),
+    (b"input 0 0 0 0 -2147483648 0\n", "extra-word"),
     (b"input 0 0 0 0 -2147483649\n", "bad-number"),
     (b"input 0 0 0 0 -0\n", "bad-number"),
     (b"input 0 0 0 0 -01\n", "bad-number"),
@@ -267,7 +260,7 @@ const NUMBERS: [(&[u8], &str); 30] = [
     (b"input 0 0 0 0 -\n", "bad-number"),
     (b"call 1 1 kill c1 all 2147483648\n", "bad-number"),
     (b"call 1 1 kill-user 4294967296 1\n", "bad-number"),
-    (b"call 1 1 take c1 4294967295 4294967295\n", "not-built"),
+    (b"call 1 1 take c1 4294967295 4294967295 0\n", "extra-word"),
     (b"call 1 1 take c1 4294967296 0\n", "bad-number"),
     (b"call 1 1 close 4294967296\n", "bad-number"),
 ];

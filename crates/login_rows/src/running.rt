@@ -8,7 +8,7 @@ use std::process::Abort;
 use std::test::Fail;
 
 /// Room enough for what a run of a test writes.
-const ROOM: usize = 100_000;
+const ROOM: usize = 400_000;
 
 /// What a run left.
 #[derive(Drop)]
@@ -104,6 +104,31 @@ pub fn accept(
         alloc,
         recording.as_bytes(),
         transcript.as_bytes(),
+        0,
+        "",
+    )
+}
+
+/// Some lines of a recording, and what its transcript has of them.
+#[derive(Clone, Copy)]
+pub struct Piece {
+    pub lines: &'static str,
+    pub blocks: &'static str,
+}
+
+/// Runs a recording that is made of these pieces, and compares its transcript.
+pub fn accept_pieces(rt: &impl Abort, alloc: Global, pieces: &[Piece]) -> Result<(), Fail> {
+    let mut recording = Vec::new(alloc);
+    let mut transcript = Vec::new(alloc);
+    for piece in pieces {
+        recording.extend_from_slice(piece.lines.as_bytes())?;
+        transcript.extend_from_slice(piece.blocks.as_bytes())?;
+    }
+    compare(
+        rt,
+        alloc,
+        recording.as_slice(),
+        transcript.as_slice(),
         0,
         "",
     )

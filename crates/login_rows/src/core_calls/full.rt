@@ -1,9 +1,10 @@
 // The journal is full.
 
-use super::playing::{close, finish, new_core, play, refusal};
+use super::devices::listening;
+use super::playing::{close, finish, play, refusal};
 use login_base::{ConnId, Millis, Uid};
 use login_core::{Core, Refused};
-use login_model::{Count, Event};
+use login_model::{Count, Event, Hardware, Key, Look};
 use std::test::Fail;
 
 /// Lets the clock reach the moment at which it stands, so many times; whether there was room each time.
@@ -16,12 +17,15 @@ fn tick(core: &mut Core, times: u32) -> bool {
     true
 }
 
-// The links come last, since room takes the longer to find the more of them there are.
+// The first link controls a session that has taken a device, whose pause is awaited. The others come last, since
+// room takes the longer to find the more of them there are.
 #[test]
 fn links_can_still_end_when_the_journal_is_full(rt: HostRuntime) -> Result<(), Fail> {
-    let mut core = new_core(rt.alloc())?;
-    assert!(rt; tick(&mut core, 199_991));
-    for number in 1..5 {
+    let mut core = listening(rt.alloc())?;
+    assert!(rt; play(&mut core, Event::Hardware(Hardware::VtKey(2))));
+    assert!(rt; core.fact(&Key::Pending).is_number());
+    assert!(rt; tick(&mut core, 199_986));
+    for number in 2..5 {
         assert!(rt; play(&mut core, Event::Connect(ConnId(number), Uid(0))));
     }
     assert_eq!(rt; core.journal().len(), 199_995);
@@ -30,6 +34,7 @@ fn links_can_still_end_when_the_journal_is_full(rt: HostRuntime) -> Result<(), F
     for number in 1..4 {
         assert!(rt; close(&mut core, ConnId(number)));
     }
+    assert!(rt; !core.fact(&Key::Pending).is_number());
     assert_eq!(rt; core.journal().len(), 199_998);
     finish(core);
     Ok(())

@@ -5,13 +5,14 @@ ghost use Rattle.std.specs.List.{AllByRecursion};
 ghost use Rattle.login_model.specs.Built.{is_built};
 ghost use Rattle.login_model.specs.Legal.{Fits, IsAsked, IsPlaced, IsUnused, connects, trail_of};
 ghost use Rattle.login_model.specs.Setups.{IsGuid, IsUserRow};
-ghost use Rattle.login_model.specs.Texts.{IsText, texts, has_object};
+ghost use Rattle.login_model.specs.Texts.{IsText, texts, has_object, hardware_texts};
 ghost use Rattle.login_model.specs.Where.{is_connected};
 
 use login_base::{ConnId, Items, NoMemory, Uid, Word};
 use login_core::{Core, Refused};
 use login_model::{
-    Call, Conf, Creation, Entry, Event, Key, Look, Request, Setup, Table, UserRow, is_built,
+    Call, Conf, Creation, Entry, Event, Hardware, Key, Look, Request, Setup, Table, UserRow,
+    is_built,
 };
 use std::alloc::Global;
 
@@ -148,8 +149,21 @@ fn fits_call(call: &Call) -> bool
     match call {
         Call::Create(creation) => are_first_texts(creation) && are_last_texts(creation),
         Call::ListSessions | Call::ListUsers | Call::ListSeats => true,
+        Call::Control(id, _) | Call::TakeDevice(id, _) => is_text(id.as_slice(), 512),
+        Call::ReadInput(_) => true,
         _ => false,
     }
+}
+
+/// Whether what happens to the machine is one of what the tests make: what happens to devices, or a key that asks
+/// for a terminal.
+fn fits_hardware(hardware: &Hardware) -> bool
+    ensures { IsTrue result → AllByRecursion (IsText 512) (hardware_texts hardware.now) }
+{
+    matches!(
+        hardware,
+        Hardware::Add(..) | Hardware::Remove(_) | Hardware::Input(..) | Hardware::VtKey(_)
+    )
 }
 
 /// Whether whom an event names is as it must be after the entries so far.
@@ -162,7 +176,7 @@ fn fits(core: &Core, event: &Event) -> bool
         Event::Call(request) => {
             is_connected(core, request.who) && 0 < request.serial && fits_call(&request.call)
         }
-        Event::Hardware(_) => false,
+        Event::Hardware(hardware) => fits_hardware(hardware),
         Event::Tick(_) | Event::Stop => true,
     }
 }

@@ -1,0 +1,10 @@
+// Devices: how sessions take them, what clients do with their handles, and how they come and go.
+
+mod closing;
+mod denials;
+mod fronts;
+mod listening;
+mod many;
+mod plugging;
+mod seats;
+mod switching;
