@@ -35,6 +35,10 @@ function begin(  i) {
     else if (shape == "terminals") { create(1, 1); create(1, 2) }
     else if (shape == "lock_all" || shape == "kill_user") create_many(1, 16)
     else if (shape == "lists") create_many(1, 100)
+    else if (shape ~ /^(inputs|reads|takes)$/) {
+        create(1, 1); call(1, "control c1 false"); line("add 13 64 evdev seat0")
+        if (shape != "takes") call(1, "take c1 13 64")
+    } else if (shape == "many_devices") for (i = 1; i <= 2000; i++) line("add 14 " i " evdev seat0")
     long = sprintf("%512s", ""); gsub(/ /, "x", long)
 }
 
@@ -69,6 +73,10 @@ function step(i,  who) {
     else if (shape == "kill_user") call(1, "kill-user 1000 " (1 + i % 60))
     else if (shape == "lists") call(1, "list-sessions")
     else if (shape == "users") call(1, "linger " (1000 + i % 1000) " " setting(int(i / 1000) + 1))
+    else if (shape == "inputs") line("input 13 64 1 30 " i)
+    else if (shape == "reads") { line("input 13 64 1 30 " i); call(1, "read 2") }
+    else if (shape == "takes") call(1, i % 2 ? "take c1 13 64" : "release c1 13 64")
+    else if (shape == "plugs" || shape == "many_devices") line(i % 2 ? "add 13 64 evdev seat0" : "remove 13 64")
     else if (shape == "idle_hints") call(1, "idle c" (1 + i % beside) " " setting(int(i / beside) + 1))
     else if (shape == "next") call(1, "next seat0")
     else if (shape == "own_lock") call(2, "lock c1")
