@@ -7,6 +7,7 @@ use crate::items::Items;
 use crate::memory::NoMemory;
 use std::alloc::Global;
 use std::marker::Model;
+use std::mem;
 
 /// A list and its spare: how many items can be put at its end without memory.
 #[derive(Debug, Drop)]
@@ -38,6 +39,19 @@ impl<T> Reserved<T> {
         ensures { result.items ≡ items.items }
     {
         Reserved { items }
+    }
+
+    /// The list with its spare. An empty one without spare stays. It takes no memory.
+    pub fn take(&mut self) -> Reserved<T>
+    where
+        T: Drop,
+        ensures taken { result ≡ self.old }
+        ensures left { self.new ≡ record { items = []; spare = 0 } }
+    {
+        let alloc = *self.items.allocator();
+        Reserved {
+            items: mem::replace(&mut self.items, Vec::new(alloc)),
+        }
     }
 
     /// How many items there are.

@@ -10,8 +10,9 @@ use Rattle.login_model.specs.Kind.{IsOrder, AreKeys}
 use Rattle.login_model.specs.Names.{insert, insert_some, names, is_above, IsNext, session_lt, user_lt, conn_lt, device_lt, lock_lt, session_in, user_in, conn_in, device_in, lock_in}
 use Rattle.login_model.specs.Where.{is_session, is_user, is_connected, is_device, is_lock, is_session_fact, is_user_fact, is_connected_fact, is_device_fact, is_lock_fact}
 use Rattle.login_base.specs.declared.ids.SessId.{SessId}
-use Rattle.login_model.specs.Devices.{taken_in, is_taken, is_handle_fact}
-use Rattle.login_model.proofs.NameLaws.{session_order, user_order, conn_order, device_order, lock_order, session_keys, user_keys, conn_keys, device_keys, lock_keys, taken_keys}
+use Rattle.login_base.specs.declared.ids.DevNo.{DevNo}
+use Rattle.login_model.specs.Devices.{taken_in, taker_in, is_taken, is_handle_fact}
+use Rattle.login_model.proofs.NameLaws.{session_order, user_order, conn_order, device_order, lock_order, session_keys, user_keys, conn_keys, device_keys, lock_keys, taken_keys, taker_keys}
 use Rattle.login_model.proofs.Keys.{same_key-true, test, chosen}
 
 abbrev pub IsIn : {A : Type 0} → A → List A → Type 0
@@ -177,6 +178,9 @@ locks-enumerated t = enumerated lock_lt lock_order lock_in Lock is_lock_fact Non
 
 pub taken-enumerated : (t : Trail) (s : SessId) → Enumerates device_lt (is_taken t s) (names device_lt (taken_in s) t)
 taken-enumerated t s = enumerated device_lt device_order (taken_in s) (Taken s) is_handle_fact None (taken_keys s) t
+
+pub takers-enumerated : (t : Trail) (d : DevNo) → Enumerates session_lt (λ s. is_taken t s d) (names session_lt (taker_in d) t)
+takers-enumerated t d = enumerated session_lt session_order (taker_in d) (λ s. Taken s d) is_handle_fact None (taker_keys d) t
 
 -- the names of a list that are there and above that one
 unfoldable pub rest : {A : Type 0} → (A → A → Bool) → (A → Bool) → List A → Option A → List A

@@ -7,3 +7,4 @@ pub mod FactLaws
 pub mod Values
 pub mod HeldValue
 pub mod Latest
+pub mod Cuts

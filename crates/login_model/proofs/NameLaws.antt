@@ -1,5 +1,5 @@
 -- The orders and the keys of the kinds of names.
-use Rattle.std.proofs.Common.{◌≡◌, ℕ, ◌==◌, nat_lt, Bool, true, false, cond, Some, None, List, [], ◌∷◌, refl, ap, sym, ◌∙◌, subst, arith, inl, inr}
+use Rattle.std.proofs.Common.{◌≡◌, ℕ, ◌==◌, ◌&&◌, nat_lt, Bool, true, false, cond, Some, None, List, [], ◌∷◌, refl, ap, sym, ◌∙◌, subst, arith, inl, inr}
 use Rattle.std.proofs.lemmas.Bool.Decides.{nat_tests}
 use Rattle.std.specs.Str.{bytes_eq}
 use Rattle.login_base.specs.declared.ids.SessId.{SessId}
@@ -14,8 +14,9 @@ use Rattle.login_model.specs.Where.{is_session_fact, is_user_fact, is_connected_
 use Rattle.login_model.specs.declared.fact.Key.{Key}
 use Rattle.login_model.specs.declared.fact.Key.TheVariants.{Conn, Sess, User, Seat, Dev, Lock, Taken}
 use Rattle.login_model.specs.declared.fact.Fact.TheVariants.{Present, Absent}
-use Rattle.login_model.specs.Devices.{taken_in, is_handle_fact}
-use Rattle.login_model.proofs.Keys.{same-bytes, same-session, chosen}
+use Rattle.login_model.specs.Devices.{taken_in, taker_in, is_handle_fact}
+use Rattle.login_model.specs.Same.{same_device}
+use Rattle.login_model.proofs.Keys.{same-bytes, same-device, same-session, chosen}
 
 lt-irreflexive : (a : ℕ) → nat_lt a a ≡ false
 lt-irreflexive a = grind (arith, nat_tests)
@@ -164,6 +165,34 @@ pub taken_keys : (s : SessId) → AreKeys (taken_in s) (Taken s) is_handle_fact 
 taken_keys s = record {
   own = taken-own s;
   named = λ a. ap (λ (b : Bool). cond b (Some a) None) (same-self s.0);
+  start = λ a h. absurd (no-flag h);
+  begins = λ a e. absurd (no-name e);
+}
+
+-- a session that has a device taken
+session-same : (s a : SessId) → Some s ≡ Some a → s ≡ a
+session-same s a e = cc
+
+no-taker : (a : SessId) → None ≡ Some a → ⊥
+no-taker a e = cc
+
+taker-by : (d e : DevNo) (s a : SessId) → cond (same_device e d) (Some s) None ≡ Some a → Taken s e ≡ Taken a d
+taker-by d e s a h = elim (chosen (same_device e d) (Some s) None (Some a) h) [
+  | inl p ↦ ap (Taken s) (same-device e d p.0) ∙ ap (λ (x : SessId). Taken x d) (session-same s a p.1)
+  | inr p ↦ absurd (no-taker a p.1)
+]
+
+taker-own : (d : DevNo) (k : Key) (a : SessId) → taker_in d k ≡ Some a → k ≡ Taken a d
+taker-own d (Taken s e) a h = taker-by d e s a h
+taker-own d _ a h = cc
+
+device-self : (d : DevNo) → same_device d d ≡ true
+device-self d = ap (λ (b : Bool). b && (d.minor == d.minor)) (same-self d.major) ∙ same-self d.minor
+
+pub taker_keys : (d : DevNo) → AreKeys (taker_in d) (λ s. Taken s d) is_handle_fact None
+taker_keys d = record {
+  own = taker-own d;
+  named = λ a. ap (λ (b : Bool). cond b (Some a) None) (device-self d);
   start = λ a h. absurd (no-flag h);
   begins = λ a e. absurd (no-name e);
 }

@@ -6,4 +6,4 @@ use Rattle.login_model.specs.Switching.{settle_switch}
 
 -- A pending switch of virtual terminals completes once nothing holds it up, and then an operation that waits runs.
 abbrev pub settle : Setup → Trail → Trail
-settle U t = settle_operation U.conf (settle_switch U t)
+settle U t = settle_operation U.conf (settle_switch U.conf t)

@@ -3,10 +3,10 @@ use Rattle.std.specs.Prelude.{ℕ, ◌==◌, ◌&&◌, not, nat_le, Bool, if◌t
 use Rattle.std.specs.Option.{is_some}
 use Rattle.login_base.specs.declared.ids.SessId.{SessId}
 use Rattle.login_base.specs.declared.ids.DevNo.{DevNo}
+use Rattle.login_model.specs.declared.conf.Conf.{Conf}
 use Rattle.login_model.specs.declared.fact.Key.TheVariants as key
 use Rattle.login_model.specs.declared.fact.Fact.{Fact}
 use Rattle.login_model.specs.declared.fact.Fact.TheVariants as fact
-use Rattle.login_model.specs.declared.setup.Setup.{Setup}
 use Rattle.login_model.specs.declared.mark.PauseKind.TheVariants as pause
 use Rattle.login_model.specs.declared.mark.Notice.TheVariants.{Pause, Active}
 use Rattle.login_model.specs.Trail.{Trail, value, put, tell_all}
@@ -52,8 +52,8 @@ request v t =
     else ask_switch v (is_number_fact (value t key.Pending)) t
 
 -- a getty is asked for on a terminal without an open session, up to the number of the configuration
-abbrev pub ask_getty : Setup → ℕ → Trail → Trail
-ask_getty U v t = if not (is_some (session_on t v)) && nat_le v U.conf.auto_vts then put (key.Getty v) yes t else t
+abbrev pub ask_getty : Conf → ℕ → Trail → Trail
+ask_getty conf v t = if not (is_some (session_on t v)) && nat_le v conf.auto_vts then put (key.Getty v) yes t else t
 
 -- all are told who was active on seat0 and who is, if there was one or is one
 abbrev pub tell_change : Option SessId → Option SessId → Trail → Trail
@@ -65,14 +65,14 @@ abbrev pub arrive : Option SessId → Trail → Trail
 arrive old t = if_some resume (active_on t seat0) (tell_change old (active_on t seat0) t)
 
 -- the terminal changes: the session that was active loses its devices, and the one that is gets them
-abbrev pub move_to : Setup → ℕ → Option SessId → Trail → Trail
-move_to U v old t =
-    arrive old (ask_getty U v (put key.Pending fact.Absent (put key.Vt (fact.Number v) (if_some force old t))))
+abbrev pub move_to : Conf → ℕ → Option SessId → Trail → Trail
+move_to conf v old t =
+    arrive old (ask_getty conf v (put key.Pending fact.Absent (put key.Vt (fact.Number v) (if_some force old t))))
 
 -- the switch that is pending completes, once no pause is awaited
-abbrev pub complete : Setup → Fact → Trail → Trail
-complete U (fact.Number v) t = if is_awaiting t then t else move_to U v (active_on t seat0) t
-complete U _ t = t
+abbrev pub complete : Conf → Fact → Trail → Trail
+complete conf (fact.Number v) t = if is_awaiting t then t else move_to conf v (active_on t seat0) t
+complete conf _ t = t
 
-unfoldable pub settle_switch : Setup → Trail → Trail
-settle_switch U t = complete U (value t key.Pending) t
+unfoldable pub settle_switch : Conf → Trail → Trail
+settle_switch conf t = complete conf (value t key.Pending) t

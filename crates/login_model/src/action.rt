@@ -115,7 +115,7 @@ fn first_named(actions: &[Action], text: &[u8]) -> Option<Action>
 
 impl Action {
     ghost use Rattle.login_model.specs.declared.action.Action.{Action};
-    ghost use Rattle.login_model.specs.Action.{name, place};
+    ghost use Rattle.login_model.specs.Action.{actions, first_named, name, place};
 
     /// All actions, in the order of a table's rows.
     pub const ALL: [Action; 29] = [
@@ -176,6 +176,7 @@ impl Action {
 
     /// The action of a name.
     pub fn read(text: &[u8]) -> Option<Action>
+        ensures value { result ≡ first_named actions text.now }
         ensures found { IfSome result (λ action. name action ≡ text.now) }
         ensures all { (action : Action) → name action ≡ text.now → result ≡ Some action }
     {
@@ -183,7 +184,7 @@ impl Action {
     }
 
     /// The place of its row in a table.
-    pub(crate) fn place(self) -> usize
+    pub fn place(self) -> usize
         ensures value { result ≡ place self }
         ensures bound { result < 29 }
     {

@@ -5,10 +5,10 @@ ghost use Rattle.login_model.specs.declared.fact.Fact.{Fact as FactValue};
 ghost use Rattle.login_model.specs.Facts.{is_on_terminal};
 
 use crate::boxed::Boxed;
-use crate::hardware::DevKind;
-use crate::lock::Lock;
-use crate::operation::Operation;
-use crate::session::{KillWhom, Phase, Session};
+use crate::hardware::{DevKind, HardKey};
+use crate::lock::{Lock, LockMode};
+use crate::operation::{OpKind, Operation};
+use crate::session::{Class, KillWhom, Phase, Session};
 use crate::setup::Setup;
 use login_base::{ConnId, DevNo, HandleNo, LockNo, Millis, SeatName, SessId, Uid};
 
@@ -132,7 +132,7 @@ fn is_session_on(session: &Session, terminal: &Fact) -> bool
 
 /// What a fact says. Each call answers None, no or 0 of a fact of another kind.
 impl Fact {
-    ghost use Rattle.login_model.specs.Facts.{is_absent, client_in, is_connected_fact, is_client_of, client_or, session_in_fact, is_session_fact, is_open_fact, is_closing_fact, owner_of, is_user_in, seat_in_fact, vt_in, fifo_of, leader_in, is_open_of, is_seated_of, is_on_terminal, is_set, controller_in, is_controlled_fact, is_controller_fact, is_known, is_user_fact, is_overdue_fact, owner_in, is_owned_fact, holder_in, is_fifo_of, fifo_session, handle_in, is_handle_fact, is_this_handle, is_seat_fact, active_in, is_acting_fact, number_in_fact, number_in, is_number_fact, is_number, moment_in_fact, moment_in, kind_in, is_device_fact, lock_in_fact, is_lock_fact, is_held_by, operation_in};
+    ghost use Rattle.login_model.specs.Facts.{is_absent, client_in, is_connected_fact, is_client_of, client_or, session_in_fact, is_session_fact, is_open_fact, is_closing_fact, owner_of, is_user_in, seat_in_fact, vt_in, fifo_of, leader_in, is_open_of, is_other_user, is_seated_of, is_on_terminal, is_set, controller_in, is_controlled_fact, is_controller_fact, is_known, is_user_fact, is_overdue_fact, owner_in, is_owned_fact, holder_in, is_fifo_of, fifo_session, handle_in, is_handle_fact, is_this_handle, is_seat_fact, active_in, is_acting_fact, number_in_fact, number_in, is_number_fact, is_number, moment_in_fact, moment_in, kind_in, is_device_fact, lock_in_fact, is_lock_fact, is_held_by, holds_back, handles_key, operation_in, kind_under_way, running_in};
 
     /// Whether nothing is there.
     pub fn is_absent(&self) -> bool
@@ -246,6 +246,21 @@ impl Fact {
             Fact::Session(session) => {
                 let session = session.get();
                 matches!(session.phase, Phase::Open) && session.uid.0 == uid
+            }
+            _ => false,
+        }
+    }
+
+    /// Whether it is that of another user's open session of the class of users.
+    pub fn is_other_user(&self, uid: u32) -> bool
+        ensures { result ≡ is_other_user uid self.now }
+    {
+        match self {
+            Fact::Session(session) => {
+                let session = session.get();
+                matches!(session.phase, Phase::Open)
+                    && matches!(session.class, Class::User)
+                    && !(session.uid.0 == uid)
             }
             _ => false,
         }
@@ -576,12 +591,52 @@ impl Fact {
         }
     }
 
+    /// Whether it is that of a lock of this mode that holds up an operation.
+    pub fn holds_back(&self, kind: OpKind, mode: LockMode) -> bool
+        ensures { result ≡ holds_back kind mode self.now }
+    {
+        match self {
+            Fact::Lock(lock) => lock.get().mode == mode && lock.get().what.holds_up(kind),
+            _ => false,
+        }
+    }
+
+    /// Whether it is that of a lock that takes a key from the login manager.
+    pub fn handles_key(&self, key: HardKey) -> bool
+        ensures { result ≡ handles_key key self.now }
+    {
+        match self {
+            Fact::Lock(lock) => lock.get().what.holds_key(key),
+            _ => false,
+        }
+    }
+
     /// What the machine as a whole is being made to do.
     pub fn operation(&self) -> Option<Operation>
         ensures { result ≡ operation_in self.now }
     {
         match self {
             Fact::Operation(operation) => Some(*operation),
+            _ => None,
+        }
+    }
+
+    /// The operation that waits or runs.
+    pub fn under_way(&self) -> Option<OpKind>
+        ensures { result ≡ kind_under_way self.now }
+    {
+        match self {
+            Fact::Operation(Operation::Waiting(kind, ..) | Operation::Running(kind)) => Some(*kind),
+            _ => None,
+        }
+    }
+
+    /// The operation that runs.
+    pub fn running(&self) -> Option<OpKind>
+        ensures { result ≡ running_in self.now }
+    {
+        match self {
+            Fact::Operation(Operation::Running(kind)) => Some(*kind),
             _ => None,
         }
     }

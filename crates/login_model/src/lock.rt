@@ -1,6 +1,44 @@
 // Inhibitor locks (org.freedesktop.login1(5), Manager.Inhibit).
 
+ghost use Rattle.std.specs.Prelude.{◌≡◌};
+ghost use Rattle.login_model.specs.Locks.{has_word, is_what, words_in};
+ghost use Rattle.login_model.specs.Words.{lock_words};
+
+use crate::hardware::HardKey;
+use crate::operation::OpKind;
 use login_base::{ConnId, Uid, Word};
+
+/// All words of what a lock holds up.
+const WORDS: [&[u8]; 7] = [
+    b"shutdown",
+    b"sleep",
+    b"idle",
+    b"handle-power-key",
+    b"handle-suspend-key",
+    b"handle-hibernate-key",
+    b"handle-lid-switch",
+];
+
+fn is_lock_word(word: &[u8]) -> bool
+    ensures { result ≡ has_word lock_words word.now }
+{
+    WORDS.iter().any(|known| *known == word)
+}
+
+/// Whether each word of a text is known.
+fn are_lock_words(text: &[u8]) -> bool
+    ensures { result ≡ is_what text.now }
+{
+    text.split(|byte| *byte == b':')
+        .all(|word| is_lock_word(word))
+}
+
+/// Whether a text has this word.
+fn has_word(text: &[u8], word: &[u8]) -> bool
+    ensures { result ≡ has_word (words_in text.now) word.now }
+{
+    text.split(|byte| *byte == b':').any(|part| part == word)
+}
 
 /// What a lock holds up.
 #[derive(Clone, Copy, Debug)]
@@ -12,6 +50,66 @@ pub struct Inhibited {
     pub handle_suspend_key: bool,
     pub handle_hibernate_key: bool,
     pub handle_lid_switch: bool,
+}
+
+impl Inhibited {
+    ghost use Rattle.std.specs.Prelude.{◌≡◌, if◌then◌else◌, None, Some};
+    ghost use Rattle.login_model.specs.Facts.{holds_up, holds_key};
+    ghost use Rattle.login_model.specs.Locks.{is_what, what_of};
+    ghost use Rattle.login_model.specs.Policy.{names_more};
+
+    /// What a text names: words that colons part, in any order. None where a word is none of these, as the
+    /// empty one is.
+    #[tactic(auto, unfolding(crate::specs::Locks::what_of))]
+    pub fn read(text: &[u8]) -> Option<Inhibited>
+        ensures { result ≡ if is_what text.now then Some (what_of text.now) else None }
+    {
+        if !are_lock_words(text) {
+            return None;
+        }
+        Some(Inhibited {
+            shutdown: has_word(text, b"shutdown"),
+            sleep: has_word(text, b"sleep"),
+            idle: has_word(text, b"idle"),
+            handle_power_key: has_word(text, b"handle-power-key"),
+            handle_suspend_key: has_word(text, b"handle-suspend-key"),
+            handle_hibernate_key: has_word(text, b"handle-hibernate-key"),
+            handle_lid_switch: has_word(text, b"handle-lid-switch"),
+        })
+    }
+
+    /// Whether it has the word of an operation: shutdown for those that end the machine's run, else sleep.
+    pub fn holds_up(&self, kind: OpKind) -> bool
+        ensures { result ≡ holds_up kind self.now }
+    {
+        match kind {
+            OpKind::PowerOff | OpKind::Reboot | OpKind::Halt => self.shutdown,
+            _ => self.sleep,
+        }
+    }
+
+    /// Whether it has the word of a key, or of the lid.
+    pub fn holds_key(&self, key: HardKey) -> bool
+        ensures { result ≡ holds_key key self.now }
+    {
+        match key {
+            HardKey::Power => self.handle_power_key,
+            HardKey::Suspend => self.handle_suspend_key,
+            HardKey::Hibernate => self.handle_hibernate_key,
+            HardKey::Lid => self.handle_lid_switch,
+        }
+    }
+
+    /// Whether it names more than shutdown and sleep, which alone can be delayed.
+    pub fn names_more(&self) -> bool
+        ensures { result ≡ names_more self.now }
+    {
+        self.idle
+            || self.handle_power_key
+            || self.handle_suspend_key
+            || self.handle_hibernate_key
+            || self.handle_lid_switch
+    }
 }
 
 /// How a lock holds it up.

@@ -4,7 +4,7 @@ ghost use Rattle.std.specs.Prelude.{◌≡◌, length};
 ghost use Rattle.login_model.specs.Trail.{Trail, value};
 ghost use Rattle.login_model.specs.Fresh.{next_handle};
 ghost use Rattle.login_model.specs.Names.{IsNext, session_lt, user_lt, conn_lt, seat_lt, device_lt, lock_lt};
-ghost use Rattle.login_model.specs.Where.{is_session, is_user, is_connected, is_seat, is_device, is_lock, sessions, connections, devices, session_on};
+ghost use Rattle.login_model.specs.Where.{is_session, is_user, is_connected, is_seat, is_device, is_lock, sessions, connections, devices, locks, session_on};
 ghost use Rattle.login_model.specs.Standing.{has_seat};
 ghost use Rattle.login_model.specs.Devices.{is_taken};
 
@@ -47,6 +47,10 @@ pub trait Look {
     fn next_taken(&self, session: SessId, after: Option<DevNo>) -> Option<DevNo>
         ensures { IsNext device_lt (is_taken (trail self.now) session) after result };
 
+    /// The next session that has a device taken.
+    fn next_taker(&self, device: DevNo, after: Option<SessId>) -> Option<SessId>
+        ensures { IsNext session_lt (λ s. is_taken (trail self.now) s device) after result };
+
     /// The next lock that stands.
     fn next_lock(&self, after: Option<LockNo>) -> Option<LockNo>
         ensures { IsNext lock_lt (is_lock (trail self.now)) after result };
@@ -66,6 +70,10 @@ pub trait Look {
     /// How many devices are there.
     fn device_count(&self) -> u32
         ensures { result ≡ length (devices (trail self.now)) };
+
+    /// How many locks stand.
+    fn lock_count(&self) -> u32
+        ensures { result ≡ length (locks (trail self.now)) };
 
     /// The open session of seat0 that has a virtual terminal.
     fn on_terminal(&self, vt: u32) -> Option<SessId>

@@ -2,7 +2,7 @@
 
 use crate::conf::Conf;
 use crate::table::Table;
-use login_base::{Items, Uid, Word};
+use login_base::{Bytes, Items, Uid, Word};
 
 /// A user of the machine, as a line of passwd(5) has it.
 #[derive(Debug, Drop)]
@@ -21,5 +21,9 @@ pub struct Setup {
     pub guid: Word,
     pub users: Items<UserRow>,
     pub conf: Conf,
+    /// The text that the configuration was read from, by whole lines.
+    pub conf_text: Bytes,
     pub table: Table,
+    /// The text that the policy was read from, by whole lines.
+    pub table_text: Bytes,
 }
