@@ -66,10 +66,10 @@ after-append : (t : Trail) (ms ns : List Mark) → after t (ms ++ ns) ≡ after 
 after-append t [] ns = refl
 after-append t (m ∷ ms) ns = after-append (m ∷ t) ms ns
 
-adds-refl : (P : Mark → Type 0) (t : Trail) → Adds P t t
+pub adds-refl : (P : Mark → Type 0) (t : Trail) → Adds P t t
 adds-refl P t = record { marks = []; leads = refl; all = tt }
 
-adds-trans : (P : Mark → Type 0) (t u v : Trail) → Adds P t u → Adds P u v → Adds P t v
+pub adds-trans : (P : Mark → Type 0) (t u v : Trail) → Adds P t u → Adds P u v → Adds P t v
 adds-trans P t u v p q = record {
   marks = p.marks ++ q.marks;
   leads = after-append t p.marks q.marks ∙ ap (λ (x : Trail). after x q.marks) p.leads ∙ q.leads;
@@ -80,11 +80,11 @@ adds-set : (b : Bool) (P : Mark → Type 0) (k : Key) (x : Fact) (t : Trail) →
 adds-set true P k x t i = adds-refl P t
 adds-set false P k x t i = record { marks = Set k x ∷ []; leads = refl; all = (i, tt) }
 
-adds-put : (P : Mark → Type 0) (k : Key) (x : Fact) (t : Trail) → P (Set k x) → Adds P t (put k x t)
+pub adds-put : (P : Mark → Type 0) (k : Key) (x : Fact) (t : Trail) → P (Set k x) → Adds P t (put k x t)
 unfolding put
 adds-put P k x t i = adds-set (same_fact (value t k) x) P k x t i
 
-adds-behind : (P : Mark → Type 0) (k : Key) (x : Fact) (t u : Trail) → P (Set k x) → Adds P t u → Adds P t (put k x u)
+pub adds-behind : (P : Mark → Type 0) (k : Key) (x : Fact) (t u : Trail) → P (Set k x) → Adds P t u → Adds P t (put k x u)
 adds-behind P k x t u i p = adds-trans P t u (put k x u) p (adds-put P k x u i)
 
 -- ---- marks that ask for no operation but as the event does
@@ -204,8 +204,8 @@ start-adds U t0 e _ t = adds-refl (Lets U t0 e) t
 settle-adds : (U : Setup) (t0 : Trail) (e : Event) (t : Trail) → Adds (Lets U t0 e) t (settle U t)
 unfolding settle_operation
 settle-adds U t0 e t =
-    let u = settle_switch U t in
-    adds-trans (Lets U t0 e) t u (settle_operation U.conf u) (settle_switch-carried (letting U t0 e) (letting-switched U t0 e) U t) (start-adds U t0 e (value u key.Op) u)
+    let u = settle_switch U.conf t in
+    adds-trans (Lets U t0 e) t u (settle_operation U.conf u) (settle_switch-carried (letting U t0 e) (letting-switched U t0 e) U.conf t) (start-adds U t0 e (value u key.Op) u)
 
 -- who asks for an operation that is blocked is let pass
 asks-pass : (U : Setup) (e : Event) (t : Trail) (k : OpKind) → verdict U t e ≡ Granted → AsksFor U t e k → is_blocked t k ≡ true → MayPass U t e k

@@ -112,11 +112,11 @@ start-by : (x : Fact) (U : Setup) (out : Exempt) (t : Trail) → value t key.Op 
 start-by (fact.Operation (Waiting k since skip)) U out t e g a = start-at (is_delayed t k) (is_over U.conf t since) U out k since skip t refl refl e g a
 start-by _ U out t e g a = a
 
-pub settle-begun : (U : Setup) (out : Exempt) (t : Trail) → Good out (settle_switch U t) → AreBegun U t → AreBegun U (settle U t)
+pub settle-begun : (U : Setup) (out : Exempt) (t : Trail) → Good out (settle_switch U.conf t) → AreBegun U t → AreBegun U (settle U t)
 unfolding settle_operation
 settle-begun U out t g a =
-    let u = settle_switch U t in
-    start-by (value u key.Op) U out u refl g (settle_switch-carried (begun U) (begun-switched U) U t a)
+    let u = settle_switch U.conf t in
+    start-by (value u key.Op) U out u refl g (settle_switch-carried (begun U) (begun-switched U) U.conf t a)
 
 -- ---- at a place of an entry's marks
 

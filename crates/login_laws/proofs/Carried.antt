@@ -1,5 +1,6 @@
 -- What is carried from the marks before a procedure to those after it, said once for all procedures.
 use Rattle.login_laws.specs.Powered.{AsksFor}
+use Rattle.login_model.specs.declared.conf.Conf.{Conf}
 use Rattle.login_model.specs.declared.event.Event.{Event}
 use Rattle.std.proofs.Common.{◌≡◌, refl, ◌==◌, ◌&&◌, ◌||◌, not, nat_le, nat_lt, ℕ, Bool, true, false, cond, Option, Some, None, List, [], ◌∷◌, ap, sym, subst, ◌∙◌}
 use Rattle.std.specs.Option.{is_some}
@@ -325,24 +326,24 @@ arrive-carried r old t =
     let u = tell_change old o t in
     r.trans t u (if_some resume o u) (tell_change-carried r old o t) (if_some-carried r resume (resume-carried r) o u)
 
-pub move_to-carried : (r : Carried) → Switched r → (U : Setup) (v : ℕ) (old : Option SessId) (t : Trail) → r.R t (move_to U v old t)
-move_to-carried r w U v old t =
+pub move_to-carried : (r : Carried) → Switched r → (conf : Conf) (v : ℕ) (old : Option SessId) (t : Trail) → r.R t (move_to conf v old t)
+move_to-carried r w conf v old t =
     let a = if_some force old t in
     let b = put key.Vt (fact.Number v) a in
     let c = put key.Pending fact.Absent b in
-    let d = ask_getty U v c in
+    let d = ask_getty conf v c in
     let p = r.trans t b c (r.trans t a b (if_some-carried r force (force-carried r) old t) (w.vt (fact.Number v) a)) (w.pending fact.Absent b) in
-    let q = cond-carried r (not (is_some (session_on c v)) && nat_le v U.conf.auto_vts) c (put (key.Getty v) yes c) c (r.put (key.Getty v) yes c refl) (r.refl c) in
+    let q = cond-carried r (not (is_some (session_on c v)) && nat_le v conf.auto_vts) c (put (key.Getty v) yes c) c (r.put (key.Getty v) yes c refl) (r.refl c) in
     r.trans t d (arrive old d) (r.trans t c d p q) (arrive-carried r old d)
 
-pub complete-carried : (r : Carried) → Switched r → (U : Setup) (x : Fact) (t : Trail) → r.R t (complete U x t)
-complete-carried r w U (fact.Number v) t =
-    (let u = move_to U v (active_on t seat0) t in cond-carried r (is_awaiting t) t t u (r.refl t) (move_to-carried r w U v (active_on t seat0) t))
-complete-carried r w U _ t = r.refl t
+pub complete-carried : (r : Carried) → Switched r → (conf : Conf) (x : Fact) (t : Trail) → r.R t (complete conf x t)
+complete-carried r w conf (fact.Number v) t =
+    (let u = move_to conf v (active_on t seat0) t in cond-carried r (is_awaiting t) t t u (r.refl t) (move_to-carried r w conf v (active_on t seat0) t))
+complete-carried r w conf _ t = r.refl t
 
-pub settle_switch-carried : (r : Carried) → Switched r → (U : Setup) (t : Trail) → r.R t (settle_switch U t)
+pub settle_switch-carried : (r : Carried) → Switched r → (conf : Conf) (t : Trail) → r.R t (settle_switch conf t)
 unfolding settle_switch
-settle_switch-carried r w U t = complete-carried r w U (value t key.Pending) t
+settle_switch-carried r w conf t = complete-carried r w conf (value t key.Pending) t
 
 -- ---- devices that are taken, and that come and go
 
@@ -612,8 +613,8 @@ settle_operation-carried r o U t = start-carried r o U (value t key.Op) t
 
 pub settle-carried : (r : Carried) → Switched r → Operated r → (U : Setup) (t : Trail) → r.R t (settle U t)
 settle-carried r w o U t =
-    let u = settle_switch U t in
-    r.trans t u (settle_operation U.conf u) (settle_switch-carried r w U t) (settle_operation-carried r o U u)
+    let u = settle_switch U.conf t in
+    r.trans t u (settle_operation U.conf u) (settle_switch-carried r w U.conf t) (settle_operation-carried r o U u)
 
 -- a call and a hardware event, where all of it is carried
 pub call-carried : (r : Carried) → Clocked r → Switched r → Operated r → (U : Setup) (c : ConnId) (x : Call) (t : Trail)

@@ -1,13 +1,15 @@
 -- Every legal journal is lawful.
 use Rattle.std.proofs.Common.{◌≡◌, List, [], ◌∷◌, ◌++◌, sym, ◌∙◌, subst}
 use Rattle.login_model.specs.Direct.{direct}
-use Rattle.login_model.specs.Legal.{IsLegal, IsLegalAfter, IsLegalEntry, trail_of}
+use Rattle.login_model.specs.Legal.{IsLegal, IsLegalAfter, IsLegalEntry, IsPlaced, trail_of}
+use Rattle.login_model.specs.Policy.{verdict}
+use Rattle.login_model.specs.declared.event.Event.{Event}
 use Rattle.login_model.specs.declared.mark.Entry.{Entry}
 use Rattle.login_model.specs.declared.rule.Verdict.TheVariants.{Granted}
 use Rattle.login_model.specs.declared.setup.Setup.{Setup}
 use Rattle.login_laws.specs.Guarded.{IsGuarded}
 use Rattle.login_laws.specs.Lawful.{LegalIsLawful}
-use Rattle.login_laws.specs.Sound.{IsSoundBetween}
+use Rattle.login_laws.specs.Sound.{Awaits, IsSoundBetween}
 use Rattle.login_laws.proofs.Accords.{good-sound, sound-good}
 use Rattle.login_laws.proofs.GuardedLaws.{guarded}
 use Rattle.login_laws.proofs.PoweredLaws.{append-none, append-one, powered}
@@ -31,10 +33,18 @@ entry-after U past (x ∷ xs) e later l = (let P : List Entry → Type 0 = λ ys
 entry : (U : Setup) (journal before : List Entry) (e : Entry) (later : List Entry) → journal ≡ before ++ e ∷ later → IsLegal U journal → IsLegalEntry U before e
 entry U journal before e later p l = (let P : List Entry → Type 0 = IsLegal U in entry-after U [] before e later (subst P p l))
 
-between : (U : Setup) (before : List Entry) (e : Entry) → IsLegal U before → IsLegalEntry U before e → e.verdict ≡ Granted → IsSoundBetween U (direct U e.event (trail_of before))
-between U before e l m v =
+-- what a granted event makes by itself, in place behind a legal journal, is sound between
+granted-between : (U : Setup) (before : List Entry) (e : Event) → IsLegal U before → IsPlaced before e → verdict U (trail_of before) e ≡ Granted → IsSoundBetween U (direct U e (trail_of before))
+granted-between U before e l p v =
     let t = trail_of before in
-    sound-good (direct U e.event t) (good-direct U before e.event m.placed (sym m.verdict_is ∙ v) (good-sound t (sound-journal U before l).between))
+    sound-good (direct U e t) (good-direct U before e p v (good-sound t (sound-journal U before l).between))
+
+between : (U : Setup) (before : List Entry) (e : Entry) → IsLegal U before → IsLegalEntry U before e → e.verdict ≡ Granted → IsSoundBetween U (direct U e.event (trail_of before))
+between U before e l m v = granted-between U before e.event l m.placed (sym m.verdict_is ∙ v)
+
+-- so each pause that it leaves awaited is that of a live handle of seat0's active session
+pub granted-awaits : (U : Setup) (before : List Entry) (e : Event) → IsLegal U before → IsPlaced before e → verdict U (trail_of before) e ≡ Granted → Awaits (direct U e (trail_of before))
+granted-awaits U before e l p v = (granted-between U before e l p v).awaits
 
 guarded-before : (U : Setup) (journal before later : List Entry) → journal ≡ before ++ later → IsLegal U journal → IsGuarded (trail_of before)
 guarded-before U journal before later p l = guarded (trail_of before) (good-sound (trail_of before) (sound-journal U before (front U journal before later p l)).between)

@@ -29,13 +29,13 @@ pub mod Carried
 pub mod Stays
 pub mod Grows
 pub mod Tame
-pub mod Quiet
 pub mod Begun
 pub mod Asked
 pub mod PoweredLaws
 pub mod GuardedLaws
 pub mod Calm
 pub mod Asking
+pub mod TerminalSets
 pub mod SwitchedLaws
 pub mod LawfulLaws
 pub mod WithdrawingLaws
@@ -43,6 +43,7 @@ pub mod Comings
 pub mod Counting
 pub mod Counts
 pub mod FewLives
+pub mod LeftHandles
 pub mod Paying
 pub mod PayingEnds
 pub mod WithinLaws

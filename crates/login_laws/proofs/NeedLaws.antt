@@ -11,6 +11,7 @@ use Rattle.login_model.specs.Legal.{stepped}
 use Rattle.login_laws.specs.Need.{need, switch_need}
 use Rattle.login_laws.specs.Sound.{IsSound}
 use Rattle.login_model.specs.Switching.{complete, move_to, settle_switch}
+use Rattle.login_model.specs.declared.conf.Conf.{Conf}
 use Rattle.login_model.specs.declared.event.Event.TheVariants.{Disconnect}
 use Rattle.login_model.specs.declared.rule.Verdict.TheVariants.{Granted}
 use Rattle.login_model.specs.declared.setup.Setup.{Setup}
@@ -74,15 +75,15 @@ base-less t u f =
     let c1 = c.connected in let c2 = c.controlled in let c3 = c.taken in let c4 = c.opened in let c5 = c.locked in omega arith
 
 -- settling makes no more marks than the need falls by
-complete-by : (b : Bool) (U : Setup) (v : ℕ) (t : Trail) → is_awaiting t ≡ b → value t key.Pending ≡ fact.Number v → Good none_out t
-    → length (cond b t (move_to U v (active_on t seat0) t)) + need (cond b t (move_to U v (active_on t seat0) t)) ≤ length t + need t
-complete-by true U v t e p g = omega arith
-complete-by false U v t e p g =
-    (let u = move_to U v (active_on t seat0) t in
+complete-by : (b : Bool) (conf : Conf) (v : ℕ) (t : Trail) → is_awaiting t ≡ b → value t key.Pending ≡ fact.Number v → Good none_out t
+    → length (cond b t (move_to conf v (active_on t seat0) t)) + need (cond b t (move_to conf v (active_on t seat0) t)) ≤ length t + need t
+complete-by true conf v t e p g = omega arith
+complete-by false conf v t e p g =
+    (let u = move_to conf v (active_on t seat0) t in
     let q = (g.holds.terminals.3 v p).0 in
     let n : NoneAwaited t = λ s d z. awaiting-none t s d e z in
-    let w = move-within U v t in
-    let m = moved U v none_out t q n g in
+    let w = move-within conf v t in
+    let m = moved conf v none_out t q n g in
     let a = need-is u in let b = need-is t in
     let c = switch-on t (ap is_number_fact p) in
     let d = switch-off u (ap is_number_fact m.pending) in
@@ -90,19 +91,19 @@ complete-by false U v t e p g =
     let n = locks-less t u w.falls in
     let k = w.marks in omega arith)
 
-complete-fact : (x : Fact) (U : Setup) (t : Trail) → value t key.Pending ≡ x → Good none_out t → length (complete U x t) + need (complete U x t) ≤ length t + need t
-complete-fact (fact.Number v) U t e g = complete-by (is_awaiting t) U v t refl e g
-complete-fact _ U t e g = omega arith
+complete-fact : (x : Fact) (conf : Conf) (t : Trail) → value t key.Pending ≡ x → Good none_out t → length (complete conf x t) + need (complete conf x t) ≤ length t + need t
+complete-fact (fact.Number v) conf t e g = complete-by (is_awaiting t) conf v t refl e g
+complete-fact _ conf t e g = omega arith
 
-switch-pays : (U : Setup) (t : Trail) → Good none_out t → length (settle_switch U t) + need (settle_switch U t) ≤ length t + need t
+switch-pays : (conf : Conf) (t : Trail) → Good none_out t → length (settle_switch conf t) + need (settle_switch conf t) ≤ length t + need t
 unfolding settle_switch
-switch-pays U t g = complete-fact (value t key.Pending) U t refl g
+switch-pays conf t g = complete-fact (value t key.Pending) conf t refl g
 
 -- settling a switch keeps the locks
-switch-locks : (U : Setup) (t : Trail) → length (locks t) ≤ length (locks (settle_switch U t))
-switch-locks U t =
-    let u = settle_switch U t in
-    count-less lock_lt (is_lock t) (is_lock u) (locks t) (locks u) (locks-list t) (locks-list u) (λ l e. ap is_lock_fact ((switch-still U t).locks l) ∙ e)
+switch-locks : (conf : Conf) (t : Trail) → length (locks t) ≤ length (locks (settle_switch conf t))
+switch-locks conf t =
+    let u = settle_switch conf t in
+    count-less lock_lt (is_lock t) (is_lock u) (locks t) (locks u) (locks-list t) (locks-list u) (λ l e. ap is_lock_fact ((switch-still conf t).locks l) ∙ e)
 
 lock-in : (x : Fact) → is_lock_fact x ≡ true → (y : Lock) × (x ≡ fact.Lock y)
 lock-in (fact.Lock y) e = (y, refl)
@@ -205,12 +206,12 @@ unfolding direct settle_operation
 ends U t c s e =
     let g = good-sound t s.between in
     let v = disconnect c t in
-    let u = settle_switch U v in
+    let u = settle_switch U.conf v in
     let w = settle_operation U.conf u in
     let a = disconnect-pays c t g in
-    let b = switch-pays U v (good-disconnect c t g) in
-    let l = switch-locks U v in
-    let x = stays-trans t v u (disconnect-stays c t) (still-stays v u (switch-still U v)) in
+    let b = switch-pays U.conf v (good-disconnect c t g) in
+    let l = switch-locks U.conf v in
+    let x = stays-trans t v u (disconnect-stays c t) (still-stays v u (switch-still U.conf v)) in
     let m = start-by (value u key.Op) U t u refl x.op x.now x.locks s in
     let p = a.0 in let q = a.1 in
     let k = op-need U u in

@@ -13,6 +13,7 @@ use Rattle.login_model.specs.Full.{taken_count}
 use Rattle.login_model.specs.Procedure.{force, force_device, force_handle, if_some, no, renew, resume, resume_device, resume_handle, revive, tell_controller, yes}
 use Rattle.login_model.specs.Settle.{settle}
 use Rattle.login_model.specs.Switching.{arrive, ask_getty, complete, move_to, settle_switch, tell_change}
+use Rattle.login_model.specs.declared.conf.Conf.{Conf}
 use Rattle.login_model.specs.declared.hardware.DevKind.TheVariants.{Drm, Evdev}
 use Rattle.login_model.specs.declared.mark.Notice.{Notice}
 use Rattle.login_model.specs.declared.mark.Notice.TheVariants.{Active, Pause, Resume}
@@ -114,30 +115,30 @@ arrive-within : (old : Option SessId) (t : Trail) → Within (1 + 4 * taken_coun
 arrive-within old t = arrive-by old (active_on t seat0) t (active-taken t seat0)
 
 -- a switch of terminals
-pub move-within : (U : Setup) (v : ℕ) (t : Trail) → Within (6 * taken_count t + 4) t (move_to U v (active_on t seat0) t)
-move-within U v t =
+pub move-within : (conf : Conf) (v : ℕ) (t : Trail) → Within (6 * taken_count t + 4) t (move_to conf v (active_on t seat0) t)
+move-within conf v t =
     let n = taken_count t in
     let old = active_on t seat0 in
     let u = if_some force old t in
     let a = put key.Vt (fact.Number v) u in
     let b = put key.Pending fact.Absent a in
     let g = put (key.Getty v) yes b in
-    let c = ask_getty U v b in
+    let c = ask_getty conf v b in
     let w1 = within-trans (2 * n) 1 t u a (force-active seat0 t) (plain-within key.Vt (fact.Number v) u refl) in
     let w2 = within-trans (2 * n + 1) 1 t a b w1 (plain-within key.Pending fact.Absent a refl) in
-    let w3 = within-trans (2 * n + 1 + 1) 1 t b c w2 (within-if (not (is_some (session_on b v)) && nat_le v U.conf.auto_vts) 1 b g b (plain-within (key.Getty v) yes b refl) (within-refl 1 b)) in
+    let w3 = within-trans (2 * n + 1 + 1) 1 t b c w2 (within-if (not (is_some (session_on b v)) && nat_le v conf.auto_vts) 1 b g b (plain-within (key.Getty v) yes b refl) (within-refl 1 b)) in
     let k = taken-less t c w3.falls.there w3.falls.taken in
     let w4 = within-trans (2 * n + 1 + 1 + 1) (1 + 4 * taken_count c) t c (arrive old c) w3 (arrive-within old c) in
     within-more (2 * n + 1 + 1 + 1 + (1 + 4 * taken_count c)) (6 * n + 4) t (arrive old c) (omega arith) w4
 
-complete-within : (x : Fact) (U : Setup) (t : Trail) → Within (6 * taken_count t + 4) t (complete U x t)
-complete-within (fact.Number v) U t =
-    within-if (is_awaiting t) (6 * taken_count t + 4) t t (move_to U v (active_on t seat0) t) (within-refl (6 * taken_count t + 4) t) (move-within U v t)
-complete-within _ U t = within-refl (6 * taken_count t + 4) t
+complete-within : (x : Fact) (conf : Conf) (t : Trail) → Within (6 * taken_count t + 4) t (complete conf x t)
+complete-within (fact.Number v) conf t =
+    within-if (is_awaiting t) (6 * taken_count t + 4) t t (move_to conf v (active_on t seat0) t) (within-refl (6 * taken_count t + 4) t) (move-within conf v t)
+complete-within _ conf t = within-refl (6 * taken_count t + 4) t
 
-pub settle_switch-within : (U : Setup) (t : Trail) → Within (6 * taken_count t + 4) t (settle_switch U t)
+pub settle_switch-within : (conf : Conf) (t : Trail) → Within (6 * taken_count t + 4) t (settle_switch conf t)
 unfolding settle_switch
-settle_switch-within U t = complete-within (value t key.Pending) U t
+settle_switch-within conf t = complete-within (value t key.Pending) conf t
 
 -- the operation that waits
 run-within : (k : OpKind) (t : Trail) → Within 1 t (put key.Op (fact.Operation (Running k)) t)
@@ -152,5 +153,5 @@ start-within _ U t = within-refl 1 t
 pub settle-within : (U : Setup) (t : Trail) → Within (6 * taken_count t + 4 + 1) t (settle U t)
 unfolding settle_operation
 settle-within U t =
-    let u = settle_switch U t in
-    within-trans (6 * taken_count t + 4) 1 t u (settle_operation U.conf u) (settle_switch-within U t) (start-within (value u key.Op) U u)
+    let u = settle_switch U.conf t in
+    within-trans (6 * taken_count t + 4) 1 t u (settle_operation U.conf u) (settle_switch-within U.conf t) (start-within (value u key.Op) U u)

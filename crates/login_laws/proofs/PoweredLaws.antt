@@ -35,7 +35,7 @@ step-begun : (U : Setup) (before : List Entry) (e : Entry) (v : Verdict) → v �
 step-begun U before e Granted q l s a =
     let t = trail_of before in
     let g = good-direct U before e.event l.placed (sym (q ∙ l.verdict_is)) (good-sound t s.between) in
-    settle-begun U none_out (direct U e.event t) (switched U none_out (direct U e.event t) g).good (direct-begun U e.event t a)
+    settle-begun U none_out (direct U e.event t) (switched U.conf none_out (direct U e.event t) g).good (direct-begun U e.event t a)
 step-begun U before e (Denied r) q l s a = a
 
 entry-begun : (U : Setup) (before : List Entry) (e : Entry) → IsLegalEntry U before e → IsSound U (trail_of before) → AreBegun U (trail_of before) → AreBegun U (after (trail_of before) e.marks)

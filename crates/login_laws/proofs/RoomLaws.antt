@@ -12,6 +12,7 @@ use Rattle.login_model.specs.Switching.{complete, move_to, settle_switch}
 use Rattle.login_model.specs.Trail.{Trail, put, value}
 use Rattle.login_model.specs.Where.{active_on, connections, locks, open_sessions, sessions, users}
 use Rattle.login_model.specs.Start.{seat0}
+use Rattle.login_model.specs.declared.conf.Conf.{Conf}
 use Rattle.login_model.specs.declared.event.Event.TheVariants.{Stop}
 use Rattle.login_model.specs.declared.fact.Fact.{Fact}
 use Rattle.login_model.specs.declared.fact.Fact.TheVariants.{Number, Operation}
@@ -24,13 +25,13 @@ use Rattle.login_model.specs.declared.rule.Verdict.TheVariants.{Granted}
 use Rattle.login_model.specs.declared.setup.Setup.{Setup}
 
 -- what waits stays as it is
-waits-at : (x : Fact) (U : Setup) (t : Trail) → (is_number_fact x ≡ true → is_awaiting t ≡ true) → complete U x t ≡ t
-waits-at (Number v) U t w = ap (λ (b : Bool). cond b t (move_to U v (active_on t seat0) t)) (w refl)
-waits-at _ U t w = refl
+waits-at : (x : Fact) (conf : Conf) (t : Trail) → (is_number_fact x ≡ true → is_awaiting t ≡ true) → complete conf x t ≡ t
+waits-at (Number v) conf t w = ap (λ (b : Bool). cond b t (move_to conf v (active_on t seat0) t)) (w refl)
+waits-at _ conf t w = refl
 
-switch-stays : (U : Setup) (t : Trail) → IsSound U t → settle_switch U t ≡ t
+switch-stays : (U : Setup) (t : Trail) → IsSound U t → settle_switch U.conf t ≡ t
 unfolding settle_switch
-switch-stays U t s = waits-at (value t key.Pending) U t s.settled
+switch-stays U t s = waits-at (value t key.Pending) U.conf t s.settled
 
 -- what is held up stays as it is
 held-at : (x : Fact) (U : Setup) (t : Trail) → ((k : OpKind) (since : Millis) (skip : Bool) → x ≡ Operation (Waiting k since skip) → IsHeld U t k since) → start U.conf x t ≡ t

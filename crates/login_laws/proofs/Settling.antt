@@ -13,6 +13,7 @@ use Rattle.login_model.specs.Procedure.{force, if_some, resume, yes}
 use Rattle.login_model.specs.Settle.{settle}
 use Rattle.login_model.specs.Facts.{is_number_fact}
 use Rattle.login_model.specs.Switching.{arrive, ask_getty, complete, move_to, settle_switch, tell_change}
+use Rattle.login_model.specs.declared.conf.Conf.{Conf}
 use Rattle.login_model.specs.declared.setup.Setup.{Setup}
 use Rattle.login_model.specs.declared.mark.Notice.TheVariants as notice
 use Rattle.login_model.specs.declared.mark.Whom.TheVariants.{All}
@@ -88,9 +89,9 @@ arrived old out t m =
     (λ s e. (let P : Facts → Type 0 = λ f. Fronted f s in subst P (sym (told-values old now t)) (front-some out t s m.good.holds e))) (told old now out t m)
 
 -- before who is active there goes on
-pub moved-on : (U : Setup) (v : ℕ) (out : Exempt) (t : Trail) → is_vt v ≡ true → NoneAwaited t → Good out t
-    → Moved out (ask_getty U v (put key.Pending fact.Absent (put key.Vt (fact.Number v) (if_some force (active_on t seat0) t))))
-moved-on U v out t p n g =
+pub moved-on : (conf : Conf) (v : ℕ) (out : Exempt) (t : Trail) → is_vt v ≡ true → NoneAwaited t → Good out t
+    → Moved out (ask_getty conf v (put key.Pending fact.Absent (put key.Vt (fact.Number v) (if_some force (active_on t seat0) t))))
+moved-on conf v out t p n g =
     let c = calm-at (active_on t seat0) out t refl n g in
     let u = if_some force (active_on t seat0) t in
     let a = put key.Vt (fact.Number v) u in
@@ -105,11 +106,11 @@ moved-on U v out t p n g =
       };
       pending = ap (λ (f : Facts). f key.Pending) path;
     } in
-    getty-by (not (is_some (session_on b v)) && nat_le v U.conf.auto_vts) out v b m
+    getty-by (not (is_some (session_on b v)) && nat_le v conf.auto_vts) out v b m
 
-pub moved : (U : Setup) (v : ℕ) (out : Exempt) (t : Trail) → is_vt v ≡ true → NoneAwaited t → Good out t → Moved out (move_to U v (active_on t seat0) t)
-moved U v out t p n g =
-    arrived (active_on t seat0) out (ask_getty U v (put key.Pending fact.Absent (put key.Vt (fact.Number v) (if_some force (active_on t seat0) t)))) (moved-on U v out t p n g)
+pub moved : (conf : Conf) (v : ℕ) (out : Exempt) (t : Trail) → is_vt v ≡ true → NoneAwaited t → Good out t → Moved out (move_to conf v (active_on t seat0) t)
+moved conf v out t p n g =
+    arrived (active_on t seat0) out (ask_getty conf v (put key.Pending fact.Absent (put key.Vt (fact.Number v) (if_some force (active_on t seat0) t)))) (moved-on conf v out t p n g)
 
 -- good, and a switch that is pending waits
 pub record Settled (out : Exempt) (u : Trail) : Type 0 where
@@ -119,19 +120,19 @@ pub record Settled (out : Exempt) (u : Trail) : Type 0 where
 moved-settled : (out : Exempt) (u : Trail) → Moved out u → Settled out u
 moved-settled out u m = record { good = m.good; waits = λ e. (let z : is_number_fact fact.Absent ≡ true = ap is_number_fact (sym m.pending) ∙ e in cc) }
 
-complete-by : (b : Bool) (U : Setup) (v : ℕ) (out : Exempt) (t : Trail) → is_awaiting t ≡ b → value t key.Pending ≡ fact.Number v → Good out t
-    → Settled out (cond b t (move_to U v (active_on t seat0) t))
-complete-by true U v out t e p g = record { good = g; waits = λ q. e }
-complete-by false U v out t e p g =
-    moved-settled out (move_to U v (active_on t seat0) t) (moved U v out t (g.holds.terminals.3 v p).0 (λ s d q. awaiting-none t s d e q) g)
+complete-by : (b : Bool) (conf : Conf) (v : ℕ) (out : Exempt) (t : Trail) → is_awaiting t ≡ b → value t key.Pending ≡ fact.Number v → Good out t
+    → Settled out (cond b t (move_to conf v (active_on t seat0) t))
+complete-by true conf v out t e p g = record { good = g; waits = λ q. e }
+complete-by false conf v out t e p g =
+    moved-settled out (move_to conf v (active_on t seat0) t) (moved conf v out t (g.holds.terminals.3 v p).0 (λ s d q. awaiting-none t s d e q) g)
 
-complete-fact : (x : Fact) (U : Setup) (out : Exempt) (t : Trail) → value t key.Pending ≡ x → Good out t → Settled out (complete U x t)
-complete-fact (fact.Number v) U out t e g = complete-by (is_awaiting t) U v out t refl e g
-complete-fact _ U out t e g = record { good = g; waits = λ q. (let z = ap is_number_fact (sym e) ∙ q in cc) }
+complete-fact : (x : Fact) (conf : Conf) (out : Exempt) (t : Trail) → value t key.Pending ≡ x → Good out t → Settled out (complete conf x t)
+complete-fact (fact.Number v) conf out t e g = complete-by (is_awaiting t) conf v out t refl e g
+complete-fact _ conf out t e g = record { good = g; waits = λ q. (let z = ap is_number_fact (sym e) ∙ q in cc) }
 
-pub switched : (U : Setup) (out : Exempt) (t : Trail) → Good out t → Settled out (settle_switch U t)
+pub switched : (conf : Conf) (out : Exempt) (t : Trail) → Good out t → Settled out (settle_switch conf t)
 unfolding settle_switch
-switched U out t g = complete-fact (value t key.Pending) U out t refl g
+switched conf out t g = complete-fact (value t key.Pending) conf out t refl g
 
 -- and an operation that waits is held up
 pub record AllSettled (U : Setup) (out : Exempt) (u : Trail) : Type 0 where
@@ -141,6 +142,6 @@ pub record AllSettled (U : Setup) (out : Exempt) (u : Trail) : Type 0 where
 
 pub settled : (U : Setup) (out : Exempt) (t : Trail) → Good out t → AllSettled U out (settle U t)
 settled U out t g =
-    let a = switched U out t g in
-    let b = started U out (settle_switch U t) a.good in
+    let a = switched U.conf out t g in
+    let b = started U out (settle_switch U.conf t) a.good in
     record { good = b.good; waits = λ e. b.awaiting ∙ a.waits (ap is_number_fact (sym b.pending) ∙ e); held = b.held }

@@ -8,6 +8,7 @@ use Rattle.login_model.specs.Procedure.{each, in_phase, release, yes}
 use Rattle.login_model.specs.Same.{same_key}
 use Rattle.login_model.specs.Switching.{settle_switch}
 use Rattle.login_model.specs.Trail.{Trail, put, value}
+use Rattle.login_model.specs.declared.conf.Conf.{Conf}
 use Rattle.login_model.specs.declared.fact.Fact.{Fact}
 use Rattle.login_model.specs.declared.fact.Fact.TheVariants as fact
 use Rattle.login_model.specs.declared.fact.Key.{Key}
@@ -17,7 +18,6 @@ use Rattle.login_model.specs.declared.mark.Mark.TheVariants.{Say}
 use Rattle.login_model.specs.declared.mark.Notice.{Notice}
 use Rattle.login_model.specs.declared.mark.Whom.{Whom}
 use Rattle.login_model.specs.declared.session.Phase.TheVariants.{Closing, Gone}
-use Rattle.login_model.specs.declared.setup.Setup.{Setup}
 use Rattle.login_laws.proofs.Carried.{Carried, Switched, ends-carried, is_plain, settle_switch-carried, other}
 use Rattle.login_model.proofs.Values.{Facts, given, value-put, values-say}
 
@@ -48,7 +48,7 @@ still-trans t u v p q = record { op = q.op ∙ p.op; now = q.now ∙ p.now; lock
 still-at : (k : Key) (x : Fact) (t : Trail) → same_key k key.Op ≡ false → same_key k key.Now ≡ false → ((l : LockNo) → same_key k (key.Lock l) ≡ false) → Still t (put k x t)
 still-at k x t a b c = record { op = other k key.Op x t a; now = other k key.Now x t b; locks = λ l. other k (key.Lock l) x t (c l) }
 
-pub plain-op : (k : Key) (x : Fact) → is_plain k x ≡ true → same_key k key.Op ≡ false
+plain-op : (k : Key) (x : Fact) → is_plain k x ≡ true → same_key k key.Op ≡ false
 plain-op key.Op x e = absurd (let z : false ≡ true = e in cc)
 plain-op _ x e = refl
 
@@ -88,8 +88,8 @@ still-switched = record {
   vt = λ x t. still-at key.Vt x t refl refl (λ l. refl);
 }
 
-pub switch-still : (U : Setup) (t : Trail) → Still t (settle_switch U t)
-switch-still U t = settle_switch-carried still still-switched U t
+pub switch-still : (conf : Conf) (t : Trail) → Still t (settle_switch conf t)
+switch-still conf t = settle_switch-carried still still-switched conf t
 
 abbrev stays : Carried
 stays = record {

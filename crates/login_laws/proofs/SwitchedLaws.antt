@@ -12,20 +12,27 @@ use Rattle.login_model.specs.Procedure.{force, if_some, resume, yes}
 use Rattle.login_model.specs.Settle.{settle}
 use Rattle.login_laws.specs.Sound.{IsSound}
 use Rattle.login_model.specs.Start.{seat0}
-use Rattle.login_laws.specs.Switched.{AsksOther, IsSwitched}
+use Rattle.login_laws.specs.Powered.{IsAt}
+use Rattle.login_laws.specs.Switched.{AsksOther, IsSwitched, MaySet}
 use Rattle.login_model.specs.Facts.{is_number_fact}
 use Rattle.login_model.specs.Switching.{ask_getty, ask_switch, await_devices, complete, move_to, request, settle_switch, withdraw_switch}
 use Rattle.login_model.specs.Trail.{Trail, after, put, value}
 use Rattle.login_model.specs.Where.{active_on, current_vt, is_set, session_on}
+use Rattle.login_model.specs.declared.conf.Conf.{Conf}
 use Rattle.login_model.specs.declared.event.Event.{Event}
 use Rattle.login_model.specs.declared.fact.Fact.{Fact}
 use Rattle.login_model.specs.declared.fact.Fact.TheVariants as fact
 use Rattle.login_model.specs.declared.fact.Key.TheVariants as key
 use Rattle.login_model.specs.declared.mark.Entry.{Entry}
+use Rattle.login_model.specs.declared.mark.Mark.{Mark}
+use Rattle.login_model.specs.declared.mark.Mark.TheVariants.{Set}
 use Rattle.login_model.specs.declared.rule.Verdict.{Verdict}
 use Rattle.login_model.specs.declared.rule.Verdict.TheVariants.{Granted, Denied}
 use Rattle.login_model.specs.declared.setup.Setup.{Setup}
 use Rattle.login_laws.proofs.Accords.{good-sound}
+use Rattle.login_laws.proofs.Asked.{AllMarks, all-at}
+use Rattle.login_laws.proofs.JournalLaws.{one-marks}
+use Rattle.login_laws.proofs.TerminalSets.{SetsAs, entry-sets}
 use Rattle.login_laws.proofs.Calm.{Calm, CalmOr, calm, calm-operated, calm-put, calm-refl, direct-calm}
 use Rattle.login_laws.proofs.Carried.{arrive-carried, cond-carried, if_some-carried, resume-carried, settle_operation-carried, unawait_devices-carried}
 use Rattle.login_laws.proofs.Giving.{Good}
@@ -83,36 +90,36 @@ Settles t u = ((v : ℕ) × Completed v t u) ⊎ ((u ≡ t) × (is_number_fact (
 getty-calm : (b : Bool) (v : ℕ) (t : Trail) → Calm t (cond b (put (key.Getty v) yes t) t)
 getty-calm b v t = cond-carried calm b t (put (key.Getty v) yes t) t (calm-put (key.Getty v) yes t refl) (calm-refl t)
 
-move-vt : (U : Setup) (v : ℕ) (old : Option SessId) (t : Trail) → value (move_to U v old t) key.Vt ≡ fact.Number v
-move-vt U v old t =
+move-vt : (conf : Conf) (v : ℕ) (old : Option SessId) (t : Trail) → value (move_to conf v old t) key.Vt ≡ fact.Number v
+move-vt conf v old t =
     let a = if_some force old t in
     let b = put key.Vt (fact.Number v) a in
     let c = put key.Pending fact.Absent b in
-    let d = ask_getty U v c in
-    (arrive-carried calm old d).vt ∙ (getty-calm (not (is_some (session_on c v)) && nat_le v U.conf.auto_vts) v c).vt ∙ value-put key.Pending key.Vt fact.Absent b ∙ value-put key.Vt key.Vt (fact.Number v) a
+    let d = ask_getty conf v c in
+    (arrive-carried calm old d).vt ∙ (getty-calm (not (is_some (session_on c v)) && nat_le v conf.auto_vts) v c).vt ∙ value-put key.Pending key.Vt fact.Absent b ∙ value-put key.Vt key.Vt (fact.Number v) a
 
-complete-by : (b : Bool) (U : Setup) (v : ℕ) (t : Trail) → is_awaiting t ≡ b → value t key.Pending ≡ fact.Number v → Good none_out t → Settles t (cond b t (move_to U v (active_on t seat0) t))
-complete-by true U v t e p g = inr (refl, λ q. awaiting-some t e)
-complete-by false U v t e p g =
-    (let u = move_to U v (active_on t seat0) t in
-    let m = moved U v none_out t (g.holds.terminals.3 v p).0 (λ s d q. awaiting-none t s d e q) g in
+complete-by : (b : Bool) (conf : Conf) (v : ℕ) (t : Trail) → is_awaiting t ≡ b → value t key.Pending ≡ fact.Number v → Good none_out t → Settles t (cond b t (move_to conf v (active_on t seat0) t))
+complete-by true conf v t e p g = inr (refl, λ q. awaiting-some t e)
+complete-by false conf v t e p g =
+    (let u = move_to conf v (active_on t seat0) t in
+    let m = moved conf v none_out t (g.holds.terminals.3 v p).0 (λ s d q. awaiting-none t s d e q) g in
     inl (
       v,
       record {
         pending = p;
         none = none-waits t e;
-        now = move-vt U v (active_on t seat0) t;
+        now = move-vt conf v (active_on t seat0) t;
         over = λ w. (let z : is_number_fact fact.Absent ≡ true = ap is_number_fact (sym m.pending) ∙ (m.good.holds.awaits w.0 w.1 w.2).4 in cc);
       },
     ))
 
-complete-fact : (x : Fact) (U : Setup) (t : Trail) → value t key.Pending ≡ x → Good none_out t → Settles t (complete U x t)
-complete-fact (fact.Number v) U t e g = complete-by (is_awaiting t) U v t refl e g
-complete-fact _ U t e g = inr (refl, λ q. (let z = ap is_number_fact (sym e) ∙ q in cc))
+complete-fact : (x : Fact) (conf : Conf) (t : Trail) → value t key.Pending ≡ x → Good none_out t → Settles t (complete conf x t)
+complete-fact (fact.Number v) conf t e g = complete-by (is_awaiting t) conf v t refl e g
+complete-fact _ conf t e g = inr (refl, λ q. (let z = ap is_number_fact (sym e) ∙ q in cc))
 
-settles : (U : Setup) (t : Trail) → Good none_out t → Settles t (settle_switch U t)
+settles : (conf : Conf) (t : Trail) → Good none_out t → Settles t (settle_switch conf t)
 unfolding settle_switch
-settles U t g = complete-fact (value t key.Pending) U t refl g
+settles conf t g = complete-fact (value t key.Pending) conf t refl g
 
 -- ---- a request
 
@@ -237,17 +244,33 @@ unnamed U t e v g p q = by (asks (current_vt t) t g)
         not-pending (value (direct U e t) key.Pending) v (subst P (sym (asked U t e (current_vt t) q)) a.1.pending) p)
     by (inr a) = a.0 refl
 
-moving : (U : Setup) (t : Trail) (e : Event) (n : Trail) → IsSound U t → Directs t e (direct U e t) → Settles (direct U e t) n → (value n key.Vt ≡ value t key.Vt → ⊥) → (Waits n → ⊥) × Moves t e n
-moving U t e n s (inl c) (inl d) moved =
-    (d.1.over, inl (s.settled (ap is_number_fact (sym c.pending ∙ d.1.pending)), unnamed U t e d.0 (good-sound t s.between) d.1.pending, d.1.now ∙ sym d.1.pending ∙ c.pending))
-moving U t e n s (inl c) (inr r) moved = absurd (moved (ap (λ (u : Trail). value u key.Vt) r.0 ∙ c.vt))
-moving U t e n s (inr q) z moved = by q.2 z
+-- a switch that completes is one that may
+turning : (U : Setup) (t : Trail) (e : Event) (n : Trail) → IsSound U t → Directs t e (direct U e t) → (v : ℕ) → Completed v (direct U e t) n → (Waits n → ⊥) × Moves t e n
+turning U t e n s (inl c) v d =
+    (d.over, inl (s.settled (ap is_number_fact (sym c.pending ∙ d.pending)), unnamed U t e v (good-sound t s.between) d.pending, d.now ∙ sym d.pending ∙ c.pending))
+turning U t e n s (inr q) v d = by q.2
   where
-    by : Asks q.0 t (direct U e t) → Settles (direct U e t) n → (Waits n → ⊥) × Moves t e n
-    by (inl a) (inl d) = absurd (not-pending (value (direct U e t) key.Pending) d.0 a.1.pending d.1.pending)
-    by (inl a) (inr r) = absurd (moved (ap (λ (u : Trail). value u key.Vt) r.0 ∙ a.1.vt))
-    by (inr a) (inl d) = (d.1.over, inr (q.0, record { asks = q.1; other = a.0 }, d.1.now ∙ ap fact.Number (number-one d.0 q.0 (sym d.1.pending ∙ a.1.pending))))
-    by (inr a) (inr r) = absurd (moved (ap (λ (u : Trail). value u key.Vt) r.0 ∙ a.1.vt))
+    by : Asks q.0 t (direct U e t) → (Waits n → ⊥) × Moves t e n
+    by (inl a) = absurd (not-pending (value (direct U e t) key.Pending) v a.1.pending d.pending)
+    by (inr a) = (d.over, inr (q.0, record { asks = q.1; other = a.0 }, d.now ∙ ap fact.Number (number-one v q.0 (sym d.pending ∙ a.1.pending))))
+
+-- what is pending behind the event, with nothing awaited, is what the terminal may be set to
+may-set : (U : Setup) (t : Trail) (e : Event) (n u : Trail) → IsSound U t → Directs t e (direct U e t) → Settles (direct U e t) n → (Waits u → Waits n)
+    → (v : ℕ) → value (direct U e t) key.Pending ≡ fact.Number v → is_awaiting (direct U e t) ≡ false → MaySet t e u (fact.Number v)
+may-set U t e n u s d (inr r) back v p none = absurd (none-waits (direct U e t) none (r.1 (ap is_number_fact p)))
+may-set U t e n u s d (inl z) back v p none =
+    let i = turning U t e n s d z.0 z.1 in
+    let same : fact.Number v ≡ value n key.Vt = sym p ∙ z.1.pending ∙ sym z.1.now in
+    (waits-not u (λ w. i.0 (back w)), elim i.1 [ inl x ↦ inl (x.0, x.1, same ∙ x.2) | inr x ↦ inr (x.0, x.1, same ∙ x.2) ])
+
+moving : (U : Setup) (t : Trail) (e : Event) (n : Trail) → IsSound U t → Directs t e (direct U e t) → Settles (direct U e t) n → (value n key.Vt ≡ value t key.Vt → ⊥) → (Waits n → ⊥) × Moves t e n
+moving U t e n s q (inl d) moved = turning U t e n s q d.0 d.1
+moving U t e n s (inl c) (inr r) moved = absurd (moved (ap (λ (u : Trail). value u key.Vt) r.0 ∙ c.vt))
+moving U t e n s (inr q) (inr r) moved = absurd (moved (ap (λ (u : Trail). value u key.Vt) r.0 ∙ by q.2))
+  where
+    by : Asks q.0 t (direct U e t) → value (direct U e t) key.Vt ≡ value t key.Vt
+    by (inl a) = a.1.vt
+    by (inr a) = a.1.vt
 
 -- the same, behind what an operation sets
 pub record Behind (n u : Trail) : Type 0 where
@@ -255,12 +278,15 @@ pub record Behind (n u : Trail) : Type 0 where
   pub waits : Waits n → Waits u
   pub back : Waits u → Waits n
 
-entry-switched : (U : Setup) (t : Trail) (e : Event) (n u : Trail) → IsSound U t → IsSound U u → Directs t e (direct U e t) → Settles (direct U e t) n → Behind n u → IsSwitched U t e u
-entry-switched U t e n u s w d z b = record {
+-- the marks are the event's, and those that follow from it
+entry-switched : (U : Setup) (t : Trail) (e : Event) (ms : List Mark) (n u : Trail) → IsSound U t → IsSound U u → Directs t e (direct U e t) → Settles (direct U e t) n → Behind n u
+    → ((C : Fact → Type 0) → ((v : ℕ) → value (direct U e t) key.Pending ≡ fact.Number v → is_awaiting (direct U e t) ≡ false → C (fact.Number v)) → AllMarks (SetsAs C) ms) → IsSwitched U t e ms u
+entry-switched U t e ms n u s w d z b all = record {
   requests = asked U t e;
   pending = (w.settled, w.between.awaits_pending);
   awaited = w.between.awaits;
   completes = λ a none named. b.vt ∙ completing U t e (direct U e t) n s d z a (λ i. none-waits u none (b.waits i)) named;
+  sets = λ k x i. all-at (SetsAs (MaySet t e u)) ms k (Set key.Vt x) (all (MaySet t e u) (may-set U t e n u s d z b.back)) i;
   only = λ moved. (let i = moving U t e n s d z (λ x. moved (b.vt ∙ x)) in
       (waits-not u (λ x. i.0 (b.back x)), elim i.1 [ inl x ↦ inl (x.0, x.1, b.vt ∙ x.2) | inr x ↦ inr (x.0, x.1, b.vt ∙ x.2) ]));
 }
@@ -271,24 +297,35 @@ op-behind U n g =
     record { vt = c.vt; waits = λ w. awaiting-some (settle_operation U.conf n) ((started U none_out n g).awaiting ∙ some-awaiting n w); back = waits-calm n (settle_operation U.conf n) c }
 
 step-switched : (U : Setup) (before : List Entry) (e : Entry) (v : Verdict) → v ≡ e.verdict → IsLegalEntry U before e → IsSound U (trail_of before) → IsSound U (stepped U v e.event (trail_of before))
-    → IsSwitched U (trail_of before) e.event (stepped U v e.event (trail_of before))
+    → IsSwitched U (trail_of before) e.event e.marks (stepped U v e.event (trail_of before))
 step-switched U before e Granted q l s w =
     let t = trail_of before in
     let m = direct U e.event t in
     let g = good-sound t s.between in
     let h = good-direct U before e.event l.placed (sym (q ∙ l.verdict_is)) g in
-    entry-switched U t e.event (settle_switch U m) (settle U m) s w (directs U t e.event g) (settles U m h) (op-behind U (settle_switch U m) (settled_first U none_out m h).good)
+    let P : Verdict → Type 0 = λ x. after t e.marks ≡ stepped U x e.event t in
+    entry-switched U t e.event e.marks (settle_switch U.conf m) (settle U m) s w (directs U t e.event g) (settles U.conf m h) (op-behind U (settle_switch U.conf m) (settled_first U.conf none_out m h).good)
+    (λ C c. (let a = entry-sets C U e.event t c in
+    let same : e.marks ≡ a.marks = one-marks t e.marks a.marks (subst P (sym q) l.marks_are ∙ sym a.leads) in
+    let R : List Mark → Type 0 = AllMarks (SetsAs C) in
+    subst R (sym same) a.all))
 step-switched U before e (Denied r) q l s w = record {
   requests = asked U (trail_of before) e.event;
   pending = (s.settled, s.between.awaits_pending);
   awaited = s.between.awaits;
   completes = λ a none named. absurd (true-false (is_awaiting (trail_of before)) a none);
+  sets = λ n x i. absurd (
+      let t = trail_of before in
+      let P : Verdict → Type 0 = λ v. after t e.marks ≡ stepped U v e.event t in
+      let none : e.marks ≡ [] = one-marks t e.marks [] (subst P (sym q) l.marks_are) in
+      let Q : List Mark → Type 0 = λ ms. IsAt n ms (Set key.Vt x) in
+      subst Q none i);
   only = λ moved. absurd (moved refl);
 }
 
-pub switched : (U : Setup) (journal : List Entry) (e : Entry) → IsLegal U journal → IsLegalEntry U journal e → IsSwitched U (trail_of journal) e.event (after (trail_of journal) e.marks)
+pub switched : (U : Setup) (journal : List Entry) (e : Entry) → IsLegal U journal → IsLegalEntry U journal e → IsSwitched U (trail_of journal) e.event e.marks (after (trail_of journal) e.marks)
 switched U journal e l m =
     let s = sound-journal U journal l in
-    let P : Trail → Type 0 = λ u. IsSwitched U (trail_of journal) e.event u in
+    let P : Trail → Type 0 = λ u. IsSwitched U (trail_of journal) e.event e.marks u in
     let Q : Trail → Type 0 = IsSound U in
     subst P (sym m.marks_are) (step-switched U journal e e.verdict refl m s (subst Q m.marks_are (subst Q (after-more [] journal e) (sound-entry U journal e m s))))

@@ -29,7 +29,7 @@ pub record IsLawful (U : Setup) (journal : List Entry) : Type 0 where
   pub between : AtEach (λ before e. e.verdict ≡ Granted → IsSoundBetween U (direct U e.event (trail_of before))) journal
   pub guarded : AfterEach (λ before. IsGuarded (trail_of before)) journal
   pub works : AfterEach (λ before. WorkForControllers U (trail_of before)) journal
-  pub switching : AtEach (λ before e. IsSwitched U (trail_of before) e.event (after (trail_of before) e.marks)) journal
+  pub switching : AtEach (λ before e. IsSwitched U (trail_of before) e.event e.marks (after (trail_of before) e.marks)) journal
   pub powered : AtEach (λ before e. IsPowered U before e) journal
 
 -- the law: every legal journal

@@ -7,8 +7,8 @@ pub mod Guarded
 pub mod Switched
 pub mod Powered
 pub mod Lawful
-pub mod Quiet
 pub mod Need
 pub mod Few
+pub mod Left
 pub mod Hearing
 pub mod OneJournal

@@ -4,6 +4,7 @@ ghost use Rattle.login_laws.specs.Few.{LivesAreFew};
 ghost use Rattle.login_laws.specs.Handles.{NextHandleIsLeastFree};
 ghost use Rattle.login_laws.specs.Hearing.{HearingGoesOn, ReadsAreHeard};
 ghost use Rattle.login_laws.specs.Lawful.{LegalIsLawful};
+ghost use Rattle.login_laws.specs.Left.{HandlesAreLeft};
 ghost use Rattle.login_laws.specs.Need.{RoomIsKept};
 ghost use Rattle.login_laws.specs.OneJournal.{OneJournal};
 ghost use Rattle.login_laws.specs.Withdrawing.{WithdrawsEach};
@@ -11,7 +12,7 @@ ghost use Rattle.login_model.specs.declared.setup.Setup.{Setup};
 
 /// Every legal journal is sound, also before an entry is settled; a live handle is that of the controller of its
 /// seat's active session; a switch completes exactly when its last awaited pause ends; no operation starts past a
-/// lock that stands in its way and that the policy does not let it pass.
+/// lock that stands in its way, where neither the policy nor the key's setting lets it.
 pub fn legal_is_lawful()
     ensures { LegalIsLawful }
 {}
@@ -46,6 +47,12 @@ pub fn reads_are_heard()
 /// Live handles are at most as many as the devices that sessions have taken.
 pub fn lives_are_few()
     ensures { LivesAreFew }
+{}
+
+/// The handles that were given out and the devices that sessions have taken are together at most as many as
+/// the marks: while these are few, a handle is left for each device that is taken.
+pub fn handles_are_left()
+    ensures { HandlesAreLeft }
 {}
 
 /// The limits of a journal leave room for every end: an event that is no disconnect stays within
