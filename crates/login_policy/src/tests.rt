@@ -1,6 +1,7 @@
-// The default table, the names of actions and the default configuration, as they are documented.
+// The default table, the names of actions and the default configuration, as they are documented, and texts of
+// tables.
 
-use super::ask;
+use super::{TableFault, ask, read_table};
 use login_base::Millis;
 use login_model::Say::{Challenge, No, Yes};
 use login_model::{
@@ -130,4 +131,76 @@ fn default_configuration(rt: HostRuntime) {
         lid_switch_ignore_inhibited: true,
     };
     assert!(rt; conf == wanted);
+}
+
+/// Texts of tables, and the fault of each.
+const REFUSED: [(&[u8], TableFault); 14] = [
+    (b"power-off no\n", TableFault::BadLine(1)),
+    (b"power-off no no no no\n", TableFault::BadLine(1)),
+    (b"power-off  no no no\n", TableFault::BadLine(1)),
+    (b"power-off no no No\n", TableFault::BadLine(1)),
+    (b"power-off no no no", TableFault::BadLine(1)),
+    (b"\n", TableFault::BadLine(1)),
+    (b"foo yes yes yes\n", TableFault::UnknownAction(1)),
+    (b" yes yes yes\n", TableFault::UnknownAction(1)),
+    (b"foo yes yes maybe\n", TableFault::BadLine(1)),
+    (
+        b"chvt no no no\nPower-off no no no\n",
+        TableFault::UnknownAction(2),
+    ),
+    (
+        b"power-off no no no\npower-off no no no\n",
+        TableFault::Repeated(2),
+    ),
+    (
+        b"power-off no no no\npower-off no no\n",
+        TableFault::BadLine(2),
+    ),
+    (
+        b"halt yes no no\nchvt no no no\nhalt no no no\nfoo\n",
+        TableFault::Repeated(3),
+    ),
+    (b"chvt no no no\nhalt no no no", TableFault::BadLine(2)),
+];
+
+#[test]
+fn tables_are_refused(rt: HostRuntime) {
+    for (text, fault) in REFUSED {
+        assert!(rt; matches!(read_table(rt.alloc(), text), Err(found) if found == fault));
+    }
+}
+
+#[test]
+fn tables_are_read(rt: HostRuntime) {
+    let text = b"power-off no challenge yes\nchvt yes no challenge\n";
+    let table = read_table(rt.alloc(), text);
+    assert!(rt; table.is_ok());
+    if let Ok(table) = table {
+        let power_off = Action::Power(PowerAction::PowerOff, Qualifier::Plain);
+        assert!(rt; ask(&table, power_off, Standing::Any) == No);
+        assert!(rt; ask(&table, power_off, Standing::Inactive) == Challenge);
+        assert!(rt; ask(&table, power_off, Standing::Active) == Yes);
+        assert!(rt; ask(&table, Action::ChangeVt, Standing::Inactive) == No);
+        assert!(rt; ask(&table, Action::Manage, Standing::Active) == Challenge);
+    }
+}
+
+#[test]
+fn an_empty_table_is_the_default(rt: HostRuntime) {
+    let table = read_table(rt.alloc(), b"");
+    assert!(rt; table.is_ok());
+    if let Ok(table) = table {
+        for (name, any, inactive, active) in DEFAULTS {
+            if let Some(action) = Action::read(name) {
+                assert!(rt;
+                    table.row(action)
+                        == Row {
+                            any,
+                            inactive,
+                            active
+                        }
+                );
+            }
+        }
+    }
 }
