@@ -1,3 +1,2 @@
-mod Awaiting
 mod Joined
 mod Places

@@ -3,20 +3,18 @@
 #![tactic(auto)]
 
 ghost use Rattle.std.specs.Prelude.{◌≡◌};
-ghost use Rattle.std.specs.List.{list_any};
-ghost use Rattle.device_revoke.specs.Own.{is_awaited_key, is_revoke_key};
-ghost use Rattle.login_model.specs.Devices.{is_awaiting, is_taken};
-ghost use Rattle.login_model.specs.Names.{IsNext, device_lt};
+ghost use Rattle.device_revoke.specs.Own.{is_revoke_key};
+ghost use Rattle.login_model.specs.Devices.{is_taken};
+ghost use Rattle.login_model.specs.Names.{IsNext, device_lt, session_lt};
 ghost use Rattle.login_model.specs.Trail.{Trail};
 ghost use Rattle.login_table.specs.Stands.{Stands};
-ghost use Rattle.login_table.specs.declared.rows.Row.{Row as RowValue};
 
 mod kind;
 
 use crate::kind::Kind;
 use login_base::{DevNo, NoMemory, SessId};
 use login_model::{Fact, Key};
-use login_table::{Row, Rows, Table, kind_place};
+use login_table::{Rows, Table, kind_place};
 use std::alloc::Global;
 use std::marker::Model;
 
@@ -95,22 +93,6 @@ impl Table for DeviceRevoke {
     }
 }
 
-/// Whether a key is about a pause that has still to be acknowledged.
-fn is_awaited(awaits: &Rows, key: &Key) -> bool
-    ensures { result ≡ is_awaited_key awaits.now.trail key.now }
-{
-    match key {
-        Key::Awaited(_, _) => awaits.fact(key).is_set(),
-        _ => false,
-    }
-}
-
-fn is_any_awaited(awaits: &Rows, rows: &[Row]) -> bool
-    ensures { result ≡ list_any (λ (x : RowValue). is_awaited_key awaits.now.trail x.key) rows.now }
-{
-    rows.iter().any(|row| is_awaited(awaits, &row.key))
-}
-
 impl DeviceRevoke {
     /// The least device above that one that a session has taken.
     pub fn next_taken(&self, session: SessId, above: Option<DevNo>) -> Option<DevNo>
@@ -119,11 +101,11 @@ impl DeviceRevoke {
         self.takes.next_taken(session, above)
     }
 
-    /// Whether the pause of some device has still to be acknowledged.
-    pub fn is_awaiting(&self) -> bool
-        ensures { (t : Trail) → Stands is_revoke_key self.now.trail t → result ≡ is_awaiting t }
+    /// The least session above that one that has a device taken.
+    pub fn next_taker(&self, device: DevNo, above: Option<SessId>) -> Option<SessId>
+        ensures { (t : Trail) → Stands is_revoke_key self.now.trail t → IsNext session_lt (λ s. is_taken t s device) above result }
     {
-        is_any_awaited(&self.awaits, self.awaits.as_slice())
+        self.takes.next_taker(device, above)
     }
 }
 

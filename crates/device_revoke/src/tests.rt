@@ -25,21 +25,13 @@ fn taken_devices_are_told_in_their_order(rt: HostRuntime) -> Result<(), NoMemory
     assert!(rt; revoke.next_taken(SessId(2), Some(MOUSE)) == Some(CARD));
     assert!(rt; revoke.next_taken(SessId(2), Some(CARD)) == None);
     assert!(rt; revoke.next_taken(SessId(1), None) == None);
+    assert!(rt; revoke.next_taker(CARD, None) == Some(SessId(2)));
+    assert!(rt; revoke.next_taker(CARD, Some(SessId(2))) == Some(SessId(3)));
+    assert!(rt; revoke.next_taker(MOUSE, Some(SessId(2))) == None);
     revoke.apply(Key::Taken(SessId(2), CARD), Fact::Absent);
+    assert!(rt; revoke.next_taker(CARD, None) == Some(SessId(3)));
     assert!(rt; revoke.next_taken(SessId(2), Some(MOUSE)) == None);
     assert!(rt; revoke.next_taken(SessId(3), None) == Some(CARD));
-    Ok(())
-}
-
-#[test]
-fn a_pause_is_awaited_until_it_is_not(rt: HostRuntime) -> Result<(), NoMemory> {
-    let mut revoke = DeviceRevoke::new(rt.alloc());
-    revoke.room(2)?;
-    assert!(rt; !revoke.is_awaiting());
-    revoke.apply(Key::Awaited(SessId(1), CARD), Fact::Flag(true));
-    assert!(rt; revoke.is_awaiting());
-    revoke.apply(Key::Awaited(SessId(1), CARD), Fact::Flag(false));
-    assert!(rt; !revoke.is_awaiting());
     Ok(())
 }
 

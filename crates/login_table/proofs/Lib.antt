@@ -1,3 +1,4 @@
+pub mod Appending
 mod Ascending
 mod KeyOrder
 mod KeySets
@@ -5,5 +6,6 @@ pub mod Listing
 mod NextKey
 mod NextRow
 mod NextTaken
+mod NextTaker
 pub mod Parts
 pub mod Standing

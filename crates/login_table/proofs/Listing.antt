@@ -1,10 +1,12 @@
 -- Going over the names of a kind in order.
-use Rattle.std.proofs.Common.{◌≡◌, ℕ, ◌+◌, ◌<◌, ◌≤◌, Bool, true, false, cond, nat_le, Option, Some, None, List, [], ◌∷◌, ◌++◌, length, filter, find, refl, ap, sym, ◌∙◌, append_assoc, append-nil, arith, add-one}
+use Rattle.std.proofs.Common.{◌≡◌, ℕ, ◌+◌, ◌<◌, ◌≤◌, Bool, true, false, not, cond, nat_le, Option, Some, None, List, [], ◌∷◌, ◌++◌, length, filter, find, refl, ap, sym, ◌∙◌, append_assoc, append-nil, arith, add-one}
 use Rattle.std.proofs.lemmas.Bool.Decides.{nat_tests}
+use Rattle.std.specs.Option.{is_some}
 use Rattle.login_base.specs.declared.ids.SessId.{SessId}
 use Rattle.login_model.specs.declared.fact.Key.{Key}
 use Rattle.login_model.specs.declared.fact.Fact.{Fact}
 use Rattle.login_model.specs.declared.mark.Mark.TheVariants.{Set, Say}
+use Rattle.login_model.specs.Procedure.{is_empty}
 use Rattle.login_model.specs.Trail.{Trail}
 use Rattle.login_model.specs.Kind.{IsOrder, AreKeys}
 use Rattle.login_model.specs.Names.{insert, insert_some, names, IsNext, session_lt, session_in}
@@ -12,7 +14,7 @@ use Rattle.login_model.specs.Where.{is_session_fact, sessions}
 use Rattle.login_model.proofs.NameLaws.{session_order, session_keys}
 use Rattle.login_model.specs.declared.fact.Key.TheVariants.{Sess}
 use Rattle.login_model.proofs.InOrder.{rest, rest-none, rest-next, rest-all, enumerated}
-use Rattle.login_table.specs.Listed.{is_there, listed}
+use Rattle.login_table.specs.Listed.{first, is_there, listed}
 
 -- a kind of names
 pub record Kind (A : Type 0) : Type 0 where
@@ -131,6 +133,20 @@ find-no k t p above a h e = sym (find-next k t p above a h ∙ ap (λ (b : Bool)
 
 pub find-none : {A : Type 0} (k : Kind A) (t : Trail) (p : A → Bool) (above : Option A) → Next k t above None → find p (left k t above) ≡ None
 find-none k t p above h = ap (find p) (left-none k t above h)
+
+-- the first of those that meet it
+first-step : {A : Type 0} (b : Bool) (a : A) (found : Option A) (xs : List A) → found ≡ first xs → cond b (Some a) found ≡ first (cond b (a ∷ xs) xs)
+first-step true a found xs e = refl
+first-step false a found xs e = e
+
+pub find-first : {A : Type 0} (p : A → Bool) (xs : List A) → find p xs ≡ first (filter p xs)
+find-first p [] = refl
+find-first p (x ∷ xs) = first-step (p x) x (find p xs) (filter p xs) (find-first p xs)
+
+-- whether there is a first one
+pub some-first : {A : Type 0} (xs : List A) → is_some (first xs) ≡ not (is_empty xs)
+some-first [] = refl
+some-first (x ∷ xs) = refl
 
 -- the sessions
 abbrev pub session_kind : Kind SessId

@@ -31,7 +31,7 @@ above-passed : (s : SessId) (above : Option DevNo) (e : DevNo) → is_above devi
 above-passed s None e h = none-least s e
 above-passed s (Some d) e h = ap not (one-session s d e ∙ h)
 
-true-from : (b : Bool) → not b ≡ false → b ≡ true
+pub true-from : (b : Bool) → not b ≡ false → b ≡ true
 true-from true h = refl
 true-from false h = let z : true ≡ false = h in cc
 
@@ -39,11 +39,11 @@ passed-above : (s : SessId) (above : Option DevNo) (e : DevNo) → is_taken_pass
 passed-above s None e h = refl
 passed-above s (Some d) e h = sym (one-session s d e) ∙ true-from (pair_lt s d s e) h
 
-or-first : (a b : Bool) → a ≡ true → (a || b) ≡ true
+pub or-first : (a b : Bool) → a ≡ true → (a || b) ≡ true
 or-first true b h = refl
 or-first false b h = let z : false ≡ true = h in cc
 
-or-second : (a b : Bool) → b ≡ true → (a || b) ≡ true
+pub or-second : (a b : Bool) → b ≡ true → (a || b) ≡ true
 or-second true b h = refl
 or-second false b h = h
 
@@ -63,18 +63,18 @@ from-behind p k (suc n) [] f h = absurd f
 from-behind p k zero (x ∷ xs) f h = h
 from-behind p k (suc n) (x ∷ xs) f h = or-second (same_key x k) (has k xs) (from-behind p k n xs f.1 h)
 
-dropped-ascend : (b : Option Key) (n : ℕ) (xs : List Key) → KeysAscendFrom b xs → KeysAscendFrom None (drop n xs)
+pub dropped-ascend : (b : Option Key) (n : ℕ) (xs : List Key) → KeysAscendFrom b xs → KeysAscendFrom None (drop n xs)
 dropped-ascend b zero [] a = tt
 dropped-ascend b (suc n) [] a = tt
 dropped-ascend b zero (x ∷ xs) a = keys-anyhow b (x ∷ xs) a
 dropped-ascend b (suc n) (x ∷ xs) a = dropped-ascend (Some x) n xs a.1
 
 -- the first key is not passed
-abbrev Stops : (Key → Bool) → List Key → Type 0
+abbrev pub Stops : (Key → Bool) → List Key → Type 0
 Stops p [] = Unit {0}
 Stops p (x ∷ xs) = p x ≡ false
 
-stops : (p : Key → Bool) (n : ℕ) (xs : List Key) → IsFront p n xs → Stops p (drop n xs)
+pub stops : (p : Key → Bool) (n : ℕ) (xs : List Key) → IsFront p n xs → Stops p (drop n xs)
 stops p zero [] f = tt
 stops p (suc n) [] f = absurd f
 stops p zero (x ∷ xs) f = f

@@ -1,11 +1,11 @@
 -- Keys in order, each once.
-use Rattle.std.specs.Prelude.{◌≡◌, ℕ, ◌||◌, nat_lt, not, Bool, true, false, Option, Some, None, List, [], ◌∷◌}
+use Rattle.std.specs.Prelude.{◌≡◌, ℕ, ◌==◌, ◌||◌, nat_lt, not, Bool, true, false, Option, Some, None, List, [], ◌∷◌}
 use Rattle.login_base.specs.declared.ids.SessId.{SessId}
 use Rattle.login_base.specs.declared.ids.DevNo.{DevNo}
 use Rattle.login_model.specs.declared.fact.Key.{Key}
 use Rattle.login_model.specs.declared.fact.Key.TheVariants.{Taken}
 use Rattle.login_model.specs.Same.{same_key}
-use Rattle.login_model.specs.Names.{is_above}
+use Rattle.login_model.specs.Names.{is_above, session_lt}
 use Rattle.login_table.specs.KeyOrder.{key_lt, place}
 
 -- what a set of keys is seen as: its keys in order, and how many more go in without memory
@@ -36,6 +36,26 @@ is_passed key_of kind (Some a) x = not (key_lt (key_of a) x)
 abbrev pub is_taken_passed : SessId → Option DevNo → Key → Bool
 is_taken_passed s None x = key_lt x (Taken s (record { major = 0; minor = 0 }))
 is_taken_passed s (Some d) x = not (key_lt (Taken s d) x)
+
+-- the session of a key about what one has taken
+abbrev pub holder_in : Key → Option SessId
+holder_in (Taken s d) = Some s
+holder_in _ = None
+
+-- whether whoever goes on from a session is past a key: it is of a kind in front, or of a session that is not above
+abbrev pub is_holder_passed : Option SessId → Key → Bool
+is_holder_passed above (Taken s d) = not (is_above session_lt above s)
+is_holder_passed above x = nat_lt (place x) 13
+
+-- whether a key is about what that session has taken
+abbrev pub is_held_by : SessId → Key → Bool
+is_held_by s (Taken r d) = r.0 == s.0
+is_held_by s x = false
+
+-- whether a key is about what that session has taken, among those
+abbrev pub is_holder : SessId → List Key → Bool
+is_holder s [] = false
+is_holder s (x ∷ xs) = is_held_by s x || is_holder s xs
 
 -- the name, or else the other
 abbrev pub or_else : {A : Type 0} → Option A → Option A → Option A

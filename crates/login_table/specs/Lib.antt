@@ -1,3 +1,4 @@
+pub mod Appended
 pub mod KeyOrder
 pub mod KeySet
 pub mod Listed

@@ -2,15 +2,15 @@
 
 ghost use Rattle.std.specs.Prelude.{◌≡◌, ◌+◌, ◌<◌, ◌≤◌, [], Bool, OnOk, false, if◌then◌else◌, length, nat_lt, not, true};
 ghost use Rattle.login_model.specs.Devices.{taken_in};
-ghost use Rattle.login_model.specs.Names.{IsNext, device_lt};
+ghost use Rattle.login_model.specs.Names.{IsNext, device_lt, session_lt};
 ghost use Rattle.login_model.specs.Same.{same_key};
 ghost use Rattle.login_model.specs.declared.fact.Key.{Key as AnyKey};
 ghost use Rattle.login_table.specs.KeyOrder.{key_lt, place};
-ghost use Rattle.login_table.specs.KeySet.{KeysAscend, first_named, has, is_passed, is_taken_passed};
+ghost use Rattle.login_table.specs.KeySet.{KeysAscend, first_named, has, holder_in, is_holder, is_holder_passed, is_passed, is_taken_passed};
 ghost use Rattle.login_table.specs.Rows.{IsFront};
 
-use crate::key_order::{is_key_below, kind_place};
-use crate::name::Name;
+use crate::key_order::{TAKES, is_key_below, kind_place};
+use crate::name::{Name, is_above};
 use login_base::{DevNo, NoMemory, SessId};
 use login_model::{Key, is_same_key};
 use std::alloc::Global;
@@ -112,6 +112,80 @@ fn taken_in(session: SessId, key: &Key) -> Option<DevNo>
     }
 }
 
+/// The session of a key about what one has taken.
+fn holder_in(key: &Key) -> Option<SessId>
+    ensures { result ≡ holder_in key.now }
+{
+    match key {
+        Key::Taken(session, _) => Some(*session),
+        _ => None,
+    }
+}
+
+/// Whether whoever goes on from a session is past a key.
+fn is_holder_passed(above: Option<SessId>, key: &Key) -> bool
+    ensures { result ≡ is_holder_passed above key.now }
+{
+    match key {
+        Key::Taken(session, _) => !is_above(above, *session),
+        _ => kind_place(key) < TAKES,
+    }
+}
+
+/// How many keys are in front of those of what the sessions above that one have taken.
+fn place_of_holder(keys: &[Key], above: Option<SessId>) -> usize
+    requires { KeysAscend keys.now }
+    ensures front { IsFront (is_holder_passed above) result keys.now }
+    ensures bound { result ≤ length keys.now }
+{
+    keys.partition_point(
+        |other: &Key| -> bool
+            ensures { result ≡ is_holder_passed above other.now }
+        { is_holder_passed(above, other) },
+    )
+}
+
+/// The least session above that one that has anything taken.
+fn next_holder(keys: &[Key], above: Option<SessId>) -> Option<SessId>
+    requires { KeysAscend keys.now }
+    ensures { IsNext session_lt (λ s. is_holder s keys.now) above result }
+{
+    let at = place_of_holder(keys, above);
+    if at < keys.len() {
+        holder_in(&keys[at])
+    } else {
+        None
+    }
+}
+
+/// Whether a key is there. It is found by halving.
+fn has(keys: &[Key], key: &Key) -> bool
+    requires { KeysAscend keys.now }
+    ensures { result ≡ has key.now keys.now }
+{
+    let at = place(keys, key);
+    if at < keys.len() {
+        is_same_key(&keys[at], key)
+    } else {
+        false
+    }
+}
+
+/// The least session above that one that has a device taken. It goes from one that has anything taken to the next.
+fn next_taker(keys: &[Key], device: DevNo, above: Option<SessId>) -> Option<SessId>
+    requires { KeysAscend keys.now }
+    ensures { IsNext session_lt (λ s. has (Key.Taken s device) keys.now) above result }
+{
+    let mut from = above;
+    while let Some(session) = next_holder(keys, from) {
+        if has(keys, &Key::Taken(session, device)) {
+            return Some(session);
+        }
+        from = Some(session);
+    }
+    None
+}
+
 /// The first name that a key is about. It goes no further than the keys of its kind.
 fn first_named<N: Name>(keys: &[Key]) -> Option<N>
     requires { KeysAscend keys.now }
@@ -207,5 +281,12 @@ impl KeySet {
         } else {
             None
         }
+    }
+
+    /// The least session above that one whose key is there with the device.
+    pub(crate) fn next_taker(&self, device: DevNo, above: Option<SessId>) -> Option<SessId>
+        ensures { IsNext session_lt (λ s. has (Key.Taken s device) self.now.list) above result }
+    {
+        next_taker(self.keys.as_slice(), device, above)
     }
 }

@@ -5,6 +5,7 @@ mod active;
 mod key_order;
 mod key_set;
 mod listed;
+mod locks;
 mod name;
 mod rows;
 mod search;
@@ -15,7 +16,8 @@ pub use key_order::{
     CONNECTIONS, DEVICES, HINTS, LIVES, LOCKS, OWNERS, SEATS, SESSIONS, TAKES, USERS, kind_place,
 };
 pub use listed::{Listed, are_taken_at_least, list};
+pub use locks::{key_lock, matching_lock};
 pub use name::{Name, Order, is_above, is_lower};
 pub use rows::{Row, Rows};
-pub use search::{IsOpen, OfUser, Test, find_session};
+pub use search::{IsOpen, OfUser, Test, find_first, find_session};
 pub use table::Table;

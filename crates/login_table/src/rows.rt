@@ -2,7 +2,7 @@
 
 ghost use Rattle.std.specs.Prelude.{◌≡◌, ◌+◌, ◌<◌, ◌≤◌, [], ◌∷◌, OnOk, length};
 ghost use Rattle.login_model.specs.Trail.{value};
-ghost use Rattle.login_model.specs.Names.{IsNext, device_lt};
+ghost use Rattle.login_model.specs.Names.{IsNext, device_lt, session_lt};
 ghost use Rattle.login_model.specs.Devices.{is_taken};
 ghost use Rattle.login_model.specs.declared.fact.Key.{Key as AnyKey};
 ghost use Rattle.login_model.specs.declared.mark.Mark.TheVariants.{Set};
@@ -169,5 +169,13 @@ impl Rows {
         ensures { IsNext device_lt (is_taken self.now.trail session) above result }
     {
         self.there.next_taken(session, above)
+    }
+
+    /// The least session above that one that has a device taken. It is found by halving, from one that has anything
+    /// taken to the next.
+    pub fn next_taker(&self, device: DevNo, above: Option<SessId>) -> Option<SessId>
+        ensures { IsNext session_lt (λ s. is_taken self.now.trail s device) above result }
+    {
+        self.there.next_taker(device, above)
     }
 }

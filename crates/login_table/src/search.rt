@@ -4,7 +4,9 @@ ghost use Rattle.std.specs.Prelude.{◌≡◌, Bool, find};
 ghost use Rattle.login_model.specs.declared.fact.Key.TheVariants.{Sess};
 ghost use Rattle.login_model.specs.Trail.{Trail, value};
 ghost use Rattle.login_model.specs.Where.{is_open, is_user_in, sessions};
+ghost use Rattle.login_table.specs.Listed.{listed};
 
+use crate::listed::Listed;
 use crate::name::Name;
 use login_base::{SessId, Uid};
 use login_model::{Key, Look};
@@ -43,16 +45,24 @@ impl Test<SessId> for OfUser {
     }
 }
 
+/// The first name of a kind that is there and meets a test.
+pub fn find_first<N: Listed, F: Look, T: Test<N>>(facts: &F, test: &T) -> Option<N>
+    ensures { result ≡ find (T.meets test.now (F.trail facts.now)) (listed N.lt N.name_in N.key_of N.is_fact N.first (F.trail facts.now)) }
+{
+    let mut above = None;
+    while let Some(name) = N::next(facts, above) {
+        if test.is_met(facts, name) {
+            return Some(name);
+        }
+        above = Some(name);
+    }
+    None
+}
+
 /// The first session that is not gone and meets a test.
+#[tactic(auto, unfolding(login_model::specs::Where::sessions))]
 pub fn find_session<F: Look, T: Test<SessId>>(facts: &F, test: &T) -> Option<SessId>
     ensures { result ≡ find (T.meets test.now (F.trail facts.now)) (sessions (F.trail facts.now)) }
 {
-    let mut above = None;
-    while let Some(session) = facts.next_session(above) {
-        if test.is_met(facts, session) {
-            return Some(session);
-        }
-        above = Some(session);
-    }
-    None
+    find_first(facts, test)
 }

@@ -1,0 +1,76 @@
+//! The inhibitor locks that stand (org.freedesktop.login1(5), Manager.Inhibit).
+#![tactic(auto)]
+
+ghost use Rattle.std.specs.Prelude.{◌≡◌};
+ghost use Rattle.inhibitors.specs.Own.{is_inhibitor_key};
+ghost use Rattle.login_model.specs.Names.{IsNext, lock_lt};
+ghost use Rattle.login_model.specs.Trail.{Trail};
+ghost use Rattle.login_model.specs.Where.{is_lock};
+ghost use Rattle.login_table.specs.Stands.{Stands};
+
+use login_base::{LockNo, NoMemory};
+use login_model::{Fact, Key};
+use login_table::{Rows, Table};
+use std::alloc::Global;
+use std::marker::Model;
+
+/// Whether a key is one of the table of inhibitor locks.
+pub fn is_inhibitor_key(key: &Key) -> bool
+    ensures { result ≡ is_inhibitor_key key.now }
+{
+    matches!(key, Key::Lock(_))
+}
+
+/// What each inhibitor lock holds up, how, and for whom.
+#[derive(Drop)]
+pub struct Inhibitors {
+    rows: Rows,
+}
+
+impl Model for Inhibitors {
+    ghost use Rattle.login_table.specs.Rows.{RowList};
+
+    ghost Value = { RowList };
+
+    ghost view = { λ t. t.rows };
+}
+
+impl Table for Inhibitors {
+    ghost owns = { is_inhibitor_key };
+
+    ghost list = { λ t. t };
+
+    fn is_own(key: &Key) -> bool {
+        is_inhibitor_key(key)
+    }
+
+    fn new(alloc: Global) -> Inhibitors {
+        Inhibitors {
+            rows: Rows::new(alloc),
+        }
+    }
+
+    fn part(&self, _kind: u8) -> &Rows {
+        &self.rows
+    }
+
+    fn room(&mut self, marks: usize) -> Result<(), NoMemory> {
+        self.rows.reserve(marks)
+    }
+
+    fn set(&mut self, key: Key, fact: Fact) {
+        self.rows.set(key, fact);
+    }
+}
+
+impl Inhibitors {
+    /// The least lock above that one that stands.
+    pub fn next_lock(&self, above: Option<LockNo>) -> Option<LockNo>
+        ensures { (t : Trail) → Stands is_inhibitor_key self.now.trail t → IsNext lock_lt (is_lock t) above result }
+    {
+        self.next(above)
+    }
+}
+
+#[cfg(test)]
+mod tests;

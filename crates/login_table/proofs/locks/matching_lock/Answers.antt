@@ -1,0 +1,15 @@
+use Rattle.std.proofs.Common.{◌∙◌}
+use Rattle.login_base.specs.declared.ids.LockNo.{LockNo}
+use Rattle.login_model.specs.Facts.{holds_back}
+use Rattle.login_model.specs.Locks.{matching}
+use Rattle.login_model.specs.Trail.{value}
+use Rattle.login_model.specs.Where.{locks}
+use Rattle.login_model.specs.declared.fact.Key.TheVariants.{Lock}
+use Rattle.login_table.proofs.Listing.{find-first}
+use Rattle.login_table.proofs.locks.matching_lock.Goals as goal
+
+pub returns : goal.returns
+unfolding matching locks
+returns g c =
+    let t = g.F.Look.trail c.args.facts.now in
+    c.find_first.ensures ∙ find-first (λ (l : LockNo). holds_back c.args.kind c.args.mode (value t (Lock l))) (locks t)

@@ -1,0 +1,67 @@
+//! The operation that the machine as a whole is made to do, the clock and the dock, and the marks of asking for an
+//! operation, of starting it, and of its end (org.freedesktop.login1(5), Manager.PowerOff and the calls beside it).
+#![tactic(auto)]
+
+ghost use Rattle.std.specs.Prelude.{◌≡◌};
+ghost use Rattle.power_ops.specs.Own.{is_power_key};
+
+mod operations;
+
+use login_base::NoMemory;
+use login_model::{Fact, Key};
+use login_table::{Rows, Table};
+pub use operations::{ended, request, settle};
+use std::alloc::Global;
+use std::marker::Model;
+
+/// Whether a key is one of the table of operations: the operation, the clock, or the dock.
+pub fn is_power_key(key: &Key) -> bool
+    ensures { result ≡ is_power_key key.now }
+{
+    matches!(key, Key::Op | Key::Now | Key::Docked)
+}
+
+/// How far an operation has come, the moment that the clock reached last, and whether the machine is in its dock.
+#[derive(Drop)]
+pub struct PowerOps {
+    rows: Rows,
+}
+
+impl Model for PowerOps {
+    ghost use Rattle.login_table.specs.Rows.{RowList};
+
+    ghost Value = { RowList };
+
+    ghost view = { λ t. t.rows };
+}
+
+impl Table for PowerOps {
+    ghost owns = { is_power_key };
+
+    ghost list = { λ t. t };
+
+    fn is_own(key: &Key) -> bool {
+        is_power_key(key)
+    }
+
+    fn new(alloc: Global) -> PowerOps {
+        PowerOps {
+            rows: Rows::new(alloc),
+        }
+    }
+
+    fn part(&self, _kind: u8) -> &Rows {
+        &self.rows
+    }
+
+    fn room(&mut self, marks: usize) -> Result<(), NoMemory> {
+        self.rows.reserve(marks)
+    }
+
+    fn set(&mut self, key: Key, fact: Fact) {
+        self.rows.set(key, fact);
+    }
+}
+
+#[cfg(test)]
+mod tests;

@@ -1,0 +1,11 @@
+pub mod Frames
+pub mod Told
+pub mod Behind
+pub mod Aheads
+pub mod Staying
+pub mod Numbers
+pub mod Growing
+pub mod Going
+pub mod Appending
+mod PausesLeft
+mod BlankLaws

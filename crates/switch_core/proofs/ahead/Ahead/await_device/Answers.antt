@@ -1,0 +1,20 @@
+use Rattle.std.proofs.Common.{◌∙◌, ap, Option}
+use Rattle.login_base.specs.declared.ids.HandleNo.{HandleNo}
+use Rattle.login_model.specs.declared.fact.Key.TheVariants as key
+use Rattle.login_model.specs.Trail.{value}
+use Rattle.login_model.specs.Switching.{await_handle}
+use Rattle.switch_core.specs.inner.Told.{handle_fact}
+use Rattle.switch_core.specs.inner.Ahead.{with_trail}
+use Rattle.switch_core.proofs.Told.{paused}
+use Rattle.switch_core.proofs.ahead.Ahead.await_device.Goals as goal
+
+pub returns : goal.returns
+returns g c =
+    let s = c.args.session in
+    let d = c.args.device in
+    let t = c.args.self.now.trail in
+    record {
+      marked = c.await_handle.ensures.marked
+          ∙ ap (with_trail c.args.self.now) (ap (λ (o : Option HandleNo). await_handle s d (handle_fact o) t) c.handle_of-taken.ensures
+          ∙ paused s d (value t (key.Taken s d)) t);
+    }

@@ -1,0 +1,4 @@
+use Rattle.switch_core.proofs.ahead.Ahead.await_devices.Goals as goal
+
+pub for_each-requires-clause-suited : goal.for_each-requires-clause-suited
+for_each-requires-clause-suited g c = λ d t h. h

@@ -1,0 +1,4 @@
+pub mod Keeping
+pub mod Told
+pub mod Ahead
+pub mod Awaited
