@@ -1,2 +1,6 @@
+mod Asked
 mod Broken
+mod Lowest
 mod Seatless
+mod Way
+mod Words

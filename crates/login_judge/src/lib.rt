@@ -3,6 +3,9 @@
 
 mod arguments;
 mod devices;
+mod keys;
+mod locks;
+mod operations;
 mod owners;
 mod places;
 mod seated;
@@ -10,5 +13,6 @@ mod session_calls;
 mod standing;
 mod verdict;
 
+pub use operations::can;
 pub use standing::meant_user;
 pub use verdict::judge;

@@ -1,12 +1,15 @@
 // The verdict of an event.
 
 ghost use Rattle.std.specs.Prelude.{◌≡◌, true, ◌∷◌, []};
-ghost use Rattle.login_model.specs.Built.{is_built, is_built_call, is_built_hardware};
+ghost use Rattle.login_model.specs.Built.{is_built, is_built_call};
 ghost use Rattle.login_base.specs.SessionId.{session_of};
 ghost use Rattle.login_model.specs.Policy.{call_rules, hardware_rules, first_broken, verdict, bad_arguments, is_signal, absent_user, no_such_user, no_such_seat, no_such_handle, not_yours, meant_user, linger_action, action_refused, action_challenge, own_or_refused, own_or_challenge};
 
 use crate::arguments::{bad_arguments, fits_creation, is_seat0, is_signal, is_vt};
 use crate::devices::{judge_add, judge_handle, judge_input, judge_remove, judge_take, judge_taken};
+use crate::keys::judge_key;
+use crate::locks::judge_inhibit;
+use crate::operations::{judge_power, no_job};
 use crate::owners::{clock_backwards, no_such_handle, no_such_user, nobody, not_root, not_yours};
 use crate::places::{
     absent_user, no_such_seat, no_such_seat_of, too_many_links, too_many_sessions, vt_busy_on,
@@ -130,18 +133,25 @@ fn judge_call<F: Look>(facts: &F, setup: &Setup, who: ConnId, call: &Call) -> Ve
         Call::Close(handle) => judge_close(facts, who, *handle),
         Call::TakeDevice(_, device) => judge_take(facts, who, session, *device),
         Call::ReleaseDevice(_, device) => judge_taken(facts, who, session, *device),
+        Call::PauseComplete(_, device) => judge_taken(facts, who, session, *device),
         Call::ReadInput(handle) => judge_handle(facts, DevKind::Evdev, who, *handle),
         Call::SetMode(handle, _) => judge_handle(facts, DevKind::Drm, who, *handle),
+        Call::Power(kind) => judge_power(facts, setup, who, *kind),
+        Call::Inhibit(inhibition) => judge_inhibit(facts, setup, who, inhibition),
         Call::NoObject => Verdict::Denied(Rule::UnknownObject),
         Call::NoMethod => Verdict::Denied(Rule::UnknownMethod),
         Call::BadArguments => Verdict::Denied(Rule::BadArguments),
-        Call::ListSessions | Call::ListUsers | Call::ListSeats | Call::NoCall => Verdict::Granted,
+        Call::ListSessions
+        | Call::ListUsers
+        | Call::ListSeats
+        | Call::ListInhibitors
+        | Call::Can(_)
+        | Call::NoCall => Verdict::Granted,
         _ => unreachable!(),
     }
 }
 
 fn judge_hardware<F: Look>(facts: &F, setup: &Setup, hardware: &Hardware) -> Verdict
-    requires built { is_built_hardware hardware.now ≡ true }
     ensures { result ≡ first_broken (hardware_rules setup.now (F.trail facts.now) hardware.now) }
 {
     match hardware {
@@ -150,7 +160,9 @@ fn judge_hardware<F: Look>(facts: &F, setup: &Setup, hardware: &Hardware) -> Ver
         Hardware::Add(device, _, _) => judge_add(facts, *device),
         Hardware::Remove(device) => judge_remove(facts, *device),
         Hardware::Input(device, _, _, _) => judge_input(facts, *device),
-        _ => unreachable!(),
+        Hardware::Key(key) => judge_key(facts, setup, *key),
+        Hardware::JobDone => first_broken(&[no_job(facts)]),
+        Hardware::Dock(_) => Verdict::Granted,
     }
 }
 
