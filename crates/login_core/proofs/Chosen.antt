@@ -1,5 +1,5 @@
 -- The names of a kind that meet a test.
-use Rattle.std.proofs.Common.{◌≡◌, ◌<◌, ◌&&◌, Bool, true, false, cond, Option, Some, None, List, [], ◌∷◌, length, filter, refl, ap, sym, ◌∙◌, inl, inr, arith, add-one}
+use Rattle.std.proofs.Common.{◌≡◌, ◌<◌, ◌&&◌, Bool, true, false, cond, Option, Some, None, List, [], ◌∷◌, length, filter, refl, ap, sym, ◌∙◌, subst, inl, inr, arith, add-one}
 use Rattle.login_model.specs.Kind.{IsOrder}
 use Rattle.login_model.specs.Names.{IsNext, is_above}
 use Rattle.login_model.specs.Trail.{Trail}
@@ -47,6 +47,19 @@ passed-found lt there meets above from d p n e = (
 
 pub passed-none : {A : Type 0} (lt : A → A → Bool) (there meets : A → Bool) (above from : Option A) → Passed lt there meets above from → IsNext lt there from None → IsNext lt (is_chosen there meets) above None
 passed-none lt there meets above from p n = λ a h k. (let b = both (there a) (meets a) h in n a b.0 (p.left a h k))
+
+-- of two tests either may stand in front
+turn : (a b : Bool) → (a && b) ≡ (b && a)
+turn true true = refl
+turn true false = refl
+turn false true = refl
+turn false false = refl
+
+pub next-turned : {A : Type 0} (lt : A → A → Bool) (p q : A → Bool) (above z : Option A) → IsNext lt (is_chosen p q) above z → IsNext lt (is_chosen q p) above z
+next-turned {A} lt p q above z n =
+    let P : (A → Bool) → Type 0 = λ f. IsNext lt f above z in
+    let same : is_chosen p q ≡ is_chosen q p = λ i a. turn (p a) (q a) i in
+    subst P same n
 
 pub fewer : {A : Type 0} (lt : A → A → Bool) (there : A → Bool) (xs : List A) → Enumerates lt there xs → (from : Option A) (d : A) → IsNext lt there from (Some d)
     → length (rest lt there xs (Some d)) < length (rest lt there xs from)

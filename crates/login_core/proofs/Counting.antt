@@ -1,14 +1,15 @@
 -- Numbers that were not given out, after one more mark.
 use Rattle.std.proofs.Common.{◌≡◌, ℕ, ◌+◌, ◌≤◌, Bool, true, false, cond, [], ◌∷◌, length, refl, sym, add-one, arith}
 use Rattle.login_model.specs.declared.fact.Key.{Key}
-use Rattle.login_model.specs.declared.fact.Key.TheVariants.{Sess, Owner}
+use Rattle.login_model.specs.declared.fact.Key.TheVariants.{Sess, Owner, Lock}
 use Rattle.login_model.specs.declared.fact.Fact.{Fact}
 use Rattle.login_model.specs.declared.mark.Mark.TheVariants.{Set, Say}
 use Rattle.login_model.specs.declared.mark.Whom.{Whom}
 use Rattle.login_model.specs.declared.mark.Notice.{Notice}
 use Rattle.login_model.specs.Trail.{Trail}
-use Rattle.login_model.specs.Fresh.{fresh_session, fresh_handle, is_open_fact, is_owned_fact}
-use Rattle.login_core.specs.inner.Facts.{opens, gives}
+use Rattle.login_model.specs.Fresh.{fresh_session, fresh_handle, fresh_lock, is_open_fact, is_owned_fact}
+use Rattle.login_model.specs.Facts.{is_lock_fact}
+use Rattle.login_core.specs.inner.Facts.{opens, gives, inhibits}
 
 one-more : (b : Bool) (n : ℕ) → cond b (n + 1) n ≡ n + cond b 1 0
 one-more true n = refl
@@ -27,6 +28,11 @@ unfolding fresh_handle
 handles-set (Owner h) x t = one-more (is_owned_fact x) (fresh_handle t)
 handles-set _ x t = none-more (fresh_handle t)
 
+pub locks-set : (k : Key) (x : Fact) (t : Trail) → fresh_lock (Set k x ∷ t) ≡ fresh_lock t + inhibits k x
+unfolding fresh_lock
+locks-set (Lock l) x t = one-more (is_lock_fact x) (fresh_lock t)
+locks-set _ x t = none-more (fresh_lock t)
+
 pub sessions-say : (w : Whom) (n : Notice) (t : Trail) → fresh_session (Say w n ∷ t) ≡ fresh_session t
 unfolding fresh_session
 sessions-say w n t = refl
@@ -35,6 +41,10 @@ pub handles-say : (w : Whom) (n : Notice) (t : Trail) → fresh_handle (Say w n 
 unfolding fresh_handle
 handles-say w n t = refl
 
+pub locks-say : (w : Whom) (n : Notice) (t : Trail) → fresh_lock (Say w n ∷ t) ≡ fresh_lock t
+unfolding fresh_lock
+locks-say w n t = refl
+
 pub sessions-none : fresh_session [] ≡ 1
 unfolding fresh_session
 sessions-none = refl
@@ -42,6 +52,10 @@ sessions-none = refl
 pub handles-none : fresh_handle [] ≡ 1
 unfolding fresh_handle
 handles-none = refl
+
+pub locks-none : fresh_lock [] ≡ 1
+unfolding fresh_lock
+locks-none = refl
 
 -- there are at most as many as marks, and one
 bit : (b : Bool) → cond b 1 0 ≤ 1
@@ -58,6 +72,10 @@ opens-bound _ x = none-set
 pub gives-bound : (k : Key) (x : Fact) → gives k x ≤ 1
 gives-bound (Owner h) x = bit (is_owned_fact x)
 gives-bound _ x = none-set
+
+pub inhibits-bound : (k : Key) (x : Fact) → inhibits k x ≤ 1
+inhibits-bound (Lock l) x = bit (is_lock_fact x)
+inhibits-bound _ x = none-set
 
 pub sessions-bound : (t : Trail) → fresh_session t ≤ length t + 1
 sessions-bound [] = let e = sessions-none in omega arith
@@ -84,5 +102,19 @@ handles-bound (Set k x ∷ t) =
 handles-bound (Say w m ∷ t) =
     let e = handles-say w m t in
     let h = handles-bound t in
+    let n : length (Say w m ∷ t) ≡ length t + 1 = sym (add-one (length t)) in
+    omega arith
+
+pub locks-bound : (t : Trail) → fresh_lock t ≤ length t + 1
+locks-bound [] = let e = locks-none in omega arith
+locks-bound (Set k x ∷ t) =
+    let e = locks-set k x t in
+    let b = inhibits-bound k x in
+    let h = locks-bound t in
+    let n : length (Set k x ∷ t) ≡ length t + 1 = sym (add-one (length t)) in
+    omega arith
+locks-bound (Say w m ∷ t) =
+    let e = locks-say w m t in
+    let h = locks-bound t in
     let n : length (Say w m ∷ t) ≡ length t + 1 = sym (add-one (length t)) in
     omega arith

@@ -7,11 +7,13 @@ use Rattle.login_table.specs.Stands.{Stands}
 use Rattle.controller.specs.Own.{is_controller_key}
 use Rattle.device_model.specs.Own.{is_device_key}
 use Rattle.device_revoke.specs.Own.{is_revoke_key}
+use Rattle.inhibitors.specs.Own.{is_inhibitor_key}
+use Rattle.power_ops.specs.Own.{is_power_key}
 use Rattle.users_linger.specs.Own.{is_user_key}
 use Rattle.sessions.specs.Own.{is_session_key}
 use Rattle.seats_vts.specs.Own.{is_seat_key}
 use Rattle.login_core.specs.declared.board.home.Home.{Home}
-use Rattle.login_core.specs.declared.board.home.Home.TheVariants.{Users, Sessions, Seats, Devices, Controls, Takes}
+use Rattle.login_core.specs.declared.board.home.Home.TheVariants.{Users, Sessions, Seats, Devices, Controls, Takes, Locks}
 use Rattle.login_core.specs.inner.Facts.{Tables, TablesStand, table}
 use Rattle.login_core.specs.inner.Home.{home}
 
@@ -55,6 +57,10 @@ revoke-home (key.Live h) e = refl
 revoke-home (key.Awaited s d) e = refl
 revoke-home _ e = absurd (not-so e)
 
+inhibitor-home : (k : Key) → is_inhibitor_key k ≡ true → home k ≡ Locks
+inhibitor-home (key.Lock l) e = refl
+inhibitor-home _ e = absurd (not-so e)
+
 -- what stands in a key's home
 pub at-home : (f : Tables) (t : Trail) (k : Key) (h : Home) → TablesStand f t → home k ≡ h → value (table f h) k ≡ value t k
 at-home f t k h s e = ap (λ (g : Home). value (table f g) k) (sym e) ∙ s.facts k
@@ -77,26 +83,33 @@ controls-stand f t s k own = at-home f t k Controls s (controller-home k own)
 pub takes-stand : (f : Tables) (t : Trail) → TablesStand f t → Stands is_revoke_key f.takes t
 takes-stand f t s k own = at-home f t k Takes s (revoke-home k own)
 
--- tables whose own keys stand, with rows that stand for all others
+pub locks-stand : (f : Tables) (t : Trail) → TablesStand f t → Stands is_inhibitor_key f.locks t
+locks-stand f t s k own = at-home f t k Locks s (inhibitor-home k own)
+
+-- each table stands for its own keys, so all facts stand
 pub all-stand : (f : Tables) (t : Trail) → Stands is_user_key f.users t → Stands is_session_key f.sessions t → Stands is_seat_key f.seats t → Stands is_device_key f.devices t
-    → Stands is_controller_key f.controls t → Stands is_revoke_key f.takes t → ((k : Key) → value f.others k ≡ value t k) → (k : Key) → value (table f (home k)) k ≡ value t k
-all-stand f t users sessions seats devices controls takes others (key.User u) = users (key.User u) refl
-all-stand f t users sessions seats devices controls takes others (key.Linger u) = users (key.Linger u) refl
-all-stand f t users sessions seats devices controls takes others (key.Sess s) = sessions (key.Sess s) refl
-all-stand f t users sessions seats devices controls takes others (key.Idle s) = sessions (key.Idle s) refl
-all-stand f t users sessions seats devices controls takes others (key.Locked s) = sessions (key.Locked s) refl
-all-stand f t users sessions seats devices controls takes others (key.Sig s) = sessions (key.Sig s) refl
-all-stand f t users sessions seats devices controls takes others (key.Seat name) = seats (key.Seat name) refl
-all-stand f t users sessions seats devices controls takes others (key.Act name) = seats (key.Act name) refl
-all-stand f t users sessions seats devices controls takes others key.Vt = seats key.Vt refl
-all-stand f t users sessions seats devices controls takes others (key.Getty v) = seats (key.Getty v) refl
-all-stand f t users sessions seats devices controls takes others key.Pending = seats key.Pending refl
-all-stand f t users sessions seats devices controls takes others (key.Dev d) = devices (key.Dev d) refl
-all-stand f t users sessions seats devices controls takes others (key.Mode d) = devices (key.Mode d) refl
-all-stand f t users sessions seats devices controls takes others (key.Conn c) = controls (key.Conn c) refl
-all-stand f t users sessions seats devices controls takes others (key.Ctl s) = controls (key.Ctl s) refl
-all-stand f t users sessions seats devices controls takes others (key.Taken s d) = takes (key.Taken s d) refl
-all-stand f t users sessions seats devices controls takes others (key.Owner h) = takes (key.Owner h) refl
-all-stand f t users sessions seats devices controls takes others (key.Live h) = takes (key.Live h) refl
-all-stand f t users sessions seats devices controls takes others (key.Awaited s d) = takes (key.Awaited s d) refl
-all-stand f t users sessions seats devices controls takes others k = others k
+    → Stands is_controller_key f.controls t → Stands is_revoke_key f.takes t → Stands is_inhibitor_key f.locks t
+    → Stands is_power_key f.power t → (k : Key) → value (table f (home k)) k ≡ value t k
+all-stand f t users sessions seats devices controls takes locks power (key.User u) = users (key.User u) refl
+all-stand f t users sessions seats devices controls takes locks power (key.Linger u) = users (key.Linger u) refl
+all-stand f t users sessions seats devices controls takes locks power (key.Sess s) = sessions (key.Sess s) refl
+all-stand f t users sessions seats devices controls takes locks power (key.Idle s) = sessions (key.Idle s) refl
+all-stand f t users sessions seats devices controls takes locks power (key.Locked s) = sessions (key.Locked s) refl
+all-stand f t users sessions seats devices controls takes locks power (key.Sig s) = sessions (key.Sig s) refl
+all-stand f t users sessions seats devices controls takes locks power (key.Seat name) = seats (key.Seat name) refl
+all-stand f t users sessions seats devices controls takes locks power (key.Act name) = seats (key.Act name) refl
+all-stand f t users sessions seats devices controls takes locks power key.Vt = seats key.Vt refl
+all-stand f t users sessions seats devices controls takes locks power (key.Getty v) = seats (key.Getty v) refl
+all-stand f t users sessions seats devices controls takes locks power key.Pending = seats key.Pending refl
+all-stand f t users sessions seats devices controls takes locks power (key.Dev d) = devices (key.Dev d) refl
+all-stand f t users sessions seats devices controls takes locks power (key.Mode d) = devices (key.Mode d) refl
+all-stand f t users sessions seats devices controls takes locks power (key.Conn c) = controls (key.Conn c) refl
+all-stand f t users sessions seats devices controls takes locks power (key.Ctl s) = controls (key.Ctl s) refl
+all-stand f t users sessions seats devices controls takes locks power (key.Taken s d) = takes (key.Taken s d) refl
+all-stand f t users sessions seats devices controls takes locks power (key.Owner h) = takes (key.Owner h) refl
+all-stand f t users sessions seats devices controls takes locks power (key.Live h) = takes (key.Live h) refl
+all-stand f t users sessions seats devices controls takes locks power (key.Awaited s d) = takes (key.Awaited s d) refl
+all-stand f t users sessions seats devices controls takes locks power (key.Lock l) = locks (key.Lock l) refl
+all-stand f t users sessions seats devices controls takes locks power key.Op = power key.Op refl
+all-stand f t users sessions seats devices controls takes locks power key.Docked = power key.Docked refl
+all-stand f t users sessions seats devices controls takes locks power key.Now = power key.Now refl

@@ -11,6 +11,7 @@ pub mod Frames
 pub mod Going
 pub mod Growing
 mod Drafting
+mod TakingOver
 mod EarLaws
 pub mod Devices
 pub mod Chosen
@@ -20,6 +21,7 @@ pub mod Takers
 pub mod Closed
 pub mod ClosedHandles
 pub mod Controlled
+pub mod LockRows
 pub mod Locks
 pub mod Released
 pub mod Blanks

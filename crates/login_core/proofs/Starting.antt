@@ -7,8 +7,6 @@ use Rattle.device_model.specs.declared.ears.Ear.{Ear}
 use Rattle.login_laws.specs.Hearing.{heard_in}
 use Rattle.login_model.specs.Legal.{IsLegal, trail_of}
 use Rattle.login_laws.specs.Need.{need}
-use Rattle.login_laws.specs.Quiet.{IsQuiet}
-use Rattle.login_laws.proofs.Quiet.{start-quiet}
 use Rattle.login_model.specs.Names.{names}
 use Rattle.login_model.specs.Setups.{IsSetup}
 use Rattle.login_model.specs.Stopping.{stop_from}
@@ -66,7 +64,6 @@ core-new U m x u j k q g n a b =
     record {
       set_up = u;
       legal = subst P (sym j) tt;
-      quiet = subst IsQuiet (sym t) start-quiet;
       begun = g;
       no_marks = k ∙ sym t;
       stop_is = ap (stop_from 1) (sym j);

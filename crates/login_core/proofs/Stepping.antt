@@ -8,9 +8,7 @@ use Rattle.login_model.specs.Legal.{IsLegal, IsPlaced, answered, stepped, trail_
 use Rattle.login_laws.specs.Need.{IsDisconnect, need}
 use Rattle.login_model.specs.Policy.{verdict}
 use Rattle.login_laws.specs.Hearing.{heard_behind, heard_in}
-use Rattle.login_laws.specs.Quiet.{IsQuiet}
 use Rattle.login_laws.specs.Sound.{IsSound}
-use Rattle.login_model.specs.Built.{is_built}
 use Rattle.login_model.specs.Stopping.{is_stop, stop_from, stopped}
 use Rattle.login_model.specs.Trail.{Trail}
 use Rattle.login_model.specs.Where.{connections}
@@ -26,7 +24,6 @@ use Rattle.login_model.specs.declared.rule.Verdict.{Verdict}
 use Rattle.login_model.specs.declared.setup.Setup.{Setup}
 use Rattle.login_laws.proofs.Comings.{disconnect-connections}
 use Rattle.login_laws.proofs.Hearing.{hearing-goes-on}
-use Rattle.login_laws.proofs.Quiet.{stepped-quiet}
 use Rattle.login_laws.proofs.RoomLaws.{room}
 use Rattle.login_core.specs.Fullness.{always_fits}
 use Rattle.login_core.specs.inner.Board.{IsBegun}
@@ -53,7 +50,6 @@ pub record Stepping (U : Setup) (m : Board) (x : Texts) (a : Ready) (stop : Opti
   pub ready : IsReady (seen U m x a) e
   pub verdict_is : v ≡ verdict U (trail_of m.journal.items) e
   pub sound : IsSound U (trail_of m.journal.items)
-  pub built : is_built e ≡ true
 
 pub stopped-never : (es : List Entry) (c : ConnId) → stopped es (Disconnect c) ≡ None
 unfolding stopped
@@ -233,7 +229,6 @@ core-closed U m n x y a b stop next e v ms s w j k g l r o h q =
     record {
       set_up = s.core.set_up;
       legal = subst P (sym j) (legal-closed U es e v b ms s.core.legal w);
-      quiet = subst IsQuiet (sym trail) (stepped-quiet U v e t s.built s.core.quiet);
       begun = g;
       no_marks = k;
       stop_is = o ∙ ap (λ (p : Option ℕ). stop_next p e (length es + 1)) s.core.stop_is ∙ sym (stop-closed es d) ∙ ap (stop_from 1) (sym j);

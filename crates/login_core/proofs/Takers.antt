@@ -4,13 +4,17 @@ use Rattle.std.specs.List.{list_any}
 use Rattle.std.specs.Option.{is_some}
 use Rattle.login_base.specs.declared.ids.DevNo.{DevNo}
 use Rattle.login_model.specs.Devices.{is_handle_fact, is_taken}
-use Rattle.login_model.specs.Names.{IsNext}
+use Rattle.login_model.specs.Names.{IsNext, names, session_in, session_lt}
 use Rattle.login_model.specs.Procedure.{revoke}
 use Rattle.login_model.specs.Same.{same_device}
+use Rattle.login_model.specs.Taking.{takers}
+use Rattle.login_model.specs.Trail.{Trail}
+use Rattle.login_model.specs.Where.{is_session, sessions}
 use Rattle.login_model.specs.declared.fact.Key.TheVariants.{Sess, Taken}
 use Rattle.login_model.proofs.InOrder.{Enumerates, IsIn, filter-gives, filter-keeps}
 use Rattle.login_model.proofs.Keys.{both}
 use Rattle.login_core.specs.inner.Chosen.{is_chosen}
+use Rattle.login_core.proofs.Chosen.{filter-chosen}
 use Rattle.login_core.proofs.Devices.{keeps-revoke}
 use Rattle.login_core.proofs.Going.{KeepsAbove}
 use Rattle.login_core.proofs.Sessions.{apart, sessions_that, sessions-above}
@@ -21,6 +25,11 @@ takers-above d =
     sessions-above (λ t s. is_taken t s d) (λ s u. revoke s d u)
     (λ s r t l. (keeps-revoke s d t).facts (Sess r) refl)
     (λ s r t l. ap is_handle_fact ((keeps-revoke s d t).facts (Taken r d) (ap (λ (b : Bool). b && same_device d d) (apart s.0 r.0 l))))
+
+-- the sessions that are there and have it taken
+pub takers-chosen : (t : Trail) (d : DevNo) → filter (is_chosen (is_session t) (λ s. is_taken t s d)) (names session_lt session_in t) ≡ takers t d
+unfolding takers sessions
+takers-chosen t d = filter-chosen (is_session t) (λ s. is_taken t s d) (names session_lt session_in t)
 
 -- ---- whether a name meets a test
 

@@ -1,9 +1,10 @@
--- Copies of sessions' texts, kept for the end of each session.
+-- Copies of texts: of sessions, kept for the end of each, and of the lock that stands next.
 use Rattle.std.specs.Prelude.{◌≡◌, ◌==◌, ◌<◌, Bool, true, if◌then◌else◌, Option, Some, None, List, [], ◌∷◌}
 use Rattle.login_base.specs.declared.ids.SessId.{SessId}
 use Rattle.login_model.specs.declared.call.Call.{Call}
-use Rattle.login_model.specs.declared.call.Call.TheVariants.{Create}
+use Rattle.login_model.specs.declared.call.Call.TheVariants.{Create, Inhibit}
 use Rattle.login_model.specs.declared.call.Creation.{Creation}
+use Rattle.login_model.specs.declared.call.Inhibition.{Inhibition}
 use Rattle.login_model.specs.declared.event.Event.{Event}
 use Rattle.login_model.specs.declared.event.Event.TheVariants.{Call as Calls, Hardware as Happens}
 use Rattle.login_model.specs.declared.fact.Key.TheVariants.{Sess}
@@ -14,10 +15,11 @@ use Rattle.login_model.specs.Trail.{Trail, value}
 use Rattle.login_model.specs.Where.{is_open, is_session}
 use Rattle.login_core.specs.declared.room.copies.Copies.{Copies}
 use Rattle.login_core.specs.declared.room.kept.KeptRow.{KeptRow}
+use Rattle.login_core.specs.declared.room.locks.LockCopies.{LockCopies}
 use Rattle.login_core.specs.declared.room.slots.SeatSlots.{SeatSlots}
 use Rattle.login_core.specs.declared.room.texts.FreshTexts.{FreshTexts}
 use Rattle.login_core.specs.declared.room.texts.Texts.{Texts}
-use Rattle.login_core.specs.Texts.{AreSome, session_texts}
+use Rattle.login_core.specs.Texts.{AreSome, lock_texts, session_texts}
 
 abbrev pub is_row_of : SessId → KeptRow → Bool
 is_row_of s row = row.session.0 == s.0
@@ -64,8 +66,19 @@ pub record AreReadyFor (x : Creation) (texts : Texts) : Type 0 where
   pub closing : 0 < texts.closing.spare
   pub gone : 0 < texts.gone.spare
 
+-- both copies are of the texts of the lock that is asked for
+pub record AreOfLock (x : Inhibition) (c : LockCopies) : Type 0 where
+  pub mark : c.mark ≡ lock_texts x
+  pub fact : c.fact ≡ lock_texts x
+
+-- the copies for a lock are there
+abbrev pub HasLock : Inhibition → Option LockCopies → Type 0
+HasLock x None = ⊥
+HasLock x (Some c) = AreOfLock x c
+
 abbrev pub AreReadyToCall : Call → Texts → Type 0
 AreReadyToCall (Create x) texts = AreReadyFor x texts
+AreReadyToCall (Inhibit x) texts = HasLock x texts.lock
 AreReadyToCall _ texts = Unit {0}
 
 -- there is memory for the seat of a device

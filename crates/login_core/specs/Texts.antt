@@ -1,10 +1,12 @@
--- The texts of a session, and copies of them.
+-- The texts of a session and of a lock, and copies of them.
 use Rattle.std.specs.Prelude.{◌≡◌, Option, Some, None}
 use Rattle.login_model.specs.declared.fact.Fact.{Fact}
 use Rattle.login_model.specs.declared.fact.Fact.TheVariants.{Session}
 use Rattle.login_model.specs.declared.call.Creation.{Creation}
+use Rattle.login_model.specs.declared.call.Inhibition.{Inhibition}
 use Rattle.login_model.specs.declared.session.SessionTexts.{SessionTexts}
 use Rattle.login_core.specs.declared.room.copies.Copies.{Copies}
+use Rattle.login_core.specs.declared.room.locks.LockTexts.{LockTexts}
 
 -- the texts with which a session is created
 abbrev pub session_texts : Creation → SessionTexts
@@ -16,6 +18,10 @@ session_texts x = record {
   remote_user = x.remote_user;
   remote_host = x.remote_host;
 }
+
+-- the texts of the lock that is asked for
+abbrev pub lock_texts : Inhibition → LockTexts
+lock_texts x = record { who = x.who; why = x.why }
 
 -- the fact is a session's, and these are its texts
 abbrev pub HasTexts : Fact → SessionTexts → Type 0

@@ -11,6 +11,7 @@ pub mod Ending
 pub mod UnderWay
 pub mod Seating
 pub mod Draft
+pub mod TakingOver
 pub mod Board
 pub mod Leaving
 pub mod Places

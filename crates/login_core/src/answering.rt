@@ -1,13 +1,12 @@
 // What a granted event is answered. The answer is made before the event's marks, since it may take memory.
 
-ghost use Rattle.std.specs.Prelude.{◌≡◌, true, IfOk, IsSome, List, None, Some, map};
+ghost use Rattle.std.specs.Prelude.{◌≡◌, ◌++◌, [], IfOk, IsSome, List, None, OnOk, Some, map};
 ghost use Rattle.device_model.specs.Ears.{heard_of};
 ghost use Rattle.login_base.specs.declared.ids.DevNo.{DevNo as AnyDevice};
 ghost use Rattle.login_model.specs.Fresh.{next_session, next_handle};
-ghost use Rattle.login_model.specs.Where.{sessions, users, seats};
+ghost use Rattle.login_model.specs.Where.{locks, sessions, users, seats};
 ghost use Rattle.login_model.specs.Creating.{seat_of};
-ghost use Rattle.login_model.specs.Answers.{name_among, user_name, session_row, known_user, session_answer, seat_answer, taken_answer, marks_answer, answer};
-ghost use Rattle.login_model.specs.Built.{is_built, is_built_call};
+ghost use Rattle.login_model.specs.Answers.{name_among, user_name, session_row, known_user, lock_row, lock_rows, session_answer, seat_answer, taken_answer, marks_answer, answer};
 ghost use Rattle.login_model.specs.Legal.{trail_of};
 ghost use Rattle.login_model.specs.declared.answer.Input.{Input as AnyInput};
 ghost use Rattle.login_model.specs.declared.mark.Entry.{Entry};
@@ -15,10 +14,11 @@ ghost use Rattle.login_core.specs.inner.Reads.{read_handle};
 
 use crate::board::Draft;
 use crate::creating::created::seat_of;
-use login_base::{ConnId, HandleNo, Items, NoMemory, SeatName, SessId, Uid, Word};
+use login_base::{ConnId, HandleNo, Items, LockNo, NoMemory, SeatName, SessId, Uid, Word};
+use login_judge::can;
 use login_model::{
-    Answer, Boxed, Call, Created, Creation, Event, Fact, Key, KnownUser, Look, SessionRow, Setup,
-    UserRow,
+    Answer, Boxed, Call, Created, Creation, Event, Fact, Key, KnownUser, Lock, Look, SessionRow,
+    Setup, UserRow,
 };
 use login_table::{is_active, list, seat_of_session};
 use std::alloc::Global;
@@ -138,6 +138,55 @@ fn list_seats<F: Look>(alloc: Global, facts: &F) -> Result<Answer, NoMemory>
     Ok(Answer::Seats(seats))
 }
 
+/// A copy of a lock.
+fn copied_lock(lock: &Lock) -> Result<Lock, NoMemory>
+    ensures { IfOk result (λ copy. copy ≡ lock.now) }
+{
+    Ok(Lock {
+        what: lock.what,
+        mode: lock.mode,
+        uid: lock.uid,
+        who: lock.who.copied()?,
+        why: lock.why.copied()?,
+        holder: lock.holder,
+    })
+}
+
+/// Puts a copy of a lock behind others, where the fact is that of a lock.
+fn push_lock(rows: &mut Items<Lock>, fact: &Fact) -> Result<(), NoMemory>
+    ensures { OnOk result (rows.new ≡ rows.old ++ lock_row fact.now []) }
+{
+    if let Fact::Lock(lock) = fact {
+        rows.push(copied_lock(lock.get())?)?;
+    }
+    Ok(())
+}
+
+/// Copies of those of these locks that stand.
+fn copied_locks<F: Look>(
+    alloc: Global,
+    facts: &F,
+    locks: &[LockNo],
+) -> Result<Items<Lock>, NoMemory>
+    ensures { IfOk result (λ rows. rows ≡ lock_rows (F.trail facts.now) locks.now) }
+{
+    let mut rows = Items::new(alloc);
+    for number in locks {
+        push_lock(&mut rows, facts.fact(&Key::Lock(*number)))?;
+    }
+    Ok(rows)
+}
+
+/// What ListInhibitors answers.
+#[tactic(auto, unfolding(login_model::specs::Where::locks))]
+fn list_inhibitors<F: Look>(alloc: Global, facts: &F) -> Result<Answer, NoMemory>
+    ensures { IfOk result (λ a. a ≡ Answer.Inhibitors (lock_rows (F.trail facts.now) (locks (F.trail facts.now)))) }
+{
+    let locks = list::<LockNo, F>(alloc, facts)?;
+    let rows = copied_locks(alloc, facts, locks.as_slice())?;
+    Ok(Answer::Inhibitors(rows))
+}
+
 fn session_answer(session: Option<SessId>) -> Answer
     ensures { result ≡ session_answer session }
 {
@@ -193,7 +242,6 @@ fn call_answer<F: Look>(
     call: &Call,
 ) -> Result<Answer, NoMemory>
     requires session { session ≡ next_session (F.trail facts.now) }
-    requires built { is_built_call call.now ≡ true }
     ensures { IfOk result (λ a. a ≡ marks_answer setup.now (F.trail facts.now) who call.now) }
 {
     match call {
@@ -208,7 +256,9 @@ fn call_answer<F: Look>(
         Call::ListUsers => list_users(alloc, facts, setup),
         Call::ListSeats => list_seats(alloc, facts),
         Call::TakeDevice(..) => Ok(taken_answer(facts, call.session())),
-        Call::ListInhibitors | Call::Can(_) | Call::Inhibit(_) => unreachable!(),
+        Call::ListInhibitors => list_inhibitors(alloc, facts),
+        Call::Can(kind) => Ok(Answer::Can(can(facts, setup, who, *kind))),
+        Call::Inhibit(_) => Ok(Answer::Handle(facts.fresh_handle())),
         _ => Ok(Answer::Nothing),
     }
 }
@@ -245,7 +295,6 @@ pub fn answer_of<F: Look>(
     event: &Event,
 ) -> Result<Answer, NoMemory>
     requires session { session ≡ next_session (F.trail facts.now) }
-    requires built { is_built event.now ≡ true }
     requires other { read_handle event.now ≡ None }
     ensures { (before : List Entry) → trail_of before ≡ F.trail facts.now → IfOk result (λ a. a ≡ answer setup.now before event.now) }
 {

@@ -7,6 +7,8 @@ pub mod home;
 pub mod rounds;
 pub mod seating;
 pub mod setting;
+pub mod so_far;
+pub mod taking_over;
 
 ghost use Rattle.std.specs.Prelude.{◌≡◌, ◌+◌, ◌<◌, ◌≤◌, ◌^◌, [], IsSome, List, OnOk, OnErr, Some, length};
 ghost use Rattle.login_base.specs.declared.ids.DevNo.{DevNo as AnyDevice};
@@ -14,8 +16,7 @@ ghost use Rattle.login_base.specs.declared.ids.HandleNo.{HandleNo as AnyHandle};
 ghost use Rattle.login_model.specs.declared.answer.Input.{Input as AnyInput};
 ghost use Rattle.login_model.specs.declared.mark.Mark.{Mark as AnyMark};
 ghost use Rattle.login_model.specs.Trail.{after, put};
-ghost use Rattle.login_model.specs.Fresh.{next_session};
-ghost use Rattle.login_model.specs.Devices.{is_awaiting};
+ghost use Rattle.login_model.specs.Fresh.{next_lock, next_session};
 ghost use Rattle.login_core.specs.inner.Counts.{AreCounted};
 ghost use Rattle.device_model.specs.Ears.{heard_of};
 ghost use Rattle.login_laws.specs.Hearing.{heard_behind};
@@ -24,6 +25,7 @@ ghost use Rattle.login_core.specs.inner.Ears.{AreEnough, ListenLive, ring_count}
 
 use crate::board::facts::Facts;
 use crate::board::seating::Seating;
+use crate::board::so_far::SoFar;
 use crate::room::counts::Counts;
 use crate::room::ledger::Ledger;
 use login_base::{ConnId, DevNo, HandleNo, LockNo, NoMemory, Reserved, SeatName, SessId, Uid};
@@ -152,6 +154,13 @@ impl Draft {
         self.facts.fresh_session()
     }
 
+    /// The number of the next lock.
+    pub fn fresh_lock(&self) -> LockNo
+        ensures { result ≡ next_lock self.now.trail }
+    {
+        self.facts.fresh_lock()
+    }
+
     /// How many there are of what needs room.
     pub fn counts(&self) -> Counts
         ensures { AreCounted result self.now.trail }
@@ -159,11 +168,11 @@ impl Draft {
         self.facts.counts()
     }
 
-    /// Whether the pause of some device has still to be acknowledged.
-    pub fn is_awaiting(&self) -> bool
-        ensures { result ≡ is_awaiting self.now.trail }
+    /// The facts, as they stand for the marks so far.
+    pub fn so_far(&self) -> SoFar<'_>
+        ensures { result ≡ self.now.trail }
     {
-        self.facts.is_awaiting()
+        SoFar::of(&self.facts, &self.seating, &self.journal, &self.marks)
     }
 
     /// Sets a fact, unless it is so already. The fact comes twice: for the mark and for the facts.
@@ -222,6 +231,10 @@ impl Look for Draft {
         self.facts.next_taken(session, after)
     }
 
+    fn next_taker(&self, device: DevNo, after: Option<SessId>) -> Option<SessId> {
+        self.facts.next_taker(device, after)
+    }
+
     fn next_lock(&self, after: Option<LockNo>) -> Option<LockNo> {
         self.facts.next_lock(after)
     }
@@ -242,12 +255,16 @@ impl Look for Draft {
         self.facts.counts().devices
     }
 
+    fn lock_count(&self) -> u32 {
+        self.facts.counts().locks
+    }
+
     fn on_terminal(&self, vt: u32) -> Option<SessId> {
-        self.session_on(vt)
+        self.so_far().session_on(vt)
     }
 
     fn is_seated(&self, uid: u32) -> bool {
-        self.has_seat(uid)
+        self.so_far().has_seat(uid)
     }
 }
 

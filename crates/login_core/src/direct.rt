@@ -6,6 +6,8 @@ pub mod controlling;
 pub mod disconnecting;
 pub mod ending;
 pub mod handles;
+pub mod inhibiting;
 pub mod leaving;
 pub mod performing;
+pub mod powering;
 pub mod session_calls;

@@ -9,7 +9,6 @@ mod procedure;
 mod room;
 mod settling;
 mod state;
-mod switching;
 mod turning;
 
 pub use state::{Core, Refused};

@@ -2,7 +2,6 @@
 
 pub mod closing;
 pub mod devices;
-pub mod forcing;
 pub mod fronting;
 pub mod giving_back;
 pub mod taking;

@@ -6,6 +6,7 @@ pub mod counts;
 pub mod fullness;
 pub mod kept;
 pub mod ledger;
+pub mod locks;
 pub mod ready;
 pub mod slots;
 pub mod texts;

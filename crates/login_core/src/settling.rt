@@ -5,9 +5,7 @@ ghost use Rattle.login_model.specs.Direct.{direct};
 ghost use Rattle.login_model.specs.Legal.{stepped};
 ghost use Rattle.login_model.specs.Policy.{verdict as policy_verdict};
 ghost use Rattle.login_model.specs.Settle.{settle};
-ghost use Rattle.login_laws.specs.Sound.{IsSound};
-ghost use Rattle.login_model.specs.Built.{is_built};
-ghost use Rattle.login_laws.specs.Quiet.{IsQuiet};
+ghost use Rattle.login_laws.specs.Sound.{Awaits, IsSound};
 ghost use Rattle.login_core.specs.Kept.{AreReady, HaveTexts};
 ghost use Rattle.login_core.specs.inner.Draft.{marked_by, Fits};
 
@@ -17,12 +15,22 @@ use login_model::{Event, Setup, Verdict};
 
 #[tactic(auto, using(crate::proofs::Growing::growing))]
 impl Draft {
+    /// What follows from a granted event: a switch that is pending completes once nothing holds it up, and then an
+    /// operation that waits runs.
+    fn settle(&mut self, setup: &Setup)
+        requires awaits { Awaits self.old.trail }
+        requires room { Fits (settle setup.now) self.old }
+        ensures marked { self.new ≡ marked_by (settle setup.now) self.old }
+    {
+        self.settle_switch(&setup.conf);
+        self.settle_operation(&setup.conf);
+    }
+
     /// What a granted event does, with what follows from it.
     fn grant(&mut self, setup: &Setup, event: &Event, texts: &mut Texts)
-        requires built { is_built event.now ≡ true }
-        requires quiet { IsQuiet self.old.trail }
         requires granted { policy_verdict setup.now self.old.trail event.now ≡ Verdict.Granted }
         requires sound { IsSound setup.now self.old.trail }
+        requires awaits { Awaits (direct setup.now event.now self.old.trail) }
         requires ready { AreReady event.now texts.old }
         requires texts { HaveTexts texts.old self.old.trail }
         requires room { Fits (λ t. settle setup.now (direct setup.now event.now t)) self.old }
@@ -30,15 +38,14 @@ impl Draft {
         ensures texts { HaveTexts texts.new self.new.trail }
     {
         self.direct(setup, event, texts);
-        self.settle_switch(setup);
+        self.settle(setup);
     }
 
     /// What an event does with its verdict: a denied one does nothing.
     pub fn perform(&mut self, setup: &Setup, event: &Event, verdict: Verdict, texts: &mut Texts)
-        requires built { is_built event.now ≡ true }
-        requires quiet { IsQuiet self.old.trail }
         requires verdict { verdict ≡ policy_verdict setup.now self.old.trail event.now }
         requires sound { IsSound setup.now self.old.trail }
+        requires awaits { verdict ≡ Verdict.Granted → Awaits (direct setup.now event.now self.old.trail) }
         requires ready { AreReady event.now texts.old }
         requires texts { HaveTexts texts.old self.old.trail }
         requires room { Fits (stepped setup.now verdict event.now) self.old }

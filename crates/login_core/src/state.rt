@@ -195,7 +195,6 @@ impl Core {
 
     /// The answer of an event that is granted.
     fn granted_answer(&self, event: &Event) -> Result<Answer, NoMemory>
-        requires built { is_built event.now ≡ true }
         requires granted { policy_verdict self.now.setup (trail_of self.now.journal) event.now ≡ Verdict.Granted }
         ensures { IfOk result (λ a. a ≡ answer self.now.setup self.now.journal event.now) }
     {
@@ -211,7 +210,6 @@ impl Core {
 
     /// The answer of an event with this verdict.
     fn answer_to(&self, event: &Event, verdict: Verdict) -> Result<Answer, NoMemory>
-        requires built { is_built event.now ≡ true }
         requires judged { verdict ≡ policy_verdict self.now.setup (trail_of self.now.journal) event.now }
         ensures { IfOk result (λ a. a ≡ answered self.now.setup verdict event.now self.now.journal) }
     {
@@ -245,7 +243,6 @@ impl Core {
         requires judged { verdict ≡ policy_verdict self.old.setup (trail_of self.old.journal) event.now }
         requires other { always_fits event.now ≡ false }
         requires small { full self.old.setup self.old.journal event.now ≡ None }
-        requires built { is_built event.now ≡ true }
         ensures ready { OnOk result (IsRoomFor self.new event.now) }
         ensures same { IsSame self.old self.new }
     {
@@ -345,6 +342,10 @@ impl Look for Core {
         self.board.draft.next_taken(session, after)
     }
 
+    fn next_taker(&self, device: DevNo, after: Option<SessId>) -> Option<SessId> {
+        self.board.draft.next_taker(device, after)
+    }
+
     fn next_lock(&self, after: Option<LockNo>) -> Option<LockNo> {
         self.board.draft.next_lock(after)
     }
@@ -363,6 +364,10 @@ impl Look for Core {
 
     fn device_count(&self) -> u32 {
         self.board.draft.device_count()
+    }
+
+    fn lock_count(&self) -> u32 {
+        self.board.draft.lock_count()
     }
 
     fn on_terminal(&self, vt: u32) -> Option<SessId> {

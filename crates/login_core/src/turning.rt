@@ -109,7 +109,7 @@ impl Draft {
     ) -> Option<u32>
         ensures { result ≡ nearer_terminal way self.now.trail start vt best }
     {
-        if self.session_on(vt).is_some() {
+        if self.on_terminal(vt).is_some() {
             nearer_place(way, start, vt, best)
         } else {
             best

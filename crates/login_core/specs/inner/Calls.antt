@@ -1,11 +1,12 @@
--- Which calls touch the texts of sessions, and which name a seat.
+-- Which calls need texts, and what calls name.
 use Rattle.std.specs.Prelude.{◌≡◌, true, IfSome}
 use Rattle.login_base.specs.Seat.{is_seat_name}
 use Rattle.login_base.specs.declared.ids.ConnId.{ConnId}
 use Rattle.login_base.specs.declared.ids.SessId.{SessId}
 use Rattle.login_model.specs.declared.call.Call.{Call}
-use Rattle.login_model.specs.declared.call.Call.TheVariants.{Create, Activate, ActivateOnSeat, Lock, Unlock, Kill, Terminate, TerminateUser, TerminateSeat, SetIdle, SetLocked, Control, Uncontrol, TakeDevice, ReleaseDevice, PauseComplete, Close, SwitchToNext, SwitchToPrevious}
+use Rattle.login_model.specs.declared.call.Call.TheVariants.{Create, Activate, ActivateOnSeat, Lock, Unlock, Kill, Terminate, TerminateUser, TerminateSeat, Inhibit, SetIdle, SetLocked, Control, Uncontrol, TakeDevice, ReleaseDevice, PauseComplete, Close, SwitchToNext, SwitchToPrevious}
 use Rattle.login_base.specs.SessionId.{session_of}
+use Rattle.login_model.specs.Locks.{is_what}
 use Rattle.login_model.specs.Trail.{Trail, put}
 use Rattle.login_model.specs.Where.{is_session}
 use Rattle.login_model.specs.Fresh.{next_handle}
@@ -15,24 +16,26 @@ use Rattle.login_model.specs.Direct.{activate, lock_session, unlock_session, con
 use Rattle.login_model.specs.Words.{whom_of}
 use Rattle.login_model.specs.declared.fact.Key.TheVariants.{Sig, Idle, Locked}
 use Rattle.login_model.specs.declared.hardware.Hardware.{Hardware}
-use Rattle.login_model.specs.declared.hardware.Hardware.TheVariants.{Exit}
+use Rattle.login_model.specs.declared.hardware.Hardware.TheVariants.{Add, Exit, Remove}
 use Rattle.login_model.specs.declared.fact.Fact.TheVariants.{Signal, Flag}
 
--- no session is created by the call, and none closes
+-- no session is created by the call and none closes, and no lock begins to stand
 abbrev pub IsPlain : Call → Type 0
 IsPlain (Create x) = ⊥
 IsPlain (Terminate id) = ⊥
 IsPlain (TerminateUser u) = ⊥
 IsPlain (TerminateSeat seat) = ⊥
 IsPlain (Close h) = ⊥
+IsPlain (Inhibit x) = ⊥
 IsPlain _ = Unit {0}
 
--- a call on a seat names one
-abbrev pub NamesSeat : Call → Type 0
-NamesSeat (TerminateSeat seat) = is_seat_name seat ≡ true
-NamesSeat (SwitchToNext seat) = is_seat_name seat ≡ true
-NamesSeat (SwitchToPrevious seat) = is_seat_name seat ≡ true
-NamesSeat _ = Unit {0}
+-- a call on a seat names one, and that of a lock what there is to inhibit
+abbrev pub NamesRightly : Call → Type 0
+NamesRightly (TerminateSeat seat) = is_seat_name seat ≡ true
+NamesRightly (SwitchToNext seat) = is_seat_name seat ≡ true
+NamesRightly (SwitchToPrevious seat) = is_seat_name seat ≡ true
+NamesRightly (Inhibit x) = is_what x.what ≡ true
+NamesRightly _ = Unit {0}
 
 -- what a plain call does to the session that it names
 abbrev pub call_on : ConnId → Call → SessId → Trail → Trail
@@ -54,3 +57,10 @@ call_on who _ s t = t
 abbrev pub ExitsHere : Trail → Hardware → Type 0
 ExitsHere t (Exit id) = IfSome (session_of id) (λ s. is_session t s ≡ true)
 ExitsHere t _ = Unit {0}
+
+-- no device comes or goes, and no session exits
+abbrev pub HappensPlain : Hardware → Type 0
+HappensPlain (Add d kind seat) = ⊥
+HappensPlain (Remove d) = ⊥
+HappensPlain (Exit id) = ⊥
+HappensPlain _ = Unit {0}

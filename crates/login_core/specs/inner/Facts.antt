@@ -4,17 +4,17 @@ use Rattle.login_model.specs.declared.fact.Key.{Key}
 use Rattle.login_model.specs.declared.fact.Key.TheVariants.{Owner}
 use Rattle.login_model.specs.declared.fact.Fact.{Fact}
 use Rattle.login_model.specs.Trail.{Trail, value}
-use Rattle.login_model.specs.Fresh.{fresh_session, fresh_handle, is_owned_fact}
+use Rattle.login_model.specs.Fresh.{fresh_session, fresh_handle, fresh_lock, is_owned_fact}
 use Rattle.device_model.specs.declared.ears.Ear.{Ear}
 use Rattle.login_core.specs.declared.board.home.Home.{Home}
-use Rattle.login_core.specs.declared.board.home.Home.TheVariants.{Users, Sessions, Seats, Devices, Controls, Takes, Others}
+use Rattle.login_core.specs.declared.board.home.Home.TheVariants.{Users, Sessions, Seats, Devices, Controls, Takes, Locks, Power}
 use Rattle.login_core.specs.declared.room.counts.Counts.{Counts}
 use Rattle.login_core.specs.inner.Counts.{AreCounted, counts_of}
 use Rattle.login_core.specs.inner.Home.{home}
 
 -- what facts are seen as: what each table has, as settings; the handles that listen to devices, and how many rings
--- are spare; how many there are of what needs room; the numbers of the next session and the next handle; and how
--- many more settings go in without memory
+-- are spare; how many there are of what needs room; the numbers of the next session, the next handle and the next
+-- lock; and how many more settings go in without memory
 pub record Tables : Type 0 where
   pub users : Trail
   pub sessions : Trail
@@ -22,12 +22,14 @@ pub record Tables : Type 0 where
   pub devices : Trail
   pub controls : Trail
   pub takes : Trail
-  pub others : Trail
+  pub locks : Trail
+  pub power : Trail
   pub ears : List Ear
   pub rings : ℕ
   pub counts : Counts
   pub session : ℕ
   pub handle : ℕ
+  pub lock : ℕ
   pub spare : ℕ
 
 -- the settings of one table
@@ -38,7 +40,8 @@ table f Seats = f.seats
 table f Devices = f.devices
 table f Controls = f.controls
 table f Takes = f.takes
-table f Others = f.others
+table f Locks = f.locks
+table f Power = f.power
 
 -- each fact is the one that the marks leave, in the table where it has its home; the counts are those of what is
 -- there, and the numbers are those that the marks leave
@@ -47,6 +50,7 @@ pub record TablesStand (f : Tables) (t : Trail) : Type 0 where
   pub counts : AreCounted f.counts t
   pub session : f.session ≡ fresh_session t
   pub handle : f.handle ≡ fresh_handle t
+  pub lock : f.lock ≡ fresh_lock t
 
 -- the facts are those that the marks leave
 unfoldable pub StandFor : Tables → Trail → Type 0
@@ -61,6 +65,10 @@ pub record StandForFew (f : Tables) : Type 0 where
 -- how many sessions a setting opens
 abbrev pub opens : Key → Fact → ℕ
 opens k x = (counts_of k x).opened
+
+-- how many locks a setting makes stand
+abbrev pub inhibits : Key → Fact → ℕ
+inhibits k x = (counts_of k x).locks
 
 -- how many handles a setting gives out
 abbrev pub gives : Key → Fact → ℕ

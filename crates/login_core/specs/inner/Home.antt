@@ -2,7 +2,7 @@
 use Rattle.login_model.specs.declared.fact.Key.{Key}
 use Rattle.login_model.specs.declared.fact.Key.TheVariants as key
 use Rattle.login_core.specs.declared.board.home.Home.{Home}
-use Rattle.login_core.specs.declared.board.home.Home.TheVariants.{Users, Sessions, Seats, Devices, Controls, Takes, Others}
+use Rattle.login_core.specs.declared.board.home.Home.TheVariants.{Users, Sessions, Seats, Devices, Controls, Takes, Locks, Power}
 
 -- by what the key is about
 abbrev pub home : Key → Home
@@ -25,4 +25,7 @@ home (key.Taken s d) = Takes
 home (key.Owner h) = Takes
 home (key.Live h) = Takes
 home (key.Awaited s d) = Takes
-home _ = Others
+home (key.Lock l) = Locks
+home key.Op = Power
+home key.Docked = Power
+home key.Now = Power

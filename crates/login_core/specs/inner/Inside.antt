@@ -2,7 +2,6 @@
 use Rattle.std.specs.Prelude.{ℕ, ◌≡◌, ◌+◌, ◌≤◌, length, Option, Some, None}
 use Rattle.login_model.specs.Legal.{IsLegal, trail_of}
 use Rattle.login_laws.specs.Need.{need}
-use Rattle.login_laws.specs.Quiet.{IsQuiet}
 use Rattle.login_model.specs.Setups.{IsSetup}
 use Rattle.login_model.specs.Stopping.{stop_from}
 use Rattle.login_model.specs.Where.{connections}
@@ -19,13 +18,11 @@ abbrev pub stop_need : Option ℕ → ℕ
 stop_need None = 1
 stop_need (Some n) = 0
 
--- The setup is one, the journal is legal under it, no operation is asked for, and no entry is under way. There
--- is room for the end of each connection and for the stop: their entries, their marks, the texts of the
+-- The setup is one, the journal is legal under it, and no entry is under way. There is room for the end of each connection and for the stop: their entries, their marks, the texts of the
 -- sessions that close; and with them the journal stays within its limits. Handles have heard what they read.
 pub record IsCore (U : Setup) (m : Board) (texts : Texts) (stop : Option ℕ) : Type 0 where
   pub set_up : IsSetup U
   pub legal : IsLegal U m.journal.items
-  pub quiet : IsQuiet (trail_of m.journal.items)
   pub begun : IsBegun m
   pub no_marks : m.draft.trail ≡ trail_of m.journal.items
   pub stop_is : stop ≡ stop_from 1 m.journal.items

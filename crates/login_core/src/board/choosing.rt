@@ -3,14 +3,16 @@
 ghost use Rattle.std.specs.Prelude.{◌≡◌};
 ghost use Rattle.login_model.specs.declared.fact.Key.TheVariants.{Lock};
 ghost use Rattle.login_model.specs.Trail.{value};
-ghost use Rattle.login_model.specs.Names.{IsNext};
+ghost use Rattle.login_model.specs.Names.{IsNext, session_lt};
 ghost use Rattle.login_model.specs.Policy.{controls};
+ghost use Rattle.login_model.specs.Devices.{is_taken};
 ghost use Rattle.login_model.specs.Direct.{is_held_by};
+ghost use Rattle.login_model.specs.Where.{is_session};
 ghost use Rattle.login_table.specs.Listed.{is_there};
 ghost use Rattle.login_core.specs.inner.Chosen.{is_chosen};
 
 use crate::board::Draft;
-use login_base::{ConnId, LockNo, SessId};
+use login_base::{ConnId, DevNo, LockNo, SessId};
 use login_model::{Key, Look};
 use login_table::{Listed, Test};
 
@@ -56,6 +58,21 @@ impl Draft {
                 return Some(name);
             }
             from = Some(name);
+        }
+        None
+    }
+
+    /// The least session above that one that is there and has a device taken. It goes over those alone that have it
+    /// taken.
+    pub fn next_taker_there(&self, device: DevNo, above: Option<SessId>) -> Option<SessId>
+        ensures { IsNext session_lt (is_chosen (is_session self.now.trail) (λ s. is_taken self.now.trail s device)) above result }
+    {
+        let mut from = above;
+        while let Some(session) = self.next_taker(device, from) {
+            if self.fact(&Key::Sess(session)).is_session() {
+                return Some(session);
+            }
+            from = Some(session);
         }
         None
     }

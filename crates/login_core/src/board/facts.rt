@@ -2,10 +2,10 @@
 
 ghost use Rattle.std.specs.Prelude.{◌≡◌, ◌+◌, ◌<◌, ◌≤◌, [], ◌∷◌, IsSome, List, OnOk, Some, length, nat_lt};
 ghost use Rattle.login_model.specs.Trail.{Trail, value};
-ghost use Rattle.login_model.specs.Fresh.{next_session, next_handle};
+ghost use Rattle.login_model.specs.Fresh.{next_session, next_handle, next_lock};
 ghost use Rattle.login_model.specs.Names.{IsNext, session_lt, user_lt, conn_lt, seat_lt, device_lt, lock_lt};
 ghost use Rattle.login_model.specs.Where.{is_session, is_user, is_connected, is_seat, is_device, is_lock};
-ghost use Rattle.login_model.specs.Devices.{is_taken, is_awaiting};
+ghost use Rattle.login_model.specs.Devices.{is_taken};
 ghost use Rattle.login_model.specs.declared.mark.Mark.TheVariants.{Set};
 ghost use Rattle.login_core.specs.inner.Counts.{AreCounted};
 ghost use Rattle.device_model.specs.Ears.{heard_of};
@@ -22,17 +22,19 @@ use crate::room::counts::Counts;
 use controller::Controller;
 use device_model::DeviceModel;
 use device_revoke::DeviceRevoke;
+use inhibitors::Inhibitors;
 use login_base::{ConnId, DevNo, HandleNo, LockNo, NoMemory, SeatName, SessId, Uid};
 use login_model::{Event, Fact, Input, Inputs, Key, Mark, Verdict};
-use login_table::{Rows, Table};
+use login_table::Table;
+use power_ops::PowerOps;
 use seats_vts::SeatsVts;
 use sessions::Sessions;
 use std::alloc::Global;
 use std::marker::Model;
 use users_linger::UsersLinger;
 
-/// The facts, how many there are of what needs room, and the numbers of the next session and the next handle.
-/// They stand for the marks whose settings were put in. With the devices stands what handles hear of them.
+/// The facts, how many there are of what needs room, and the numbers of the next session, the next handle and the
+/// next lock. They stand for the marks whose settings were put in. With the devices stands what handles hear of them.
 #[derive(Drop)]
 pub struct Facts {
     users: UsersLinger,
@@ -41,10 +43,12 @@ pub struct Facts {
     devices: DeviceModel,
     controls: Controller,
     takes: DeviceRevoke,
-    others: Rows,
+    locks: Inhibitors,
+    power: PowerOps,
     counts: Counts,
     session: u32,
     handle: u32,
+    lock: u32,
     spare: usize,
 }
 
@@ -61,16 +65,18 @@ impl Model for Facts {
       devices = f.devices.trail;
       controls = f.controls.trail;
       takes = f.takes.trail;
-      others = f.others.trail;
+      locks = f.locks.trail;
+      power = f.power.trail;
       ears = f.devices.ears;
       rings = f.devices.rings;
       counts = f.counts;
       session = f.session;
       handle = f.handle;
+      lock = f.lock;
       spare = f.spare;
     } };
 
-    ghost invariant = { λ f. (f.spare ≤ f.users.spare) × (f.spare ≤ f.sessions.spare) × (f.spare ≤ f.seats.spare) × (f.spare ≤ f.devices.spare) × (f.spare ≤ f.controls.spare) × (f.spare ≤ f.takes.spare) × (f.spare ≤ f.others.spare) };
+    ghost invariant = { λ f. (f.spare ≤ f.users.spare) × (f.spare ≤ f.sessions.spare) × (f.spare ≤ f.seats.spare) × (f.spare ≤ f.devices.spare) × (f.spare ≤ f.controls.spare) × (f.spare ≤ f.takes.spare) × (f.spare ≤ f.locks.spare) × (f.spare ≤ f.power.spare) };
 }
 
 /// How many handles a setting gives out.
@@ -97,10 +103,12 @@ impl Facts {
             devices: DeviceModel::new(alloc),
             controls: Controller::new(alloc),
             takes: DeviceRevoke::new(alloc),
-            others: Rows::new(alloc),
+            locks: Inhibitors::new(alloc),
+            power: PowerOps::new(alloc),
             counts: Counts::NONE,
             session: 1,
             handle: 1,
+            lock: 1,
             spare: 0,
         }
     }
@@ -122,7 +130,8 @@ impl Facts {
         self.devices.room(more)?;
         self.controls.room(more)?;
         self.takes.room(more)?;
-        self.others.reserve(more)?;
+        self.locks.room(more)?;
+        self.power.room(more)?;
         self.spare = more;
         Ok(())
     }
@@ -150,7 +159,8 @@ impl Facts {
             Home::Devices => self.devices.fact(key),
             Home::Controls => self.controls.fact(key),
             Home::Takes => self.takes.fact(key),
-            Home::Others => self.others.fact(key),
+            Home::Locks => self.locks.fact(key),
+            Home::Power => self.power.fact(key),
         }
     }
 
@@ -175,6 +185,7 @@ impl Facts {
         self.counts = self.counts.moved(lost, gained);
         self.session += gained.opened;
         self.handle += given(&key, &fact);
+        self.lock += gained.locks;
         self.spare -= 1;
         match Home::of(&key) {
             Home::Users => self.users.set(key, fact),
@@ -183,7 +194,8 @@ impl Facts {
             Home::Devices => self.devices.set(key, fact),
             Home::Controls => self.controls.set(key, fact),
             Home::Takes => self.takes.set(key, fact),
-            Home::Others => self.others.set(key, fact),
+            Home::Locks => self.locks.set(key, fact),
+            Home::Power => self.power.set(key, fact),
         }
     }
 
@@ -206,6 +218,13 @@ impl Facts {
         ensures { (t : Trail) → StandFor self.now t → result ≡ next_handle t }
     {
         HandleNo(self.handle)
+    }
+
+    /// The number of the next lock.
+    pub fn fresh_lock(&self) -> LockNo
+        ensures { (t : Trail) → StandFor self.now t → result ≡ next_lock t }
+    {
+        LockNo(self.lock)
     }
 
     /// The least session above that one that is not gone.
@@ -240,7 +259,7 @@ impl Facts {
     pub fn next_lock(&self, above: Option<LockNo>) -> Option<LockNo>
         ensures { (t : Trail) → StandFor self.now t → IsNext lock_lt (is_lock t) above result }
     {
-        self.others.next(above)
+        self.locks.next_lock(above)
     }
 
     /// The least connection above that one that is connected.
@@ -257,11 +276,11 @@ impl Facts {
         self.takes.next_taken(session, above)
     }
 
-    /// Whether the pause of some device has still to be acknowledged.
-    pub fn is_awaiting(&self) -> bool
-        ensures { (t : Trail) → StandFor self.now t → result ≡ is_awaiting t }
+    /// The least session above that one that has a device taken.
+    pub fn next_taker(&self, device: DevNo, above: Option<SessId>) -> Option<SessId>
+        ensures { (t : Trail) → StandFor self.now t → IsNext session_lt (λ s. is_taken t s device) above result }
     {
-        self.takes.is_awaiting()
+        self.takes.next_taker(device, above)
     }
 
     /// What a handle that listens has heard, the oldest first.

@@ -20,8 +20,10 @@ pub enum Home {
     Controls,
     /// What sessions have taken, whose each handle is and whether it gives access, and the awaited pauses.
     Takes,
-    /// All other facts.
-    Others,
+    /// The inhibitor locks.
+    Locks,
+    /// The operation on the machine, its dock, and the clock.
+    Power,
 }
 
 impl Home {
@@ -36,7 +38,8 @@ impl Home {
             Key::Dev(_) | Key::Mode(_) => Home::Devices,
             Key::Conn(_) | Key::Ctl(_) => Home::Controls,
             Key::Taken(_, _) | Key::Owner(_) | Key::Live(_) | Key::Awaited(_, _) => Home::Takes,
-            _ => Home::Others,
+            Key::Lock(_) => Home::Locks,
+            Key::Op | Key::Docked | Key::Now => Home::Power,
         }
     }
 }

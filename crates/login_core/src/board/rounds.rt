@@ -2,11 +2,12 @@
 
 ghost use Rattle.std.specs.Prelude.{◌≡◌, Bool, List, filter};
 ghost use Rattle.login_model.specs.Trail.{Trail};
-ghost use Rattle.login_model.specs.Names.{IsNext, device_lt, names, insert_some};
+ghost use Rattle.login_model.specs.Names.{IsNext, device_lt, session_in, session_lt, names, insert_some};
 ghost use Rattle.login_model.specs.Devices.{taken_in, is_taken};
 ghost use Rattle.login_model.specs.Procedure.{each};
+ghost use Rattle.login_model.specs.Where.{is_session};
 ghost use Rattle.login_model.proofs.Keys.{both};
-ghost use Rattle.login_model.proofs.InOrder.{Enumerates, enumerated, taken-enumerated};
+ghost use Rattle.login_model.proofs.InOrder.{Enumerates, enumerated, sessions-enumerated, taken-enumerated};
 ghost use Rattle.login_laws.proofs.Grows.{Grows};
 ghost use Rattle.login_table.specs.Listed.{is_there, listed};
 ghost use Rattle.login_core.specs.inner.Chosen.{is_chosen};
@@ -64,6 +65,33 @@ impl Choice<DevNo> for TakenBy {
         ensures { IsNext device_lt (is_taken draft.now.trail self.now.0) above result }
     {
         draft.next_taken(self.0, above)
+    }
+}
+
+/// The sessions that are there and have a device taken.
+#[derive(Drop)]
+pub struct TakersOf(pub DevNo);
+
+impl Choice<SessId> for TakersOf {
+    ghost lt = { session_lt };
+
+    ghost is_in = { λ c t s. is_chosen (is_session t) (λ r. is_taken t r c.0) s };
+
+    ghost among = { λ c t. names session_lt session_in t };
+
+    ghost whole = { λ c t. (
+        let all = sessions-enumerated t in
+        record {
+          order = all.order;
+          ascending = all.ascending;
+          complete = λ s e. all.complete s (both (is_session t s) (is_taken t s c.0) e).0;
+        }
+        ) };
+
+    fn next(&self, draft: &Draft, above: Option<SessId>) -> Option<SessId>
+        ensures { IsNext session_lt (is_chosen (is_session draft.now.trail) (λ s. is_taken draft.now.trail s self.now.0)) above result }
+    {
+        draft.next_taker_there(self.0, above)
     }
 }
 

@@ -7,6 +7,7 @@ ghost use Rattle.login_core.specs.inner.Counts.{one_if};
 ghost use Rattle.login_core.specs.inner.Seating.{buckets, AreLow, AreSeated, CanSeat, CanShift, Seats, Shifts, bucket_of, high_in, is_at, is_none_at, is_one_at, terminal_in, user_in};
 
 use crate::board::Draft;
+use crate::board::so_far::SoFar;
 use login_base::SessId;
 use login_model::{Fact, Key, Look};
 
@@ -181,18 +182,27 @@ impl Seating {
 }
 
 impl Draft {
+    /// Whether each open session of seat0 is on one of the first terminals.
+    pub fn are_low(&self) -> bool
+        ensures { result ≡ true → AreLow self.now.trail }
+    {
+        self.seating.high.is_none_at(0)
+    }
+}
+
+impl<'a> SoFar<'a> {
     /// Whether it is known that no open session of seat0 has a terminal.
     fn is_terminal_free(&self, vt: u32) -> bool
-        ensures { result ≡ true → session_on self.now.trail vt ≡ None }
+        ensures { result ≡ true → session_on self.now vt ≡ None }
     {
-        self.seating.terminals.is_none_at(vt)
+        self.seating().terminals.is_none_at(vt)
     }
 
     /// Whether it is known that this session alone is on a terminal.
     fn is_alone_on(&self, session: SessId, vt: u32) -> bool
-        ensures { result ≡ true → session_on self.now.trail vt ≡ Some session }
+        ensures { result ≡ true → session_on self.now vt ≡ Some session }
     {
-        self.seating.terminals.is_one_at(vt)
+        self.seating().terminals.is_one_at(vt)
             && self
                 .fact(&Key::Sess(session))
                 .is_on_terminal(&Fact::Number(vt))
@@ -200,7 +210,7 @@ impl Draft {
 
     /// The open session of seat0 that has a terminal, by going over all sessions.
     fn find_on_terminal(&self, vt: u32) -> Option<SessId>
-        ensures { result ≡ session_on self.now.trail vt }
+        ensures { result ≡ session_on self.now vt }
     {
         let mut above = None;
         while let Some(session) = self.next_session(above) {
@@ -217,9 +227,9 @@ impl Draft {
 
     /// The open session of seat0 that has a terminal.
     pub fn session_on(&self, vt: u32) -> Option<SessId>
-        ensures { result ≡ session_on self.now.trail vt }
+        ensures { result ≡ session_on self.now vt }
     {
-        let last = self.seating.last_on(vt);
+        let last = self.seating().last_on(vt);
         if self.is_terminal_free(vt) {
             None
         } else if self.is_alone_on(last, vt) {
@@ -229,23 +239,16 @@ impl Draft {
         }
     }
 
-    /// Whether each open session of seat0 is on one of the first terminals.
-    pub fn are_low(&self) -> bool
-        ensures { result ≡ true → AreLow self.now.trail }
-    {
-        self.seating.high.is_none_at(0)
-    }
-
     /// Whether it is known that no open session of a user has a seat.
     fn is_seatless(&self, uid: u32) -> bool
-        ensures { result ≡ true → has_seat self.now.trail uid ≡ false }
+        ensures { result ≡ true → has_seat self.now uid ≡ false }
     {
-        self.seating.users.is_none_at(uid)
+        self.seating().users.is_none_at(uid)
     }
 
     /// Whether an open session of a user has a seat, by going over all sessions.
     fn find_seated(&self, uid: u32) -> bool
-        ensures { result ≡ has_seat self.now.trail uid }
+        ensures { result ≡ has_seat self.now uid }
     {
         let mut above = None;
         while let Some(session) = self.next_session(above) {
@@ -259,7 +262,7 @@ impl Draft {
 
     /// Whether an open session of a user has a seat.
     pub fn has_seat(&self, uid: u32) -> bool
-        ensures { result ≡ has_seat self.now.trail uid }
+        ensures { result ≡ has_seat self.now uid }
     {
         if self.is_seatless(uid) {
             false

@@ -2,10 +2,9 @@
 
 ghost use Rattle.std.specs.Prelude.{◌≡◌};
 ghost use Rattle.login_model.specs.Trail.{value, put, tell_all};
-ghost use Rattle.login_model.specs.Devices.{is_live};
 ghost use Rattle.login_model.specs.Procedure.{tell_controller};
 ghost use Rattle.login_core.specs.inner.Told.{controller_fact};
-ghost use Rattle.login_model.specs.Facts.{handle_in, controller_in};
+ghost use Rattle.login_model.specs.Facts.{controller_in};
 ghost use Rattle.login_core.specs.inner.Draft.{marked_by, Fits};
 
 use crate::board::Draft;
@@ -15,25 +14,11 @@ use login_model::{DevKind, Fact, Key, Look, Notice, Owner, Whom};
 
 #[tactic(auto, using(crate::proofs::Growing::growing))]
 impl Draft {
-    /// The handle with which a session has taken a device.
-    pub fn handle_of(&self, session: SessId, device: DevNo) -> Option<HandleNo>
-        ensures { result ≡ handle_in (value self.now.trail (Key.Taken session device)) }
-    {
-        self.fact(&Key::Taken(session, device)).handle()
-    }
-
     /// The connection that controls a session.
     pub fn controller(&self, session: SessId) -> Option<ConnId>
         ensures { result ≡ controller_in (value self.now.trail (Key.Ctl session)) }
     {
         self.fact(&Key::Ctl(session)).controller()
-    }
-
-    /// Whether a handle gives access to its device.
-    pub fn is_live(&self, handle: HandleNo) -> bool
-        ensures { result ≡ is_live self.now.trail handle }
-    {
-        self.fact(&Key::Live(handle)).is_set()
     }
 
     /// There is nothing under a key.

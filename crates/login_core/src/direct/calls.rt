@@ -2,7 +2,6 @@
 
 ghost use Rattle.std.specs.Prelude.{◌≡◌, None, true};
 ghost use Rattle.login_base.specs.Seat.{is_seat_name};
-ghost use Rattle.login_model.specs.Built.{is_built_call};
 ghost use Rattle.login_model.specs.Trail.{value};
 ghost use Rattle.login_model.specs.Fresh.{next_session};
 ghost use Rattle.login_model.specs.Facts.{fifo_session};
@@ -15,7 +14,7 @@ ghost use Rattle.login_model.specs.Direct.{linger, close, direct_call};
 ghost use Rattle.login_model.specs.Named.{named_session};
 ghost use Rattle.login_model.specs.Words.{whom_of};
 ghost use Rattle.login_core.specs.Kept.{AreClosing, AreReadyToCall, HaveTexts};
-ghost use Rattle.login_core.specs.inner.Calls.{IsPlain, NamesSeat, call_on};
+ghost use Rattle.login_core.specs.inner.Calls.{IsPlain, NamesRightly, call_on};
 ghost use Rattle.login_core.specs.inner.Draft.{marked_by, Fits};
 
 use crate::board::Draft;
@@ -142,8 +141,7 @@ impl Draft {
     /// A call that needs no texts.
     fn call_plain(&mut self, setup: &Setup, who: ConnId, call: &Call)
         requires plain { IsPlain call.now }
-        requires built { is_built_call call.now ≡ true }
-        requires named { NamesSeat call.now }
+        requires named { NamesRightly call.now }
         requires room { Fits (direct_call setup.now who call.now) self.old }
         ensures marked { self.new ≡ marked_by (direct_call setup.now who call.now) self.old }
     {
@@ -156,7 +154,7 @@ impl Draft {
             Call::SwitchToNext(seat) => self.next_on(seat),
             Call::SwitchToPrevious(seat) => self.previous_on(seat),
             Call::SetMode(handle, mode) => self.set_mode(*handle, *mode),
-            Call::Power(_) | Call::Inhibit(_) => unreachable!(),
+            Call::Power(kind) => self.power(*kind),
             Call::GetSession(_) => {}
             _ => self.call_session(who, call),
         }
@@ -165,8 +163,7 @@ impl Draft {
     /// What a granted call does by itself.
     pub fn direct_call(&mut self, setup: &Setup, who: ConnId, call: &Call, texts: &mut Texts)
         requires unmade { texts_in (value self.old.trail (Key.Sess (next_session self.old.trail))) ≡ None }
-        requires named { NamesSeat call.now }
-        requires built { is_built_call call.now ≡ true }
+        requires named { NamesRightly call.now }
         requires ready { AreReadyToCall call.now texts.old }
         requires texts { HaveTexts texts.old self.old.trail }
         requires room { Fits (direct_call setup.now who call.now) self.old }
@@ -179,6 +176,7 @@ impl Draft {
             Call::TerminateUser(user) => self.terminate_user(*user, &mut texts.closing),
             Call::TerminateSeat(seat) => self.terminate_on(seat, &mut texts.closing),
             Call::Close(handle) => self.close_kept(*handle, &mut texts.closing),
+            Call::Inhibit(inhibition) => self.inhibit_kept(who, inhibition, texts),
             _ => self.call_plain(setup, who, call),
         }
     }

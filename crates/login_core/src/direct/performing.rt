@@ -11,9 +11,8 @@ ghost use Rattle.login_model.specs.Direct.{at_session, direct, exit, happen};
 ghost use Rattle.login_model.specs.Taking.{add_device};
 ghost use Rattle.login_model.specs.Policy.{verdict as policy_verdict};
 ghost use Rattle.login_model.specs.declared.rule.Verdict.TheVariants.{Granted};
-ghost use Rattle.login_model.specs.Built.{is_built, is_built_hardware};
 ghost use Rattle.login_laws.specs.Sound.{IsSound};
-ghost use Rattle.login_core.specs.inner.Calls.{ExitsHere};
+ghost use Rattle.login_core.specs.inner.Calls.{ExitsHere, HappensPlain};
 ghost use Rattle.login_core.specs.Kept.{AreReady, AreReadyFor, AreReadyToHappen, HasSlots, HaveTexts};
 ghost use Rattle.login_core.specs.inner.Draft.{marked_by, Fits};
 
@@ -90,10 +89,24 @@ impl Draft {
         }
     }
 
+    /// What happens that needs no texts.
+    fn happen_plain(&mut self, setup: &Setup, hardware: &Hardware)
+        requires plain { HappensPlain hardware.now }
+        requires room { Fits (happen setup.now hardware.now) self.old }
+        ensures marked { self.new ≡ marked_by (happen setup.now hardware.now) self.old }
+    {
+        match hardware {
+            Hardware::VtKey(vt) => self.request(*vt),
+            Hardware::Key(key) => self.press(setup, *key),
+            Hardware::Dock(is_docked) => self.put_flag(Key::Docked, *is_docked),
+            Hardware::JobDone => self.job_done(),
+            _ => {}
+        }
+    }
+
     /// What happens to the machine.
     fn happen(&mut self, setup: &Setup, hardware: &Hardware, texts: &mut Texts)
         requires here { ExitsHere self.old.trail hardware.now }
-        requires built { is_built_hardware hardware.now ≡ true }
         requires ready { AreReadyToHappen hardware.now texts.old }
         requires texts { HaveTexts texts.old self.old.trail }
         requires room { Fits (happen setup.now hardware.now) self.old }
@@ -103,10 +116,8 @@ impl Draft {
         match hardware {
             Hardware::Add(device, kind, seat) => self.add_kept(*device, *kind, *seat, texts),
             Hardware::Remove(device) => self.remove_device(*device, &mut texts.closing),
-            Hardware::Input(..) => {}
-            Hardware::VtKey(vt) => self.request(*vt),
             Hardware::Exit(id) => self.exit_id(setup, id, texts),
-            _ => unreachable!(),
+            _ => self.happen_plain(setup, hardware),
         }
     }
 
@@ -121,7 +132,6 @@ impl Draft {
     /// What a granted event does by itself.
     #[tactic(auto, unfolding(login_model::specs::Direct::direct))]
     pub fn direct(&mut self, setup: &Setup, event: &Event, texts: &mut Texts)
-        requires built { is_built event.now ≡ true }
         requires granted { policy_verdict setup.now self.old.trail event.now ≡ Granted }
         requires sound { IsSound setup.now self.old.trail }
         requires ready { AreReady event.now texts.old }

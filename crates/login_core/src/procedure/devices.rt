@@ -5,7 +5,6 @@ ghost use Rattle.login_model.specs.declared.fact.Key.TheVariants.{Dev};
 ghost use Rattle.login_model.specs.Facts.{is_graphics_on};
 ghost use Rattle.login_model.specs.Trail.{value, put, tell_all};
 ghost use Rattle.login_model.specs.Where.{sessions_on};
-ghost use Rattle.login_model.specs.Devices.{is_taken};
 ghost use Rattle.login_model.specs.Procedure.{each, revoke, shut};
 ghost use Rattle.login_model.specs.Taking.{add_device, appear_seat, has_graphics, lose_seat, remove_device, takers};
 ghost use Rattle.login_laws.proofs.Grows.{revoke-grows};
@@ -14,24 +13,12 @@ ghost use Rattle.login_core.specs.inner.Told.{graphics_fact, graphics_seat};
 ghost use Rattle.login_core.specs.inner.Draft.{marked_by, Fits};
 
 use crate::board::Draft;
-use crate::board::rounds::Task;
+use crate::board::rounds::{TakersOf, Task};
 use crate::room::kept::Spares;
 use crate::room::slots::SeatSlots;
 use login_base::{DevNo, SeatName, SessId};
 use login_model::{DevKind, Fact, Key, Look, Notice};
 use login_table::Test;
-
-/// It has taken a device.
-#[derive(Drop)]
-struct HasTaken(DevNo);
-
-impl Test<SessId> for HasTaken {
-    ghost meets = { λ test t s. is_taken t s test.0 };
-
-    fn is_met<F: Look>(&self, facts: &F, session: SessId) -> bool {
-        facts.fact(&Key::Taken(session, self.0)).is_handle()
-    }
-}
 
 /// It is a graphics device on a seat.
 #[derive(Drop)]
@@ -108,12 +95,11 @@ impl Draft {
     }
 
     /// A device goes from the sessions that have it taken, in order.
-    #[tactic(auto, using(crate::proofs::Growing::growing), unfolding(login_model::specs::Taking::takers, login_model::specs::Where::sessions))]
     fn revoke_takers(&mut self, device: DevNo)
         requires room { Fits (λ t. each (λ s u. revoke s device u) (takers t device) t) self.old }
         ensures marked { self.new ≡ marked_by (λ t. each (λ s u. revoke s device u) (takers t device) t) self.old }
     {
-        self.for_each_that(HasTaken(device), &RevokeFrom(device));
+        self.for_each(&TakersOf(device), &RevokeFrom(device));
     }
 
     /// A device is absent, and so it is from sessions.

@@ -23,16 +23,6 @@ impl Draft {
         }
     }
 
-    /// The handles of a session's devices are live, if there is a session.
-    pub fn resume_some(&mut self, session: Option<SessId>)
-        requires room { Fits (if_some resume session) self.old }
-        ensures marked { self.new ≡ marked_by (if_some resume session) self.old }
-    {
-        if let Some(session) = session {
-            self.resume(session);
-        }
-    }
-
     /// A seat without virtual terminals has another active session, and all are told.
     pub fn take_seat(&mut self, seat: SeatName, session: SessId, old: Option<SessId>)
         requires room { Fits (take_seat seat session old) self.old }

@@ -2,14 +2,13 @@
 
 ghost use Rattle.std.specs.Prelude.{◌≡◌};
 ghost use Rattle.login_model.specs.Devices.{taken_devices};
-ghost use Rattle.login_model.specs.Procedure.{kill, untake, release, revoke, oust};
+ghost use Rattle.login_model.specs.Procedure.{untake, release, revoke, oust};
 ghost use Rattle.login_laws.proofs.Grows.{untake-grows, revoke-grows};
-ghost use Rattle.login_core.specs.inner.Told.{handle_fact};
 ghost use Rattle.login_core.specs.inner.Draft.{marked_by, Fits};
 
 use crate::board::Draft;
 use crate::board::rounds::{TakenBy, Task};
-use login_base::{ConnId, DevNo, HandleNo, SessId};
+use login_base::{ConnId, DevNo, SessId};
 use login_model::{Key, Look, Notice, PauseKind};
 
 /// A session gives a device back.
@@ -42,27 +41,6 @@ impl Task<DevNo> for Revoke {
 
 #[tactic(auto, using(crate::proofs::Growing::growing))]
 impl Draft {
-    /// The handle of a taken device is dead.
-    pub(crate) fn make_dead(&mut self, taken: Option<HandleNo>)
-        requires room { Fits (kill (handle_fact taken)) self.old }
-        ensures marked { self.new ≡ marked_by (kill (handle_fact taken)) self.old }
-    {
-        if let Some(handle) = taken {
-            self.put_flag(Key::Live(handle), false);
-        }
-    }
-
-    /// A device is no longer taken: its handle is dead, and its pause is not awaited.
-    pub fn untake(&mut self, session: SessId, device: DevNo)
-        requires room { Fits (untake session device) self.old }
-        ensures marked { self.new ≡ marked_by (untake session device) self.old }
-    {
-        let taken = self.handle_of(session, device);
-        self.make_dead(taken);
-        self.put_flag(Key::Awaited(session, device), false);
-        self.put_absent(Key::Taken(session, device));
-    }
-
     /// A session gives back its devices, and has no controller.
     #[tactic(auto, using(crate::proofs::Growing::growing), unfolding(login_model::specs::Procedure::release, login_model::specs::Devices::taken_devices))]
     pub fn release(&mut self, session: SessId)

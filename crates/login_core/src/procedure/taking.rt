@@ -1,10 +1,9 @@
-// How sessions take devices, acknowledge pauses, and set modes.
+// How sessions take devices, and set modes.
 
 ghost use Rattle.std.specs.Prelude.{◌≡◌};
-ghost use Rattle.login_model.specs.Trail.{value, put};
+ghost use Rattle.login_model.specs.Trail.{value};
 ghost use Rattle.login_model.specs.Fresh.{next_handle};
-ghost use Rattle.login_model.specs.Procedure.{kill, no};
-ghost use Rattle.login_model.specs.Taking.{acknowledge, enliven, set_mode, take_device};
+ghost use Rattle.login_model.specs.Taking.{enliven, set_mode, take_device};
 ghost use Rattle.login_core.specs.inner.Handles.{owner_fact};
 ghost use Rattle.login_core.specs.inner.Draft.{marked_by, Fits};
 
@@ -44,27 +43,6 @@ impl Draft {
     {
         let handle = self.fresh_handle();
         self.take_with(who, session, device, handle);
-    }
-
-    /// A pause is awaited no more, and the handle is dead.
-    fn end_pause(&mut self, session: SessId, device: DevNo)
-        requires room { Fits (λ t. kill (value t (Key.Taken session device)) (put (Key.Awaited session device) no t)) self.old }
-        ensures marked { self.new ≡ marked_by (λ t. kill (value t (Key.Taken session device)) (put (Key.Awaited session device) no t)) self.old }
-    {
-        let taken = self.handle_of(session, device);
-        self.put_flag(Key::Awaited(session, device), false);
-        self.make_dead(taken);
-    }
-
-    /// A pause that is awaited is acknowledged.
-    #[tactic(auto, unfolding(login_model::specs::Taking::acknowledge))]
-    pub fn acknowledge(&mut self, session: SessId, device: DevNo)
-        requires room { Fits (acknowledge session device) self.old }
-        ensures marked { self.new ≡ marked_by (acknowledge session device) self.old }
-    {
-        if self.fact(&Key::Awaited(session, device)).is_set() {
-            self.end_pause(session, device);
-        }
     }
 
     fn set_mode_of(&mut self, owner: Option<Owner>, mode: u32)

@@ -1,14 +1,15 @@
-// The copies of sessions' texts that are made before they are needed.
+// The copies of texts that are made before they are needed.
 
 ghost use Rattle.std.specs.Prelude.{◌≡◌, OnOk, IfOk, Some, None};
 ghost use Rattle.login_base.specs.declared.ids.SessId.{SessId as SessionId};
-ghost use Rattle.login_core.specs.Kept.{AreReady, AreReadyToCall, AreReadyToHappen, AreFresh, copies_in};
+ghost use Rattle.login_core.specs.Kept.{AreReady, AreReadyFor, AreReadyToCall, AreReadyToHappen, AreFresh, HasLock, copies_in};
 
 use crate::room::copies::{Copies, copies_of};
 use crate::room::kept::Spares;
+use crate::room::locks::{LockCopies, lock_copies};
 use crate::room::slots::SeatSlots;
 use login_base::NoMemory;
-use login_model::{Call, Creation, Event, Hardware};
+use login_model::{Call, Creation, Event, Hardware, Inhibition};
 use std::alloc::Global;
 
 /// The texts of a session that is created, for its whole life.
@@ -20,12 +21,13 @@ pub struct FreshTexts {
 }
 
 /// The copies with which open sessions close, those with which sessions go, those of the session that is
-/// created next, and memory for the seat of the device that comes next.
+/// created next, those of the lock that stands next, and memory for the seat of the device that comes next.
 #[derive(Drop)]
 pub struct Texts {
     pub closing: Spares,
     pub gone: Spares,
     pub fresh: Option<FreshTexts>,
+    pub lock: Option<LockCopies>,
     pub seats: Option<SeatSlots>,
 }
 
@@ -53,8 +55,31 @@ impl Texts {
             closing: Spares::new(alloc),
             gone: Spares::new(alloc),
             fresh: None,
+            lock: None,
             seats: None,
         }
+    }
+
+    /// Makes the copies for a session's whole life.
+    fn prepare_session(&mut self, alloc: Global, creation: &Creation) -> Result<(), NoMemory>
+        ensures ready { OnOk result (AreReadyFor creation.now self.new) }
+        ensures closing { self.new.closing.items ≡ self.old.closing.items }
+        ensures gone { self.new.gone.items ≡ self.old.gone.items }
+    {
+        self.closing.reserve()?;
+        self.gone.reserve()?;
+        self.fresh = Some(fresh_of(alloc, creation)?);
+        Ok(())
+    }
+
+    /// Makes the copies for a lock.
+    fn prepare_lock(&mut self, alloc: Global, inhibition: &Inhibition) -> Result<(), NoMemory>
+        ensures ready { OnOk result (HasLock inhibition.now self.new.lock) }
+        ensures closing { self.new.closing.items ≡ self.old.closing.items }
+        ensures gone { self.new.gone.items ≡ self.old.gone.items }
+    {
+        self.lock = Some(lock_copies(alloc, inhibition)?);
+        Ok(())
     }
 
     /// Makes the copies that a call needs.
@@ -63,12 +88,11 @@ impl Texts {
         ensures closing { self.new.closing.items ≡ self.old.closing.items }
         ensures gone { self.new.gone.items ≡ self.old.gone.items }
     {
-        if let Call::Create(creation) = call {
-            self.closing.reserve()?;
-            self.gone.reserve()?;
-            self.fresh = Some(fresh_of(alloc, creation)?);
+        match call {
+            Call::Create(creation) => self.prepare_session(alloc, creation),
+            Call::Inhibit(inhibition) => self.prepare_lock(alloc, inhibition),
+            _ => Ok(()),
         }
-        Ok(())
     }
 
     /// Takes the memory that a hardware event needs.

@@ -11,7 +11,7 @@ pub returns-clause-texts : goal.returns-clause-texts
 returns-clause-texts c =
     let t = c.args.self.now.trail in
     let old = c.args.texts.now in
-    let new : Texts = record { closing = old.closing; gone = old.gone; fresh = old.fresh; seats = c.take.new.self } in
+    let new : Texts = record { closing = old.closing; gone = old.gone; fresh = old.fresh; lock = old.lock; seats = c.take.new.self } in
     let P : Trail → Type 0 = Tame t in
     let p = subst P (sym (trails c.add_device.ensures.marked)) (add_device-carried tame c.args.device c.args.kind c.args.seat t) in
     texts-later new t c.add_device.new.self.trail p.sessions (record { closing = c.requires.texts.closing; gone = c.requires.texts.gone })

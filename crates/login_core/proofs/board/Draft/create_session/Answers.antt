@@ -23,7 +23,7 @@ returns-clause-texts c =
     let u = c.create.new.self.trail in
     let f = c.in-Some.fresh in
     let old = c.args.texts.now in
-    let new : Texts = record { closing = c.keep.new.self; gone = c.keep-in-Some.new.self; fresh = c.take.new.self; seats = c.args.texts.now.seats } in
+    let new : Texts = record { closing = c.keep.new.self; gone = c.keep-in-Some.new.self; fresh = c.take.new.self; lock = c.args.texts.now.lock; seats = c.args.texts.now.seats } in
     let here = c.fresh_session-session.ensures in
     let P : SessId → Type 0 = λ r. texts_in (value t (Sess r)) ≡ None in
     let unmade = subst P (sym here) c.requires.unmade in

@@ -1,5 +1,35 @@
-use Rattle.login_core.proofs.Devices.{resume-above}
+use Rattle.std.proofs.Common.{arith}
+use Rattle.login_model.specs.Procedure.{resume}
+use Rattle.login_core.proofs.TakingOver.{has-more, more-can, more-draft, more-made, more-numbered, more-seen}
 use Rattle.login_core.proofs.board.Draft.resume.Goals as goal
 
-pub for_each-requires-clause-spares : goal.for_each-requires-clause-spares
-for_each-requires-clause-spares c = resume-above c.args.session
+pub resume-requires-clause-numbered : goal.resume-requires-clause-numbered
+resume-requires-clause-numbered c =
+    let f = c.self.inside in
+    more-numbered (resume c.args.session) f.journal.value.items f.marks f.facts f.seating f.made f.reach c.args.self.now c.of-so_far.result c.self.invariant c.self.view_is c.of-so_far.ensures c.requires.room
+
+pub take_over-requires-clause-can : goal.take_over-requires-clause-can
+take_over-requires-clause-can c =
+    let f = c.self.inside in
+    let more = has-more (resume c.args.session) f.journal.value.items f.marks c.resume.new.out f.facts f.seating f.made f.reach c.args.self.now c.of-so_far.result c.self.invariant c.self.view_is c.requires.room c.of-so_far.ensures c.resume.ensures.appends c.resume.ensures.room in
+    more-can _ _ f.marks c.resume.new.out f.facts f.seating f.made f.reach c.args.self.now c.len-from.result more c.len-from.ensures.value
+
+pub overflow_add-self : goal.overflow_add-self
+overflow_add-self c =
+    let f = c.self.inside in
+    let more = has-more (resume c.args.session) f.journal.value.items f.marks c.resume.new.out f.facts f.seating f.made f.reach c.args.self.now c.of-so_far.result c.self.invariant c.self.view_is c.requires.room c.of-so_far.ensures c.resume.ensures.appends c.resume.ensures.room in
+    let made = more-made _ _ f.marks c.resume.new.out f.facts f.seating f.made f.reach c.args.self.now c.len-from.result c.take_over.result more c.len-from.ensures.value c.take_over.ensures.count in
+    omega arith
+
+pub invariant_of-self : goal.invariant_of-self
+invariant_of-self c =
+    let f = c.self.inside in
+    let more = has-more (resume c.args.session) f.journal.value.items f.marks c.resume.new.out f.facts f.seating f.made f.reach c.args.self.now c.of-so_far.result c.self.invariant c.self.view_is c.requires.room c.of-so_far.ensures c.resume.ensures.appends c.resume.ensures.room in
+    more-draft _ _ f.marks c.resume.new.out f.facts c.take_over.new.facts f.seating c.take_over.new.seating f.made f.reach c.args.self.now c.len-from.result c.take_over.result more c.len-from.ensures.value
+    c.take_over.ensures.count c.take_over.ensures.takes
+
+pub returns : goal.returns
+returns c =
+    let f = c.self.inside in
+    let more = has-more (resume c.args.session) f.journal.value.items f.marks c.resume.new.out f.facts f.seating f.made f.reach c.args.self.now c.of-so_far.result c.self.invariant c.self.view_is c.requires.room c.of-so_far.ensures c.resume.ensures.appends c.resume.ensures.room in
+    record { marked = more-seen _ _ f.marks c.resume.new.out f.facts c.take_over.new.facts f.seating c.take_over.new.seating f.made f.reach c.args.self.now c.len-from.result more c.take_over.ensures.takes }

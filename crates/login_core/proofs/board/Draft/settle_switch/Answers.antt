@@ -1,26 +1,38 @@
-use Rattle.std.proofs.Common.{◌∙◌, ℕ, ap, Option, length, arith}
-use Rattle.login_model.specs.declared.fact.Key.TheVariants.{Pending}
-use Rattle.login_model.specs.Trail.{value}
-use Rattle.login_model.specs.Switching.{complete, settle_switch}
-use Rattle.login_core.specs.inner.Told.{terminal_fact}
-use Rattle.login_core.specs.inner.Draft.{with_trail}
-use Rattle.login_core.proofs.Told.{completed}
+use Rattle.std.proofs.Common.{arith}
+use Rattle.login_model.specs.Switching.{settle_switch}
+use Rattle.login_core.proofs.TakingOver.{has-more, more-awaits, more-can, more-draft, more-handles, more-made, more-seen}
 use Rattle.login_core.proofs.board.Draft.settle_switch.Goals as goal
 
-pub complete-requires : goal.complete-requires
-unfolding settle_switch
-complete-requires c =
-    let t = c.args.self.now.trail in
-    let U = c.args.setup.now in
-    let n = ap length (ap (λ (o : Option ℕ). complete U (terminal_fact o) t) c.pending_terminal-pending.ensures ∙ completed U (value t Pending) t) in
-    record { room = omega (arith, c.requires.room) }
+pub settle-requires-clause-awaits : goal.settle-requires-clause-awaits
+settle-requires-clause-awaits c = (let f = c.self.inside in more-awaits f.journal.value.items f.marks.items f.facts f.reach c.args.self.now c.of-so_far.result c.self.view_is c.of-so_far.ensures c.requires.awaits)
+
+pub settle-requires-clause-handles : goal.settle-requires-clause-handles
+settle-requires-clause-handles c =
+    let f = c.self.inside in
+    more-handles f.journal.value.items f.marks f.facts f.seating f.made f.reach c.of-so_far.result c.self.invariant c.of-so_far.ensures
+
+pub take_over-requires-clause-can : goal.take_over-requires-clause-can
+take_over-requires-clause-can c =
+    let f = c.self.inside in
+    let more = has-more (settle_switch c.args.conf.now) f.journal.value.items f.marks c.settle.new.out f.facts f.seating f.made f.reach c.args.self.now c.of-so_far.result c.self.invariant c.self.view_is c.requires.room c.of-so_far.ensures c.settle.ensures.appends c.settle.ensures.room in
+    more-can _ _ f.marks c.settle.new.out f.facts f.seating f.made f.reach c.args.self.now c.len-from.result more c.len-from.ensures.value
+
+pub overflow_add-self : goal.overflow_add-self
+overflow_add-self c =
+    let f = c.self.inside in
+    let more = has-more (settle_switch c.args.conf.now) f.journal.value.items f.marks c.settle.new.out f.facts f.seating f.made f.reach c.args.self.now c.of-so_far.result c.self.invariant c.self.view_is c.requires.room c.of-so_far.ensures c.settle.ensures.appends c.settle.ensures.room in
+    let made = more-made _ _ f.marks c.settle.new.out f.facts f.seating f.made f.reach c.args.self.now c.len-from.result c.take_over.result more c.len-from.ensures.value c.take_over.ensures.count in
+    omega arith
+
+pub invariant_of-self : goal.invariant_of-self
+invariant_of-self c =
+    let f = c.self.inside in
+    let more = has-more (settle_switch c.args.conf.now) f.journal.value.items f.marks c.settle.new.out f.facts f.seating f.made f.reach c.args.self.now c.of-so_far.result c.self.invariant c.self.view_is c.requires.room c.of-so_far.ensures c.settle.ensures.appends c.settle.ensures.room in
+    more-draft _ _ f.marks c.settle.new.out f.facts c.take_over.new.facts f.seating c.take_over.new.seating f.made f.reach c.args.self.now c.len-from.result c.take_over.result more c.len-from.ensures.value
+    c.take_over.ensures.count c.take_over.ensures.takes
 
 pub returns : goal.returns
-unfolding settle_switch
 returns c =
-    let t = c.args.self.now.trail in
-    record {
-      marked = c.complete.ensures.marked
-          ∙ ap (with_trail c.args.self.now) (ap (λ (o : Option ℕ). complete c.args.setup.now (terminal_fact o) t) c.pending_terminal-pending.ensures
-          ∙ completed c.args.setup.now (value t Pending) t);
-    }
+    let f = c.self.inside in
+    let more = has-more (settle_switch c.args.conf.now) f.journal.value.items f.marks c.settle.new.out f.facts f.seating f.made f.reach c.args.self.now c.of-so_far.result c.self.invariant c.self.view_is c.requires.room c.of-so_far.ensures c.settle.ensures.appends c.settle.ensures.room in
+    record { marked = more-seen _ _ f.marks c.settle.new.out f.facts c.take_over.new.facts f.seating c.take_over.new.seating f.made f.reach c.args.self.now c.len-from.result more c.take_over.ensures.takes }

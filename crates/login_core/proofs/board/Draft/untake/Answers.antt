@@ -1,21 +1,30 @@
-use Rattle.std.proofs.Common.{◌∙◌, ap, Option}
-use Rattle.login_base.specs.declared.ids.HandleNo.{HandleNo}
-use Rattle.login_model.specs.declared.fact.Key.TheVariants as key
-use Rattle.login_model.specs.declared.fact.Fact.TheVariants as fact
-use Rattle.login_model.specs.Trail.{value, put}
-use Rattle.login_model.specs.Procedure.{no, kill}
-use Rattle.login_core.specs.inner.Told.{handle_fact}
-use Rattle.login_core.specs.inner.Draft.{with_trail, marked_by}
-use Rattle.login_core.proofs.Told.{killed}
+use Rattle.std.proofs.Common.{arith}
+use Rattle.login_model.specs.Procedure.{untake}
+use Rattle.login_core.proofs.TakingOver.{has-more, more-can, more-draft, more-made, more-seen}
 use Rattle.login_core.proofs.board.Draft.untake.Goals as goal
+
+pub take_over-requires-clause-can : goal.take_over-requires-clause-can
+take_over-requires-clause-can c =
+    let f = c.self.inside in
+    let more = has-more (untake c.args.session c.args.device) f.journal.value.items f.marks c.withdraw.new.out f.facts f.seating f.made f.reach c.args.self.now c.of-so_far.result c.self.invariant c.self.view_is c.requires.room c.of-so_far.ensures c.withdraw.ensures.appends c.withdraw.ensures.room in
+    more-can _ _ f.marks c.withdraw.new.out f.facts f.seating f.made f.reach c.args.self.now c.len-from.result more c.len-from.ensures.value
+
+pub overflow_add-self : goal.overflow_add-self
+overflow_add-self c =
+    let f = c.self.inside in
+    let more = has-more (untake c.args.session c.args.device) f.journal.value.items f.marks c.withdraw.new.out f.facts f.seating f.made f.reach c.args.self.now c.of-so_far.result c.self.invariant c.self.view_is c.requires.room c.of-so_far.ensures c.withdraw.ensures.appends c.withdraw.ensures.room in
+    let made = more-made _ _ f.marks c.withdraw.new.out f.facts f.seating f.made f.reach c.args.self.now c.len-from.result c.take_over.result more c.len-from.ensures.value c.take_over.ensures.count in
+    omega arith
+
+pub invariant_of-self : goal.invariant_of-self
+invariant_of-self c =
+    let f = c.self.inside in
+    let more = has-more (untake c.args.session c.args.device) f.journal.value.items f.marks c.withdraw.new.out f.facts f.seating f.made f.reach c.args.self.now c.of-so_far.result c.self.invariant c.self.view_is c.requires.room c.of-so_far.ensures c.withdraw.ensures.appends c.withdraw.ensures.room in
+    more-draft _ _ f.marks c.withdraw.new.out f.facts c.take_over.new.facts f.seating c.take_over.new.seating f.made f.reach c.args.self.now c.len-from.result c.take_over.result more c.len-from.ensures.value
+    c.take_over.ensures.count c.take_over.ensures.takes
 
 pub returns : goal.returns
 returns c =
-    let s = c.args.session in
-    let d = c.args.device in
-    let t = c.args.self.now.trail in
-    record {
-      marked = c.put_absent.ensures.marked
-          ∙ ap (marked_by (put (key.Taken s d) fact.Absent)) (c.put_flag.ensures.marked
-          ∙ ap (marked_by (put (key.Awaited s d) no)) (c.make_dead.ensures.marked ∙ ap (with_trail c.args.self.now) (ap (λ (o : Option HandleNo). kill (handle_fact o) t) c.handle_of-taken.ensures ∙ killed (value t (key.Taken s d)) t)));
-    }
+    let f = c.self.inside in
+    let more = has-more (untake c.args.session c.args.device) f.journal.value.items f.marks c.withdraw.new.out f.facts f.seating f.made f.reach c.args.self.now c.of-so_far.result c.self.invariant c.self.view_is c.requires.room c.of-so_far.ensures c.withdraw.ensures.appends c.withdraw.ensures.room in
+    record { marked = more-seen _ _ f.marks c.withdraw.new.out f.facts c.take_over.new.facts f.seating c.take_over.new.seating f.made f.reach c.args.self.now c.len-from.result more c.take_over.ensures.takes }

@@ -1,10 +1,9 @@
 use Rattle.std.proofs.Common.{◌≡◌, true, ◌≤◌, ◌∙◌, ◌∷◌, ◌++◌, [], List, Option, ℕ, sym, ap, subst, refl, arith, length}
 use Rattle.login_base.specs.declared.ids.HandleNo.{HandleNo}
+use Rattle.login_model.specs.Direct.{direct}
 use Rattle.login_model.specs.Legal.{IsLegal, IsPlaced, stepped, trail_of}
 use Rattle.login_model.specs.Policy.{verdict}
-use Rattle.login_laws.specs.Quiet.{IsQuiet}
-use Rattle.login_laws.specs.Sound.{IsSound}
-use Rattle.login_model.specs.Built.{is_built}
+use Rattle.login_laws.specs.Sound.{Awaits, IsSound}
 use Rattle.login_model.specs.Trail.{Trail, after}
 use Rattle.login_model.specs.declared.answer.Answer.{Answer}
 use Rattle.login_model.specs.declared.event.Event.{Event}
@@ -13,7 +12,7 @@ use Rattle.login_model.specs.declared.mark.Mark.{Mark}
 use Rattle.login_model.specs.declared.setup.Setup.{Setup}
 use Rattle.login_model.specs.declared.rule.Verdict.{Verdict}
 use Rattle.login_laws.proofs.SoundLaws.{sound-journal}
-use Rattle.login_laws.proofs.LawfulLaws.{legal-is-lawful}
+use Rattle.login_laws.proofs.LawfulLaws.{granted-awaits, legal-is-lawful}
 use Rattle.device_model.specs.Ears.{heard_of}
 use Rattle.device_model.specs.declared.ears.Ear.{Ear}
 use Rattle.login_laws.specs.Hearing.{heard_behind}
@@ -35,8 +34,8 @@ use Rattle.login_core.proofs.Stepping.{HearsOn, Stepping, answered-next, core-cl
 use Rattle.login_core.proofs.state.Core.step.Goals as goal
 
 stepping : (U : Setup) (m : Board) (x : Texts) (a : Ready) (stop : Option ℕ) (now : CoreState) (e : Event) (v : Verdict) → IsCore U m x stop → seen U m x a ≡ now
-    → IsPlaced now.journal e → IsReady now e → is_built e ≡ true → v ≡ verdict U m.draft.trail e → Stepping U m x a stop e v
-stepping U m x a stop now e v k w p r b h =
+    → IsPlaced now.journal e → IsReady now e → v ≡ verdict U m.draft.trail e → Stepping U m x a stop e v
+stepping U m x a stop now e v k w p r h =
     let P : CoreState → Type 0 = λ s. IsPlaced s.journal e in
     let Q : CoreState → Type 0 = λ s. IsReady s e in
     record {
@@ -45,7 +44,6 @@ stepping U m x a stop now e v k w p r b h =
       ready = subst Q (sym w) r;
       verdict_is = h ∙ ap (λ (t : Trail). verdict U t e) k.no_marks;
       sound = sound-journal U m.journal.items k.legal;
-      built = b;
     }
 
 -- the verdict that room was made with, if it was
@@ -57,17 +55,23 @@ verdict_for-verdict-requires-clause-ready c = λ f.
 pub perform-requires-clause-sound : goal.perform-requires-clause-sound
 perform-requires-clause-sound c =
     let m = c.self.inside.board in
-    let s = stepping c.self.inside.setup m c.self.inside.texts c.self.inside.ready c.self.inside.stop c.args.self.now c.args.event c.verdict_for-verdict.result c.self.invariant c.self.view_is c.requires.placed c.requires.ready c.requires.placed.2 c.verdict_for-verdict.ensures in
+    let s = stepping c.self.inside.setup m c.self.inside.texts c.self.inside.ready c.self.inside.stop c.args.self.now c.args.event c.verdict_for-verdict.result c.self.invariant c.self.view_is c.requires.placed c.requires.ready c.verdict_for-verdict.ensures in
     let P : Trail → Type 0 = IsSound c.self.inside.setup in
     subst P (sym c.self.invariant.no_marks) s.sound
 
-pub perform-requires-clause-quiet : goal.perform-requires-clause-quiet
-perform-requires-clause-quiet c = subst IsQuiet (sym c.self.invariant.no_marks) c.self.invariant.quiet
+pub perform-requires-clause-awaits : goal.perform-requires-clause-awaits
+perform-requires-clause-awaits c = λ g.
+    let U = c.self.inside.setup in
+    let m = c.self.inside.board in
+    let e = c.args.event in
+    let s = stepping U m c.self.inside.texts c.self.inside.ready c.self.inside.stop c.args.self.now e c.verdict_for-verdict.result c.self.invariant c.self.view_is c.requires.placed c.requires.ready c.verdict_for-verdict.ensures in
+    let P : Trail → Type 0 = λ t. Awaits (direct U e t) in
+    subst P (sym c.self.invariant.no_marks) (granted-awaits U m.journal.items e s.core.legal s.placed (sym s.verdict_is ∙ g))
 
 pub perform-requires-clause-ready : goal.perform-requires-clause-ready
 perform-requires-clause-ready c =
     let m = c.self.inside.board in
-    let s = stepping c.self.inside.setup m c.self.inside.texts c.self.inside.ready c.self.inside.stop c.args.self.now c.args.event c.verdict_for-verdict.result c.self.invariant c.self.view_is c.requires.placed c.requires.ready c.requires.placed.2 c.verdict_for-verdict.ensures in
+    let s = stepping c.self.inside.setup m c.self.inside.texts c.self.inside.ready c.self.inside.stop c.args.self.now c.args.event c.verdict_for-verdict.result c.self.invariant c.self.view_is c.requires.placed c.requires.ready c.verdict_for-verdict.ensures in
     ready-texts _ c.args.event s.ready
 
 pub perform-requires-clause-texts : goal.perform-requires-clause-texts
@@ -80,7 +84,7 @@ perform-requires-clause-room c =
     let U = c.self.inside.setup in
     let m = c.self.inside.board in
     let v = c.verdict_for-verdict.result in
-    let s = stepping U m c.self.inside.texts c.self.inside.ready c.self.inside.stop c.args.self.now c.args.event v c.self.invariant c.self.view_is c.requires.placed c.requires.ready c.requires.placed.2 c.verdict_for-verdict.ensures in
+    let s = stepping U m c.self.inside.texts c.self.inside.ready c.self.inside.stop c.args.self.now c.args.event v c.self.invariant c.self.view_is c.requires.placed c.requires.ready c.verdict_for-verdict.ensures in
     let P : Trail → Type 0 = λ t. length (stepped U v c.args.event t) ≤ m.draft.reach in
     subst P (sym c.self.invariant.no_marks) (stays-within U m c.self.inside.texts c.self.inside.ready c.self.inside.stop c.args.event v s)
 
@@ -98,7 +102,7 @@ settle_ears-requires-clause-enough c =
     let e = c.args.event in
     let v = c.verdict_for-verdict.result in
     let rings = ring_count m.draft.ears m.draft.rings in
-    let s = stepping U m c.self.inside.texts c.self.inside.ready c.self.inside.stop c.args.self.now e v c.self.invariant c.self.view_is c.requires.placed c.requires.ready c.requires.placed.2 c.verdict_for-verdict.ensures in
+    let s = stepping U m c.self.inside.texts c.self.inside.ready c.self.inside.stop c.args.self.now e v c.self.invariant c.self.view_is c.requires.placed c.requires.ready c.verdict_for-verdict.ensures in
     let P : DraftState → Type 0 = λ d. AreEnough (ring_count d.ears d.rings) d.trail in
     let Q : Trail → Type 0 = λ t. AreEnough rings (stepped U v e t) in
     let between = stepped-between U m.journal.items e v s.verdict_is s.placed s.sound in
@@ -115,7 +119,7 @@ close_entry-requires-clause-entries c =
     let U = c.self.inside.setup in
     let m = c.self.inside.board in
     let v = c.verdict_for-verdict.result in
-    let s = stepping U m c.self.inside.texts c.self.inside.ready c.self.inside.stop c.args.self.now c.args.event v c.self.invariant c.self.view_is c.requires.placed c.requires.ready c.requires.placed.2 c.verdict_for-verdict.ensures in
+    let s = stepping U m c.self.inside.texts c.self.inside.ready c.self.inside.stop c.args.self.now c.args.event v c.self.invariant c.self.view_is c.requires.placed c.requires.ready c.verdict_for-verdict.ensures in
     has-entry U m c.self.inside.texts c.self.inside.ready c.self.inside.stop c.args.event v s
 
 -- the entry that is closed
@@ -155,7 +159,7 @@ invariant_of-self c =
     let e = c.args.event in
     let stop = c.self.inside.stop in
     let closes = c.close_entry.ensures.closes in
-    let s = stepping U m x a stop c.args.self.now e v c.self.invariant c.self.view_is c.requires.placed c.requires.ready c.requires.placed.2 c.verdict_for-verdict.ensures in
+    let s = stepping U m x a stop c.args.self.now e v c.self.invariant c.self.view_is c.requires.placed c.requires.ready c.verdict_for-verdict.ensures in
     let d = c.settle_ears.new.self in
     let settle = c.settle_ears.ensures in
     let close = c.close_entry.ensures in
@@ -182,7 +186,7 @@ returns c =
     let old = c.args.self.now in
     let closes = c.close_entry.ensures.closes in
     let ms = closes.marks in
-    let s = stepping U m x a stop old c.args.event v c.self.invariant c.self.view_is c.requires.placed c.requires.ready c.requires.placed.2 c.verdict_for-verdict.ensures in
+    let s = stepping U m x a stop old c.args.event v c.self.invariant c.self.view_is c.requires.placed c.requires.ready c.verdict_for-verdict.ensures in
     let w = steps U m c.settle_ears.new.self x a b stop c.args.event v ms s c.answer_for-answer.ensures (trails c.settle_ears.ensures.rest ∙ trails c.perform.ensures.marked) closes.made in
     let e : Entry = entry_of c.args.event v b ms in
     let is : c.entry.result.now ≡ e = last-is m.journal.items c.journal-journal.result.now.items e c.entry.result.now c.len-2.result (c.journal-journal.ensures ∙ closes.entry) c.len-2.ensures.value c.entry.ensures in

@@ -1,16 +1,16 @@
 use Rattle.std.proofs.Common.{◌≡◌, ℕ, ◌+◌, ◌-◌, ◌∙◌, ap, sym, subst, arith}
 use Rattle.login_model.specs.declared.fact.Key.{Key}
 use Rattle.login_model.specs.declared.fact.Fact.{Fact}
-use Rattle.login_model.specs.Fresh.{fresh_session, fresh_handle}
+use Rattle.login_model.specs.Fresh.{fresh_session, fresh_handle, fresh_lock}
 use Rattle.login_model.specs.Trail.{value}
-use Rattle.login_core.specs.declared.board.home.Home.TheVariants.{Users, Sessions, Seats, Devices, Controls, Takes, Others}
+use Rattle.login_core.specs.declared.board.home.Home.TheVariants.{Users, Sessions, Seats, Devices, Controls, Takes, Locks, Power}
 use Rattle.login_core.specs.declared.board.facts.Facts.TheInside.{Inside}
 use Rattle.login_core.specs.declared.room.counts.Counts.{Counts}
 use Rattle.login_core.specs.inner.Counts.{CanAllMove, Follow, counts_of}
-use Rattle.login_core.specs.inner.Facts.{Tables, StandFor, opens}
+use Rattle.login_core.specs.inner.Facts.{Tables, StandFor, opens, inhibits}
 use Rattle.login_core.proofs.CountedLaws.{counted-fit}
-use Rattle.login_core.proofs.Counting.{opens-bound, gives-bound, sessions-bound, handles-bound}
-use Rattle.login_core.proofs.Placed.{Moves, Places, stands-placed, but-users, but-sessions, but-seats, but-devices, but-controls, but-takes, but-others}
+use Rattle.login_core.proofs.Counting.{opens-bound, gives-bound, inhibits-bound, sessions-bound, handles-bound, locks-bound}
+use Rattle.login_core.proofs.Placed.{Moves, Places, stands-placed, but-users, but-sessions, but-seats, but-devices, but-controls, but-takes, but-locks, but-power}
 use Rattle.login_core.proofs.Standing.{opened}
 use Rattle.login_core.proofs.board.facts.Facts.set.Goals as goal
 
@@ -35,12 +35,14 @@ tables_of f = record {
   devices = f.devices.trail;
   controls = f.controls.trail;
   takes = f.takes.trail;
-  others = f.others.trail;
+  locks = f.locks.trail;
+  power = f.power.trail;
   ears = f.devices.ears;
   rings = f.devices.rings;
   counts = f.counts;
   session = f.session;
   handle = f.handle;
+  lock = f.lock;
   spare = f.spare;
 }
 
@@ -77,6 +79,18 @@ overflow_add-self-2 c =
     let gives = c.given.ensures in
     omega arith
 
+pub overflow_add-self-3 : goal.overflow_add-self-3
+overflow_add-self-3 c =
+    let few = c.requires.few in
+    let now = c.args.self.now in
+    let marks = few.few in
+    let view : c.self.inside.lock ≡ now.lock = ap (λ (f : Tables). f.lock) c.self.view_is in
+    let same : now.lock ≡ fresh_lock few.marks = (opened now few.marks few.stand).lock in
+    let most = locks-bound few.marks in
+    let one = inhibits-bound c.args.key c.args.fact in
+    let more : c.of-gained.result.locks ≡ inhibits c.args.key c.args.fact = ap (λ (n : Counts). n.locks) c.of-gained.ensures in
+    omega arith
+
 pub returns-in-Users-clause-stands : goal.returns-in-Users-clause-stands
 returns-in-Users-clause-stands c = λ t s.
     let P : Tables → Type 0 = λ f. StandFor f t in
@@ -87,13 +101,15 @@ returns-in-Users-clause-stands c = λ t s.
     let counts = c.moved-self-inside.result in
     let session = c.self.inside.session + c.of-gained.result.opened in
     let handle = c.self.inside.handle + c.given.result in
+    let lock = c.self.inside.lock + c.of-gained.result.locks in
     let spare = c.self.inside.spare - 1 in
-    let g : Tables = record f { users = rows; counts = counts; session = session; handle = handle; spare = spare } in
-    let places : Places f g k x Users = record { at_home = sym c.of.ensures ∙ c.in-Users.is; set = c.set.ensures.facts; stays = but-users f rows counts session handle spare } in
+    let g : Tables = record f { users = rows; counts = counts; session = session; handle = handle; lock = lock; spare = spare } in
+    let places : Places f g k x Users = record { at_home = sym c.of.ensures ∙ c.in-Users.is; set = c.set.ensures.facts; stays = but-users f rows counts session handle lock spare } in
     let moves : Moves f g k x t = record {
       counts = follow c.self.inside.counts c.of-lost.result c.of-gained.result counts k x c.fact.result.now (value t k) c.of-lost.ensures (c.fact.ensures t s) c.of-gained.ensures c.moved-self-inside.ensures;
       session = ap (λ (n : Counts). c.self.inside.session + n.opened) c.of-gained.ensures;
       handle = ap (λ (n : ℕ). c.self.inside.handle + n) c.given.ensures;
+      lock = ap (λ (n : Counts). c.self.inside.lock + n.locks) c.of-gained.ensures;
     } in
     stands-placed f g k x Users t places moves (subst P (sym c.self.view_is) s)
 
@@ -107,13 +123,15 @@ returns-in-Sessions-clause-stands c = λ t s.
     let counts = c.moved-self-inside.result in
     let session = c.self.inside.session + c.of-gained.result.opened in
     let handle = c.self.inside.handle + c.given.result in
+    let lock = c.self.inside.lock + c.of-gained.result.locks in
     let spare = c.self.inside.spare - 1 in
-    let g : Tables = record f { sessions = rows; counts = counts; session = session; handle = handle; spare = spare } in
-    let places : Places f g k x Sessions = record { at_home = sym c.of.ensures ∙ c.in-Sessions.is; set = c.set-in-Sessions.ensures.facts; stays = but-sessions f rows counts session handle spare } in
+    let g : Tables = record f { sessions = rows; counts = counts; session = session; handle = handle; lock = lock; spare = spare } in
+    let places : Places f g k x Sessions = record { at_home = sym c.of.ensures ∙ c.in-Sessions.is; set = c.set-in-Sessions.ensures.facts; stays = but-sessions f rows counts session handle lock spare } in
     let moves : Moves f g k x t = record {
       counts = follow c.self.inside.counts c.of-lost.result c.of-gained.result counts k x c.fact.result.now (value t k) c.of-lost.ensures (c.fact.ensures t s) c.of-gained.ensures c.moved-self-inside.ensures;
       session = ap (λ (n : Counts). c.self.inside.session + n.opened) c.of-gained.ensures;
       handle = ap (λ (n : ℕ). c.self.inside.handle + n) c.given.ensures;
+      lock = ap (λ (n : Counts). c.self.inside.lock + n.locks) c.of-gained.ensures;
     } in
     stands-placed f g k x Sessions t places moves (subst P (sym c.self.view_is) s)
 
@@ -127,13 +145,15 @@ returns-in-Seats-clause-stands c = λ t s.
     let counts = c.moved-self-inside.result in
     let session = c.self.inside.session + c.of-gained.result.opened in
     let handle = c.self.inside.handle + c.given.result in
+    let lock = c.self.inside.lock + c.of-gained.result.locks in
     let spare = c.self.inside.spare - 1 in
-    let g : Tables = record f { seats = rows; counts = counts; session = session; handle = handle; spare = spare } in
-    let places : Places f g k x Seats = record { at_home = sym c.of.ensures ∙ c.in-Seats.is; set = c.set-in-Seats.ensures.facts; stays = but-seats f rows counts session handle spare } in
+    let g : Tables = record f { seats = rows; counts = counts; session = session; handle = handle; lock = lock; spare = spare } in
+    let places : Places f g k x Seats = record { at_home = sym c.of.ensures ∙ c.in-Seats.is; set = c.set-in-Seats.ensures.facts; stays = but-seats f rows counts session handle lock spare } in
     let moves : Moves f g k x t = record {
       counts = follow c.self.inside.counts c.of-lost.result c.of-gained.result counts k x c.fact.result.now (value t k) c.of-lost.ensures (c.fact.ensures t s) c.of-gained.ensures c.moved-self-inside.ensures;
       session = ap (λ (n : Counts). c.self.inside.session + n.opened) c.of-gained.ensures;
       handle = ap (λ (n : ℕ). c.self.inside.handle + n) c.given.ensures;
+      lock = ap (λ (n : Counts). c.self.inside.lock + n.locks) c.of-gained.ensures;
     } in
     stands-placed f g k x Seats t places moves (subst P (sym c.self.view_is) s)
 
@@ -149,13 +169,15 @@ returns-in-Devices-clause-stands c = λ t s.
     let counts = c.moved-self-inside.result in
     let session = c.self.inside.session + c.of-gained.result.opened in
     let handle = c.self.inside.handle + c.given.result in
+    let lock = c.self.inside.lock + c.of-gained.result.locks in
     let spare = c.self.inside.spare - 1 in
-    let g : Tables = record f { devices = rows; ears = ears; rings = rings; counts = counts; session = session; handle = handle; spare = spare } in
-    let places : Places f g k x Devices = record { at_home = sym c.of.ensures ∙ c.in-Devices.is; set = c.set-in-Devices.ensures.facts; stays = but-devices f rows ears rings counts session handle spare } in
+    let g : Tables = record f { devices = rows; ears = ears; rings = rings; counts = counts; session = session; handle = handle; lock = lock; spare = spare } in
+    let places : Places f g k x Devices = record { at_home = sym c.of.ensures ∙ c.in-Devices.is; set = c.set-in-Devices.ensures.facts; stays = but-devices f rows ears rings counts session handle lock spare } in
     let moves : Moves f g k x t = record {
       counts = follow c.self.inside.counts c.of-lost.result c.of-gained.result counts k x c.fact.result.now (value t k) c.of-lost.ensures (c.fact.ensures t s) c.of-gained.ensures c.moved-self-inside.ensures;
       session = ap (λ (n : Counts). c.self.inside.session + n.opened) c.of-gained.ensures;
       handle = ap (λ (n : ℕ). c.self.inside.handle + n) c.given.ensures;
+      lock = ap (λ (n : Counts). c.self.inside.lock + n.locks) c.of-gained.ensures;
     } in
     stands-placed f g k x Devices t places moves (subst P (sym c.self.view_is) s)
 
@@ -169,13 +191,15 @@ returns-in-Controls-clause-stands c = λ t s.
     let counts = c.moved-self-inside.result in
     let session = c.self.inside.session + c.of-gained.result.opened in
     let handle = c.self.inside.handle + c.given.result in
+    let lock = c.self.inside.lock + c.of-gained.result.locks in
     let spare = c.self.inside.spare - 1 in
-    let g : Tables = record f { controls = rows; counts = counts; session = session; handle = handle; spare = spare } in
-    let places : Places f g k x Controls = record { at_home = sym c.of.ensures ∙ c.in-Controls.is; set = c.set-in-Controls.ensures.facts; stays = but-controls f rows counts session handle spare } in
+    let g : Tables = record f { controls = rows; counts = counts; session = session; handle = handle; lock = lock; spare = spare } in
+    let places : Places f g k x Controls = record { at_home = sym c.of.ensures ∙ c.in-Controls.is; set = c.set-in-Controls.ensures.facts; stays = but-controls f rows counts session handle lock spare } in
     let moves : Moves f g k x t = record {
       counts = follow c.self.inside.counts c.of-lost.result c.of-gained.result counts k x c.fact.result.now (value t k) c.of-lost.ensures (c.fact.ensures t s) c.of-gained.ensures c.moved-self-inside.ensures;
       session = ap (λ (n : Counts). c.self.inside.session + n.opened) c.of-gained.ensures;
       handle = ap (λ (n : ℕ). c.self.inside.handle + n) c.given.ensures;
+      lock = ap (λ (n : Counts). c.self.inside.lock + n.locks) c.of-gained.ensures;
     } in
     stands-placed f g k x Controls t places moves (subst P (sym c.self.view_is) s)
 
@@ -189,32 +213,58 @@ returns-in-Takes-clause-stands c = λ t s.
     let counts = c.moved-self-inside.result in
     let session = c.self.inside.session + c.of-gained.result.opened in
     let handle = c.self.inside.handle + c.given.result in
+    let lock = c.self.inside.lock + c.of-gained.result.locks in
     let spare = c.self.inside.spare - 1 in
-    let g : Tables = record f { takes = rows; counts = counts; session = session; handle = handle; spare = spare } in
-    let places : Places f g k x Takes = record { at_home = sym c.of.ensures ∙ c.in-Takes.is; set = c.set-in-Takes.ensures.facts; stays = but-takes f rows counts session handle spare } in
+    let g : Tables = record f { takes = rows; counts = counts; session = session; handle = handle; lock = lock; spare = spare } in
+    let places : Places f g k x Takes = record { at_home = sym c.of.ensures ∙ c.in-Takes.is; set = c.set-in-Takes.ensures.facts; stays = but-takes f rows counts session handle lock spare } in
     let moves : Moves f g k x t = record {
       counts = follow c.self.inside.counts c.of-lost.result c.of-gained.result counts k x c.fact.result.now (value t k) c.of-lost.ensures (c.fact.ensures t s) c.of-gained.ensures c.moved-self-inside.ensures;
       session = ap (λ (n : Counts). c.self.inside.session + n.opened) c.of-gained.ensures;
       handle = ap (λ (n : ℕ). c.self.inside.handle + n) c.given.ensures;
+      lock = ap (λ (n : Counts). c.self.inside.lock + n.locks) c.of-gained.ensures;
     } in
     stands-placed f g k x Takes t places moves (subst P (sym c.self.view_is) s)
 
-pub returns-in-Others-clause-stands : goal.returns-in-Others-clause-stands
-returns-in-Others-clause-stands c = λ t s.
+pub returns-in-Locks-clause-stands : goal.returns-in-Locks-clause-stands
+returns-in-Locks-clause-stands c = λ t s.
     let P : Tables → Type 0 = λ f. StandFor f t in
     let k = c.args.key in
     let x = c.args.fact in
     let f = tables_of c.self.inside in
-    let rows = c.set-in-Others.new.self.trail in
+    let rows = c.set-in-Locks.new.self.trail in
     let counts = c.moved-self-inside.result in
     let session = c.self.inside.session + c.of-gained.result.opened in
     let handle = c.self.inside.handle + c.given.result in
+    let lock = c.self.inside.lock + c.of-gained.result.locks in
     let spare = c.self.inside.spare - 1 in
-    let g : Tables = record f { others = rows; counts = counts; session = session; handle = handle; spare = spare } in
-    let places : Places f g k x Others = record { at_home = sym c.of.ensures ∙ c.in-Others.is; set = c.set-in-Others.ensures.facts; stays = but-others f rows counts session handle spare } in
+    let g : Tables = record f { locks = rows; counts = counts; session = session; handle = handle; lock = lock; spare = spare } in
+    let places : Places f g k x Locks = record { at_home = sym c.of.ensures ∙ c.in-Locks.is; set = c.set-in-Locks.ensures.facts; stays = but-locks f rows counts session handle lock spare } in
     let moves : Moves f g k x t = record {
       counts = follow c.self.inside.counts c.of-lost.result c.of-gained.result counts k x c.fact.result.now (value t k) c.of-lost.ensures (c.fact.ensures t s) c.of-gained.ensures c.moved-self-inside.ensures;
       session = ap (λ (n : Counts). c.self.inside.session + n.opened) c.of-gained.ensures;
       handle = ap (λ (n : ℕ). c.self.inside.handle + n) c.given.ensures;
+      lock = ap (λ (n : Counts). c.self.inside.lock + n.locks) c.of-gained.ensures;
     } in
-    stands-placed f g k x Others t places moves (subst P (sym c.self.view_is) s)
+    stands-placed f g k x Locks t places moves (subst P (sym c.self.view_is) s)
+
+pub returns-in-Power-clause-stands : goal.returns-in-Power-clause-stands
+returns-in-Power-clause-stands c = λ t s.
+    let P : Tables → Type 0 = λ f. StandFor f t in
+    let k = c.args.key in
+    let x = c.args.fact in
+    let f = tables_of c.self.inside in
+    let rows = c.set-in-Power.new.self.trail in
+    let counts = c.moved-self-inside.result in
+    let session = c.self.inside.session + c.of-gained.result.opened in
+    let handle = c.self.inside.handle + c.given.result in
+    let lock = c.self.inside.lock + c.of-gained.result.locks in
+    let spare = c.self.inside.spare - 1 in
+    let g : Tables = record f { power = rows; counts = counts; session = session; handle = handle; lock = lock; spare = spare } in
+    let places : Places f g k x Power = record { at_home = sym c.of.ensures ∙ c.in-Power.is; set = c.set-in-Power.ensures.facts; stays = but-power f rows counts session handle lock spare } in
+    let moves : Moves f g k x t = record {
+      counts = follow c.self.inside.counts c.of-lost.result c.of-gained.result counts k x c.fact.result.now (value t k) c.of-lost.ensures (c.fact.ensures t s) c.of-gained.ensures c.moved-self-inside.ensures;
+      session = ap (λ (n : Counts). c.self.inside.session + n.opened) c.of-gained.ensures;
+      handle = ap (λ (n : ℕ). c.self.inside.handle + n) c.given.ensures;
+      lock = ap (λ (n : Counts). c.self.inside.lock + n.locks) c.of-gained.ensures;
+    } in
+    stands-placed f g k x Power t places moves (subst P (sym c.self.view_is) s)

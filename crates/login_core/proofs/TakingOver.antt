@@ -1,0 +1,278 @@
+-- Marks are put into the facts, one after the other, and the draft goes on behind them.
+use Rattle.std.proofs.Common.{◌≡◌, ℕ, zero, suc, ◌+◌, ◌<◌, ◌≤◌, ◌^◌, ◌∙◌, List, [], ◌∷◌, ◌++◌, length, take, drop, get_or, refl, sym, ap, subst, arith}
+use Rattle.std.proofs.lemmas.List.{take_more, length-append}
+use Rattle.std.specs.List.{AllByRecursion}
+use Rattle.login_base.specs.Room.{Room}
+use Rattle.login_laws.proofs.JournalLaws.{length-after}
+use Rattle.login_laws.proofs.LeftHandles.{handles-are-left}
+use Rattle.login_laws.specs.Sound.{Awaits}
+use Rattle.login_model.specs.Legal.{trail_of}
+use Rattle.login_model.specs.Trail.{Trail, after, value}
+use Rattle.login_model.specs.declared.fact.Fact.{Fact}
+use Rattle.login_model.specs.declared.fact.Key.{Key}
+use Rattle.login_model.specs.declared.mark.Entry.{Entry}
+use Rattle.login_model.specs.declared.mark.Mark.{Mark}
+use Rattle.login_model.specs.declared.mark.Mark.TheVariants.{Set, Say}
+use Rattle.login_model.specs.declared.mark.Notice.{Notice}
+use Rattle.login_model.specs.declared.mark.Whom.{Whom}
+use Rattle.login_table.specs.Appended.{Appends, HasRoom, LeavesRoom, SetsPlain}
+use Rattle.switch_core.specs.Handles.{HandlesLeft, IsNumbered}
+use Rattle.device_model.specs.declared.ears.Ear.{Ear}
+use Rattle.login_core.specs.declared.board.seating.Seating.{Seating}
+use Rattle.login_core.specs.inner.Draft.{DraftState, Fits, IsDraft, marked_by, with_ears, with_trail}
+use Rattle.login_core.specs.inner.Facts.{Tables, StandFor, StandForFew}
+use Rattle.login_core.specs.inner.Seating.{AreSeated, CanSeat, Seats}
+use Rattle.login_core.specs.inner.TakingOver.{CanTakeOver, TakesOver}
+use Rattle.login_core.specs.inner.UnderWay.{so_far}
+use Rattle.login_core.proofs.Counting.{handles-bound}
+use Rattle.login_core.proofs.Drafting.{seen}
+use Rattle.login_core.proofs.Standing.{stand-say}
+use Rattle.login_core.proofs.TallyLaws.{seated-noted, seated-room, seated-say}
+
+-- ---- one mark
+
+pub can-set : (f : Tables) (s : Seating) (m : Mark) (k : Key) (x : Fact) → m ≡ Set k x → CanTakeOver f s (m ∷ []) → CanTakeOver f s (Set k x ∷ [])
+can-set f s m k x e c = subst (λ (n : Mark). CanTakeOver f s (n ∷ [])) e c
+
+pub can-note : (f : Tables) (s : Seating) (m : Mark) (k : Key) (x y : Fact) → CanTakeOver f s (m ∷ []) → ((t : Trail) → StandFor f t → y ≡ value t k) → CanSeat s k y x
+can-note f s m k x y c e = let few = c.few in seated-room s k x y c.trail c.seated (e c.trail c.stands) (omega arith)
+
+pub can-few : (f : Tables) (s : Seating) (m : Mark) → CanTakeOver f s (m ∷ []) → StandForFew f
+can-few f s m c = let few = c.few in record { marks = c.trail; stand = c.stands; few = omega arith }
+
+-- the setting of a fact, which was read before and put in as a copy
+pub takes-set : (f g : Tables) (s u : Seating) (m : Mark) (k : Key) (x y z : Fact) → m ≡ Set k x → z ≡ x → ((t : Trail) → StandFor f t → y ≡ value t k) → ((t : Trail) → StandFor f t → StandFor g (Set k z ∷ t)) → Seats s k y z u
+    → f.spare ≡ g.spare + 1 → g.ears ≡ f.ears → g.rings ≡ f.rings → TakesOver f s (m ∷ []) g u
+takes-set f g s u m k x y z e copy read stands seats spare ears rings =
+    record {
+      stands = λ t h. subst (λ (n : Mark). StandFor g (n ∷ t)) (ap (Set k) copy ∙ sym e) (stands t h);
+      seated = λ t h a. subst (λ (n : Mark). AreSeated u (n ∷ t)) (sym e) (seated-noted s u k z y x t a (read t h) copy seats);
+      spare = omega arith;
+      ears = ears;
+      rings = rings;
+    }
+
+pub takes-say : (f : Tables) (s : Seating) (m : Mark) (w : Whom) (n : Notice) → m ≡ Say w n → TakesOver f s (m ∷ []) f s
+takes-say f s m w n e = record {
+  stands = λ t h. subst (λ (k : Mark). StandFor f (k ∷ t)) (sym e) (stand-say f t w n h);
+  seated = λ t h a. subst (λ (k : Mark). AreSeated s (k ∷ t)) (sym e) (seated-say s w n t a);
+  spare = omega arith;
+  ears = refl;
+  rings = refl;
+}
+
+-- ---- some marks
+
+after-append : (t : Trail) (ms ns : List Mark) → after t (ms ++ ns) ≡ after (after t ms) ns
+after-append t [] ns = refl
+after-append t (m ∷ ms) ns = after-append (m ∷ t) ms ns
+
+pub takes-none : (f : Tables) (s : Seating) → TakesOver f s [] f s
+takes-none f s = record { stands = λ t h. h; seated = λ t h a. a; spare = omega arith; ears = refl; rings = refl }
+
+takes-both : (f g h : Tables) (s u v : Seating) (ms ns : List Mark) → TakesOver f s ms g u → TakesOver g u ns h v → TakesOver f s (ms ++ ns) h v
+takes-both f g h s u v ms ns a b =
+    let one = a.spare in
+    let two = b.spare in
+    let more = length-append ms ns in
+    record {
+      stands = λ t w. subst (StandFor h) (sym (after-append t ms ns)) (b.stands (after t ms) (a.stands t w));
+      seated = λ t w i. subst (AreSeated v) (sym (after-append t ms ns)) (b.seated (after t ms) (a.stands t w) (a.seated t w i));
+      spare = omega arith;
+      ears = b.ears ∙ a.ears;
+      rings = b.rings ∙ a.rings;
+    }
+
+-- with one mark more
+pub takes-more : (f g h : Tables) (s u v : Seating) (ms : List Mark) (i : ℕ) (m : Mark) → i < length ms → m ≡ get_or ms i m → TakesOver f s (take i ms) g u → TakesOver g u (m ∷ []) h v → TakesOver f s (take (i + 1) ms) h v
+takes-more f g h s u v ms i m l e a b =
+    let is : take (i + 1) ms ≡ take i ms ++ m ∷ [] = take_more ms i m l ∙ ap (λ (x : Mark). take i ms ++ x ∷ []) (sym e) in
+    subst (λ (ns : List Mark). TakesOver f s ns h v) (sym is) (takes-both f g h s u v (take i ms) (m ∷ []) a b)
+
+plain-at : (ms : List Mark) (i : ℕ) (m : Mark) → i < length ms → m ≡ get_or ms i m → AllByRecursion SetsPlain ms → SetsPlain m
+plain-at [] i m l e p = absurd (omega arith)
+plain-at (x ∷ xs) zero m l e p = subst SetsPlain (sym e) p.0
+plain-at (x ∷ xs) (suc i) m l e p = plain-at xs i m (omega arith) e p.1
+
+taken : (ms : List Mark) (i : ℕ) → i ≤ length ms → length (take i ms) ≡ i
+taken ms zero l = refl
+taken [] (suc i) l = absurd (omega arith)
+taken (x ∷ xs) (suc i) l = let e = taken xs i (omega arith) in omega arith
+
+-- the next one can be put in
+pub can-next : (f g : Tables) (s u : Seating) (ms : List Mark) (i : ℕ) (m : Mark) → i < length ms → m ≡ get_or ms i m → CanTakeOver f s ms → TakesOver f s (take i ms) g u → CanTakeOver g u (m ∷ [])
+can-next f g s u ms i m l e c a =
+    let n = taken ms i (omega arith) in
+    let longer = length-after c.trail (take i ms) in
+    let few = c.few in
+    let spare = c.spare in
+    let left = a.spare in
+    record {
+      trail = after c.trail (take i ms);
+      stands = a.stands c.trail c.stands;
+      seated = a.seated c.trail c.stands c.seated;
+      few = omega arith;
+      spare = omega arith;
+      plain = (plain-at ms i m l e c.plain, tt);
+    }
+
+-- ---- the draft goes on behind what was put at the end of its list
+
+-- a procedure has put its marks at the end of the list of a draft, for which there was room
+pub record HasMore (f : Trail → Trail) (es : List Entry) (marks new : Room Mark) (facts : Tables) (seating : Seating) (made reach : ℕ) (d : DraftState) : Type 0 where
+  pub draft : IsDraft (so_far es marks.items) marks facts seating made reach
+  pub view : seen es marks.items facts reach ≡ d
+  pub room : Fits f d
+  pub appends : Appends f (so_far es marks.items) marks.items new.items
+  pub leaves : LeavesRoom f (so_far es marks.items) marks.spare new.spare
+
+fits-inside : (f : Trail → Trail) (es : List Entry) (ms : List Mark) (facts : Tables) (reach : ℕ) (d : DraftState) → seen es ms facts reach ≡ d → Fits f d → length (f (so_far es ms)) ≤ reach
+fits-inside f es ms facts reach d v h =
+    let n = ap (λ (w : DraftState). length (f w.trail)) v in
+    let r = ap (λ (w : DraftState). w.reach) v in
+    omega arith
+
+-- there is room for its marks
+pub has-room : (f : Trail → Trail) (es : List Entry) (marks : Room Mark) (facts : Tables) (seating : Seating) (made reach : ℕ) (d : DraftState) (t : Trail) → IsDraft (so_far es marks.items) marks facts seating made reach → seen es marks.items facts reach ≡ d
+    → t ≡ so_far es marks.items → Fits f d → HasRoom f t marks.spare
+has-room f es marks facts seating made reach d t draft v e h =
+    let inside = fits-inside f es marks.items facts reach d v h in
+    let counted = draft.counted in
+    let fit = draft.marks_fit in
+    let same = ap (λ (u : Trail). length (f u)) e in
+    let long = ap length e in
+    omega arith
+
+-- the next handle can be numbered behind them
+pub more-numbered : (f : Trail → Trail) (es : List Entry) (marks : Room Mark) (facts : Tables) (seating : Seating) (made reach : ℕ) (d : DraftState) (t : Trail) → IsDraft (so_far es marks.items) marks facts seating made reach → seen es marks.items facts reach ≡ d
+    → t ≡ so_far es marks.items → Fits f d → IsNumbered (f t)
+more-numbered f es marks facts seating made reach d t draft v e h =
+    let inside = fits-inside f es marks.items facts reach d v h in
+    let same = ap (λ (u : Trail). length (f u)) e in
+    let most = handles-bound (f t) in
+    let numbered = draft.numbered in
+    omega arith
+
+-- and so can one for each device that is taken
+pub more-handles : (es : List Entry) (marks : Room Mark) (facts : Tables) (seating : Seating) (made reach : ℕ) (t : Trail) → IsDraft (so_far es marks.items) marks facts seating made reach → t ≡ so_far es marks.items → HandlesLeft t
+more-handles es marks facts seating made reach t draft e =
+    let left = handles-are-left t in
+    let long = ap length e in
+    let counted = draft.counted in
+    let within = draft.within in
+    let numbered = draft.numbered in
+    omega arith
+
+-- each pause that is awaited is one of the active session's
+pub more-awaits : (es : List Entry) (ms : List Mark) (facts : Tables) (reach : ℕ) (d : DraftState) (t : Trail) → seen es ms facts reach ≡ d → t ≡ so_far es ms → Awaits d.trail → Awaits t
+more-awaits es ms facts reach d t v e a = subst Awaits (sym (e ∙ ap (λ (w : DraftState). w.trail) v)) a
+
+pub has-more : (f : Trail → Trail) (es : List Entry) (marks new : Room Mark) (facts : Tables) (seating : Seating) (made reach : ℕ) (d : DraftState) (t : Trail) → IsDraft (so_far es marks.items) marks facts seating made reach → seen es marks.items facts reach ≡ d
+    → Fits f d → t ≡ so_far es marks.items → Appends f t marks.items new.items → LeavesRoom f t marks.spare new.spare → HasMore f es marks new facts seating made reach d
+has-more f es marks new facts seating made reach d t draft v h e appends leaves = record {
+  draft = draft;
+  view = v;
+  room = h;
+  appends = subst (λ (u : Trail). Appends f u marks.items new.items) e appends;
+  leaves = subst (λ (u : Trail). LeavesRoom f u marks.spare new.spare) e leaves;
+}
+
+drop-front : (ms ns : List Mark) → drop (length ms) (ms ++ ns) ≡ ns
+drop-front [] ns = drop-none ns
+  where
+    drop-none : (xs : List Mark) → drop 0 xs ≡ xs
+    drop-none [] = refl
+    drop-none (x ∷ xs) = refl
+drop-front (m ∷ ms) ns = drop-front ms ns
+
+-- what is behind the list as it was
+more : (f : Trail → Trail) (t : Trail) (old new : List Mark) (from : ℕ) (a : Appends f t old new) → from ≡ length old → drop from new ≡ a.marks
+more f t old new from a e = ap (λ (n : ℕ). drop n new) e ∙ ap (drop (length old)) a.items ∙ drop-front old a.marks
+
+behind : (f : Trail → Trail) (t : Trail) (old new : List Mark) (from : ℕ) → Appends f t old new → from ≡ length old → after t (drop from new) ≡ f t
+behind f t old new from a e = ap (after t) (more f t old new from a e) ∙ a.same
+
+counted : (f : Trail → Trail) (t : Trail) (old new : List Mark) (from : ℕ) → Appends f t old new → from ≡ length old → length t + length (drop from new) ≡ length (f t)
+counted f t old new from a e = let n = length-after t (drop from new) in let s = ap length (behind f t old new from a e) in omega arith
+
+lengths : (f : Trail → Trail) (t : Trail) (old new : List Mark) (from : ℕ) → Appends f t old new → from ≡ length old → length (drop from new) + from ≡ length new
+lengths f t old new from a e =
+    let n = ap length a.items in
+    let s = length-append old a.marks in
+    let m = ap length (more f t old new from a e) in
+    omega arith
+
+pub more-within : (f : Trail → Trail) (es : List Entry) (marks new : Room Mark) (facts : Tables) (seating : Seating) (made reach : ℕ) (d : DraftState) (from : ℕ) → HasMore f es marks new facts seating made reach d → from ≡ length marks.items
+    → from ≤ length new.items
+more-within f es marks new facts seating made reach d from h e = let n = lengths f (so_far es marks.items) marks.items new.items from h.appends e in omega arith
+
+pub more-can : (f : Trail → Trail) (es : List Entry) (marks new : Room Mark) (facts : Tables) (seating : Seating) (made reach : ℕ) (d : DraftState) (from : ℕ) → HasMore f es marks new facts seating made reach d → from ≡ length marks.items
+    → CanTakeOver facts seating (drop from new.items)
+more-can f es marks new facts seating made reach d from h e =
+    let t = so_far es marks.items in
+    let draft = h.draft in
+    let n = counted f t marks.items new.items from h.appends e in
+    let inside = fits-inside f es marks.items facts reach d h.view h.room in
+    let made_is = draft.counted in
+    let numbered = draft.numbered in
+    let fit = draft.facts_fit in
+    record {
+      trail = t;
+      stands = draft.stands;
+      seated = draft.seated;
+      few = omega arith;
+      spare = omega arith;
+      plain = subst (AllByRecursion SetsPlain) (sym (more f t marks.items new.items from h.appends e)) h.appends.plain;
+    }
+
+pub more-made : (f : Trail → Trail) (es : List Entry) (marks new : Room Mark) (facts : Tables) (seating : Seating) (made reach : ℕ) (d : DraftState) (from n : ℕ) → HasMore f es marks new facts seating made reach d → from ≡ length marks.items
+    → n + from ≡ length new.items → made + n < 2 ^ 32
+more-made f es marks new facts seating made reach d from n h e s =
+    let t = so_far es marks.items in
+    let draft = h.draft in
+    let k = counted f t marks.items new.items from h.appends e in
+    let l = lengths f t marks.items new.items from h.appends e in
+    let inside = fits-inside f es marks.items facts reach d h.view h.room in
+    let made_is = draft.counted in
+    let numbered = draft.numbered in
+    omega arith
+
+-- the marks so far are those that the procedure leaves
+so_far-behind : (f : Trail → Trail) (es : List Entry) (old new : List Mark) → Appends f (so_far es old) old new → so_far es new ≡ f (so_far es old)
+unfolding so_far
+so_far-behind f es old new a = ap (after (trail_of es)) a.items ∙ after-append (trail_of es) old a.marks ∙ a.same
+
+pub more-draft : (f : Trail → Trail) (es : List Entry) (marks new : Room Mark) (facts tables : Tables) (seating seats : Seating) (made reach : ℕ) (d : DraftState) (from n : ℕ) → HasMore f es marks new facts seating made reach d → from ≡ length marks.items
+    → n + from ≡ length new.items → TakesOver facts seating (drop from new.items) tables seats → IsDraft (so_far es new.items) new tables seats (made + n) reach
+more-draft f es marks new facts tables seating seats made reach d from n h e s o =
+    let t = so_far es marks.items in
+    let draft = h.draft in
+    let is : after t (drop from new.items) ≡ so_far es new.items = behind f t marks.items new.items from h.appends e ∙ sym (so_far-behind f es marks.items new.items h.appends) in
+    let k = counted f t marks.items new.items from h.appends e in
+    let l = lengths f t marks.items new.items from h.appends e in
+    let long = ap length (so_far-behind f es marks.items new.items h.appends) in
+    let inside = fits-inside f es marks.items facts reach d h.view h.room in
+    let made_is = draft.counted in
+    let marks_fit = draft.marks_fit in
+    let facts_fit = draft.facts_fit in
+    let leaves = h.leaves in
+    let spare = o.spare in
+    record {
+      stands = subst (StandFor tables) is (o.stands t draft.stands);
+      seated = subst (AreSeated seats) is (o.seated t draft.stands draft.seated);
+      counted = omega arith;
+      marks_fit = omega arith;
+      facts_fit = omega arith;
+      within = omega arith;
+      numbered = draft.numbered;
+    }
+
+pub more-seen : (f : Trail → Trail) (es : List Entry) (marks new : Room Mark) (facts tables : Tables) (seating seats : Seating) (made reach : ℕ) (d : DraftState) (from : ℕ) → HasMore f es marks new facts seating made reach d
+    → TakesOver facts seating (drop from new.items) tables seats → seen es new.items tables reach ≡ marked_by f d
+more-seen f es marks new facts tables seating seats made reach d from h o =
+    let s = seen es marks.items facts reach in
+    let t = so_far es marks.items in
+    ap (λ (u : Trail). with_ears tables.ears tables.rings (with_trail s u)) (so_far-behind f es marks.items new.items h.appends)
+    ∙ ap (λ (ears : List Ear). with_ears ears tables.rings (with_trail s (f t))) o.ears
+    ∙ ap (λ (n : ℕ). with_ears facts.ears n (with_trail s (f t))) o.rings
+    ∙ ap (λ (w : DraftState). marked_by f w) h.view
