@@ -5,7 +5,7 @@ use Rattle.std.proofs.lemmas.Bool.Decides.{nat_tests}
 use Rattle.login_model.specs.declared.call.Call.{Call}
 use Rattle.login_model.specs.declared.call.Call.TheVariants as call
 use Rattle.login_model.specs.declared.event.Event.{Event}
-use Rattle.login_model.specs.declared.event.Event.TheVariants.{Connect, Call as Calls, Hardware as Happens}
+use Rattle.login_model.specs.declared.event.Event.TheVariants.{Connect, Call as Calls}
 use Rattle.login_model.specs.Built.{is_built_call, is_built}
 use Rattle.login_model.specs.Texts.{IsText, texts, has_object}
 use Rattle.recording.specs.Calls.{FitsCall}
@@ -70,7 +70,6 @@ meant_line (Calls r) w b =
     let t = meant_fits r.call b w.4 w.5 in
     record { fits = (w.0, w.1, w.2, w.3, t.fits, t.short, t.object); built = t.built }
 meant_line (Connect c u) w b = record { fits = w; built = refl }
-meant_line (Happens x) w b = record { fits = w; built = b }
 meant_line _ w b = record { fits = w; built = refl }
 
 -- an event of a line of a recording is written, and it means itself

@@ -24,7 +24,7 @@ use Rattle.recording.specs.inner.Arguments.{users, devices, properties, inhibiti
 use Rattle.recording.specs.inner.CallReadings.{handles, manager_call_of, session_call_of, seat_call_of, other_call_of, call_of}
 use Rattle.recording.specs.inner.CallWords.{purpose_words, place_words}
 use Rattle.recording.proofs.Arguments.{IsWord, AreWords, Agrees, IsReading, pair_reading, made_reading, read_again, number, text, flag, signed, operation, RowIs, row, alone_row, no_row}
-use Rattle.recording.proofs.Lengths.{size, decimal_short, spell_text_short, spell_flag_short, signed_short}
+use Rattle.recording.proofs.Lengths.{size, decimal_short, spell_text_short, spell_flag_short, signed_short, operation_short}
 
 -- the words, the numbers and the texts of a call
 pub record CallIs (call : Call) (words : List (List ℕ)) : Type 0 where
@@ -245,6 +245,7 @@ call_short (call.SetMode h mode) b f t = let a = decimal_short h.0 f.0 in let d 
 call_short (call.Close h) b f t = let a = decimal_short h.0 f in omega arith
 call_short (call.TakeDevice id d) b f t = let a = spell_text_short 512 id t.0 in let e = decimal_short d.major f.0 in let g = decimal_short d.minor f.1 in omega arith
 call_short (call.ReleaseDevice id d) b f t = let a = spell_text_short 512 id t.0 in let e = decimal_short d.major f.0 in let g = decimal_short d.minor f.1 in omega arith
+call_short (call.PauseComplete id d) b f t = let a = spell_text_short 512 id t.0 in let e = decimal_short d.major f.0 in let g = decimal_short d.minor f.1 in omega arith
 call_short (call.Kill id who signal) b f t = let a = spell_text_short 512 id t.0 in let d = spell_text_short 512 who t.1.0 in let e = signed_short signal f in omega arith
 call_short (call.SetLinger u on) b f t = let a = decimal_short u.0 f in let d = spell_flag_short on in omega arith
 call_short (call.SetIdle id on) b f t = let a = spell_text_short 512 id t.0 in let d = spell_flag_short on in omega arith
@@ -255,6 +256,10 @@ call_short (call.KillUser u signal) b f t = let a = decimal_short u.0 f.0 in let
 call_short call.ListSessions b f t = omega arith
 call_short call.ListUsers b f t = omega arith
 call_short call.ListSeats b f t = omega arith
+call_short call.ListInhibitors b f t = omega arith
+call_short (call.Power kind) b f t = let a = operation_short kind in omega arith
+call_short (call.Can kind) b f t = let a = operation_short kind in omega arith
+call_short (call.Inhibit x) b f t = let a = spell_text_short 512 x.what t.0 in let d = spell_text_short 512 x.who t.1.0 in let e = spell_text_short 512 x.why t.1.1.0 in let g = spell_text_short 512 x.mode t.1.1.1.0 in omega arith
 call_short call.LockAll b f t = omega arith
 call_short call.UnlockAll b f t = omega arith
 call_short call.NoCall b f t = omega arith

@@ -5,7 +5,10 @@ use Rattle.std.specs.Fmt.{decimal, signed_decimal}
 use Rattle.std.specs.Int.{w32}
 use Rattle.std.specs.List.{join_with_byte, flat_map}
 use Rattle.std.proofs.lemmas.Fmt.{length-decimal-le}
+use Rattle.login_model.specs.declared.operation.OpKind.{OpKind}
+use Rattle.login_model.specs.declared.operation.OpKind.TheVariants as kind
 use Rattle.login_model.specs.Texts.{IsText}
+use Rattle.login_model.specs.Words.{operation_word}
 use Rattle.recording.specs.Text.{stands, spell_byte, spell_text, spell_flag}
 use Rattle.recording.specs.EventSpelling.{request_word}
 
@@ -45,6 +48,15 @@ spell_flag_short false = omega arith
 pub request_word_short : (quiet : Bool) → length (request_word quiet) ≤ 4
 request_word_short true = omega arith
 request_word_short false = omega arith
+
+pub operation_short : (k : OpKind) → length (operation_word k) ≤ 22
+operation_short kind.PowerOff = omega arith
+operation_short kind.Reboot = omega arith
+operation_short kind.Halt = omega arith
+operation_short kind.Suspend = omega arith
+operation_short kind.Hibernate = omega arith
+operation_short kind.HybridSleep = omega arith
+operation_short kind.SuspendThenHibernate = omega arith
 
 pub signed_short : (z : ℤ) → FitsSigned w32 z → length (signed_decimal z) ≤ 11
 signed_short (pos n) h = let a = decimal_short n (omega (arith, h.sfits)) in omega arith

@@ -11,7 +11,7 @@ use Rattle.recording.specs.Lines.{IsLine, IsWritten, Spells}
 use Rattle.recording.specs.Unbuilt.{IsUnbuilt}
 use Rattle.recording.specs.Meaning.{meant, is_built_line, built, IsReadAs}
 use Rattle.recording.specs.inner.LineReadings.{line_of}
-use Rattle.recording.proofs.Spellings.{text_spells, text_written, line_meant}
+use Rattle.recording.proofs.Spellings.{text_spells, text_written, line_meant, spells_short}
 
 -- elements that are each a byte
 pub each_byte : (bs : List ℕ) → ((i : ℕ) → Fits w8 (get_or bs i 0)) → AreBytes bs
@@ -85,7 +85,7 @@ read_fits bytes line r is e = by (is_built_line line) refl
     by : (b : Bool) → is_built_line line ≡ b → IfOk r (λ l. IsLine l)
     by true b =
         let ok : built line ≡ Ok (meant line) = rw b refl in
-        subst Good (sym (e ∙ ok)) (line_meant line is.written b)
+        subst Good (sym (e ∙ ok)) (line_meant line is.written b (spells_short line bytes is.spells))
     by false b =
         let none : built line ≡ Err NotBuilt = rw b refl in
         subst Good (sym (e ∙ none)) tt

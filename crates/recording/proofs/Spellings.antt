@@ -11,12 +11,14 @@ use Rattle.login_base.specs.declared.ids.DevNo.{DevNo}
 use Rattle.login_base.specs.Seat.{is_seat_name}
 use Rattle.login_model.specs.declared.hardware.DevKind.{DevKind}
 use Rattle.login_model.specs.declared.hardware.DevKind.TheVariants.{Evdev, Drm}
+use Rattle.login_model.specs.declared.hardware.HardKey.{HardKey}
+use Rattle.login_model.specs.declared.hardware.HardKey.TheVariants as hard
 use Rattle.login_model.specs.declared.hardware.Hardware.{Hardware}
 use Rattle.login_model.specs.declared.hardware.Hardware.TheVariants.{Add, Remove, Input, VtKey, Key, Dock, Exit, JobDone}
 use Rattle.login_model.specs.declared.event.Event.{Event}
 use Rattle.login_model.specs.declared.event.Event.TheVariants.{Connect, Disconnect, Call as Calls, Hardware as Happens, Tick, Stop}
-use Rattle.login_model.specs.Built.{is_built_hardware, is_built}
-use Rattle.login_model.specs.Words.{device_kind_word}
+use Rattle.login_model.specs.Built.{is_built}
+use Rattle.login_model.specs.Words.{device_kind_word, key_word}
 use Rattle.recording.specs.declared.line.Line.{Line}
 use Rattle.recording.specs.declared.line.Line.TheVariants.{Header, Guid, User, Conf, Action, Go, Event as EventLine, Link, In, Hangup, End}
 use Rattle.recording.specs.Calls.{device_words, call_words, FitsDevice}
@@ -29,7 +31,7 @@ use Rattle.recording.specs.inner.LineReadings.{line_of}
 use Rattle.recording.proofs.Texts.{both}
 use Rattle.recording.proofs.Arguments.{IsWord, AreWords, decimal_IsWord, number_IsWord, spell_text_IsWord, spell_flag_IsWord, signed_IsWord, device_kind_IsWord, key_IsWord, seat_IsWord, guid_IsWord, hex_IsWord}
 use Rattle.recording.proofs.Calls.{call_of_is, call_of-words, call_short}
-use Rattle.recording.proofs.Lengths.{size, join_short, decimal_short, spell_text_short, signed_short, request_word_short}
+use Rattle.recording.proofs.Lengths.{size, join_short, decimal_short, spell_text_short, spell_flag_short, signed_short, request_word_short}
 use Rattle.recording.proofs.Built.{meant_line, event_written, means_itself}
 use Rattle.recording.proofs.ReadLines.{LineIs, line_of_is, parts, line_of-parts, behind_conf, behind_action}
 
@@ -98,29 +100,37 @@ event_some (Happens x) = hardware_some x
 event_some (Tick m) = omega arith
 event_some Stop = omega arith
 
-line_AreWords : (line : Line) → IsLine line → AreWords (fields line)
-line_AreWords (Header version) h = (search rules, (number_IsWord version (omega (arith, h)), tt))
-line_AreWords (Guid guid) h = (search rules, (guid_IsWord guid h, tt))
-line_AreWords (User u) h = (search rules, (number_IsWord u.uid.0 h.1, (number_IsWord u.gid h.2, (spell_text_IsWord u.name, tt))))
-line_AreWords Go h = search rules
-line_AreWords (EventLine e) h = event_AreWords e (event_written e h.fits)
-line_AreWords End h = search rules
-line_AreWords _ h = absurd h
+-- a line whose fields are words: none that stands as it is written
+abbrev IsWorded : Line → Type 0
+IsWorded (Conf text) = ⊥
+IsWorded (Action text) = ⊥
+IsWorded _ = Unit {0}
+
+line_AreWords : (line : Line) → IsLine line → IsWorded line → AreWords (fields line)
+line_AreWords (Header version) h w = (search rules, (number_IsWord version (omega (arith, h)), tt))
+line_AreWords (Guid guid) h w = (search rules, (guid_IsWord guid h, tt))
+line_AreWords (User u) h w = (search rules, (number_IsWord u.uid.0 h.1, (number_IsWord u.gid h.2, (spell_text_IsWord u.name, tt))))
+line_AreWords Go h w = search rules
+line_AreWords (EventLine e) h w = event_AreWords e (event_written e h.fits)
+line_AreWords End h w = search rules
+line_AreWords (Conf text) h w = absurd w
+line_AreWords (Action text) h w = absurd w
+line_AreWords _ h w = absurd h
 
 -- the text of a line is cut into its parts
 pub slice_split-fields : (line : Line) → IsWritten line → slice_split (λ b. eqb b 32) (join_with_byte 32 (fields line)) ≡ parts line
-slice_split-fields (Header version) h = split_words _ (omega arith) (line_AreWords (Header version) h)
+slice_split-fields (Header version) h = split_words _ (omega arith) (line_AreWords (Header version) h tt)
 slice_split-fields (Guid guid) h = split_words (fields (Guid guid)) (omega arith) (search rules, (guid_IsWord guid h, tt))
-slice_split-fields (User u) h = split_words _ (omega arith) (line_AreWords (User u) h)
+slice_split-fields (User u) h = split_words _ (omega arith) (line_AreWords (User u) h tt)
 slice_split-fields (Conf []) h = split_words (fields (Conf [])) (omega arith) (search rules)
 slice_split-fields (Conf (b ∷ bs)) h = behind_conf (b ∷ bs)
 slice_split-fields (Action text) h = behind_action text
-slice_split-fields Go h = split_words _ (omega arith) (line_AreWords Go h)
+slice_split-fields Go h = split_words _ (omega arith) (line_AreWords Go h tt)
 slice_split-fields (EventLine e) h = split_words (event_words e) (event_some e) (event_AreWords e h)
 slice_split-fields (Link c u) h = split_words (fields (Link c u)) (omega arith) (search rules, (number_IsWord c.0 h.1, (number_IsWord u.0 h.2, tt)))
 slice_split-fields (In c bytes) h = split_words (fields (In c bytes)) (omega arith) (search rules, (number_IsWord c.0 h.1, (hex_IsWord bytes, tt)))
 slice_split-fields (Hangup c) h = split_words (fields (Hangup c)) (omega arith) (search rules, (number_IsWord c.0 h.1, tt))
-slice_split-fields End h = split_words _ (omega arith) (line_AreWords End h)
+slice_split-fields End h = split_words _ (omega arith) (line_AreWords End h tt)
 
 -- a text before a line feed is spelled so only by the line that its words say
 pub line_of-text : (text : List ℕ) (line : Line) → IsWritten line → text ++ 10 ∷ [] ≡ spell line → line_of (slice_split (λ b. eqb b 32) text) ≡ Some line
@@ -133,6 +143,8 @@ pub line_written : (line : Line) → IsLine line → IsWritten line
 line_written (Header version) h = h
 line_written (Guid guid) h = h
 line_written (User u) h = h
+line_written (Conf text) h = h.0
+line_written (Action text) h = (h.0, h.1)
 line_written Go h = tt
 line_written (EventLine e) h = event_written e h.fits
 line_written End h = tt
@@ -157,18 +169,18 @@ raw_no_feed (b ∷ bs) h = (h.0.1, raw_no_feed bs h.1)
 
 -- nor has the text of any line of the grammar
 pub written_no_feed : (line : Line) → IsWritten line → NoLineFeed (join_with_byte 32 (fields line))
-written_no_feed (Header version) h = no_feed_join (fields (Header version)) (line_AreWords (Header version) h)
-written_no_feed (Guid guid) h = no_feed_join (fields (Guid guid)) (line_AreWords (Guid guid) h)
-written_no_feed (User u) h = no_feed_join (fields (User u)) (line_AreWords (User u) h)
+written_no_feed (Header version) h = no_feed_join (fields (Header version)) (line_AreWords (Header version) h tt)
+written_no_feed (Guid guid) h = no_feed_join (fields (Guid guid)) (line_AreWords (Guid guid) h tt)
+written_no_feed (User u) h = no_feed_join (fields (User u)) (line_AreWords (User u) h tt)
 written_no_feed (Conf []) h = no_feed_join (fields (Conf [])) (search rules)
 written_no_feed (Conf (b ∷ bs)) h = no_feed_in (codes "conf") (32 ∷ b ∷ bs) (search rules) (λ e. omega (arith, e), raw_no_feed (b ∷ bs) h)
 written_no_feed (Action text) h = no_feed_in (codes "action") (32 ∷ text) (search rules) (λ e. omega (arith, e), raw_no_feed text h.0)
-written_no_feed Go h = no_feed_join (fields Go) (line_AreWords Go h)
+written_no_feed Go h = no_feed_join (fields Go) (line_AreWords Go h tt)
 written_no_feed (EventLine e) h = no_feed_join (event_words e) (event_AreWords e h)
 written_no_feed (Link c u) h = no_feed_join (fields (Link c u)) (search rules, (number_IsWord c.0 h.1, (number_IsWord u.0 h.2, tt)))
 written_no_feed (In c bytes) h = no_feed_join (fields (In c bytes)) (search rules, (number_IsWord c.0 h.1, (hex_IsWord bytes, tt)))
 written_no_feed (Hangup c) h = no_feed_join (fields (Hangup c)) (search rules, (number_IsWord c.0 h.1, tt))
-written_no_feed End h = no_feed_join (fields End) (line_AreWords End h)
+written_no_feed End h = no_feed_join (fields End) (line_AreWords End h tt)
 
 moment_short : (n : ℕ) → n < 2 ^ 64 → length (decimal n) ≤ 20
 moment_short n small = length-decimal-le 20 n (omega arith) (omega arith) (omega (arith, small))
@@ -177,26 +189,34 @@ kind_short : (kind : DevKind) → length (device_kind_word kind) ≤ 5
 kind_short Evdev = omega arith
 kind_short Drm = omega arith
 
+key_short : (key : HardKey) → length (key_word key) ≤ 9
+key_short hard.Power = omega arith
+key_short hard.Suspend = omega arith
+key_short hard.Hibernate = omega arith
+key_short hard.Lid = omega arith
+
 seat_short : (seat : List ℕ) → is_seat_name seat ≡ true → length seat ≤ 255
 seat_short seat e = short (both _ (leb (length seat) 255) e).1
   where
     short : leb (length seat) 255 ≡ true → length seat ≤ 255
     short h = grind (arith, nat_tests)
 
-hardware_short : (x : Hardware) → is_built_hardware x ≡ true → FitsHardware x → size (hardware_words x) ≤ 16000
+hardware_short : (x : Hardware) → FitsHardware x → size (hardware_words x) ≤ 16000
 unfolding hardware_words
-hardware_short (Add d kind seat) b f = let a = decimal_short d.major f.0.0 in let e = decimal_short d.minor f.0.1 in let g = kind_short kind in let h = seat_short seat f.1 in omega arith
-hardware_short (Remove d) b f = let a = decimal_short d.major f.0 in let e = decimal_short d.minor f.1 in omega arith
-hardware_short (Input d type code value) b f =
+hardware_short (Add d kind seat) f = let a = decimal_short d.major f.0.0 in let e = decimal_short d.minor f.0.1 in let g = kind_short kind in let h = seat_short seat f.1 in omega arith
+hardware_short (Remove d) f = let a = decimal_short d.major f.0 in let e = decimal_short d.minor f.1 in omega arith
+hardware_short (Input d type code value) f =
     let a = decimal_short d.major f.0.0 in
     let e = decimal_short d.minor f.0.1 in
     let g = decimal_short type (omega (arith, f.1)) in
     let h = decimal_short code (omega (arith, f.2)) in
     let k = signed_short value f.3 in
     omega arith
-hardware_short (VtKey vt) b f = let a = decimal_short vt f in omega arith
-hardware_short (Exit id) b f = let a = spell_text_short 512 id f in omega arith
-hardware_short _ b f = cc
+hardware_short (VtKey vt) f = let a = decimal_short vt f in omega arith
+hardware_short (Key key) f = let a = key_short key in omega arith
+hardware_short (Dock on) f = let a = spell_flag_short on in omega arith
+hardware_short (Exit id) f = let a = spell_text_short 512 id f in omega arith
+hardware_short JobDone f = omega arith
 
 event_short : (event : Event) → is_built event ≡ true → Fits event → size (event_words event) ≤ 16100
 unfolding event_words
@@ -208,32 +228,50 @@ event_short (Calls r) b f =
     let z = decimal_short r.serial f.3 in
     let d = call_short r.call b f.4 f.5 in
     omega arith
-event_short (Happens x) b f = let d = hardware_short x b f in omega (arith, d)
+event_short (Happens x) b f = let d = hardware_short x f in omega (arith, d)
 event_short (Tick m) b f = let x = moment_short m.0 f in omega arith
 event_short Stop b f = omega arith
 
 guid_long : (guid : List ℕ) → eqb (length guid) 32 ≡ true → length guid ≡ 32
 guid_long guid e = grind (arith, nat_tests)
 
-fields_short : (line : Line) → IsLine line → size (fields line) ≤ 16100
-fields_short (Header version) h = let a = decimal_short version (omega (arith, h)) in omega arith
-fields_short (Guid guid) h = let a = guid_long guid (both _ _ h).0 in omega arith
-fields_short (User u) h =
+fields_short : (line : Line) → IsLine line → IsWorded line → size (fields line) ≤ 16100
+fields_short (Header version) h w = let a = decimal_short version (omega (arith, h)) in omega arith
+fields_short (Guid guid) h w = let a = guid_long guid (both _ _ h).0 in omega arith
+fields_short (User u) h w =
     let a = decimal_short u.uid.0 h.1 in
     let b = decimal_short u.gid h.2 in
     let c = spell_text_short 255 u.name h.3 in
     omega arith
-fields_short Go h = omega arith
-fields_short (EventLine e) h = event_short e h.built h.fits
-fields_short End h = omega arith
-fields_short _ h = absurd h
+fields_short Go h w = omega arith
+fields_short (EventLine e) h w = event_short e h.built h.fits
+fields_short End h w = omega arith
+fields_short (Conf text) h w = absurd w
+fields_short (Action text) h w = absurd w
+fields_short _ h w = absurd h
+
+worded_short : (line : Line) → IsLine line → IsWorded line → length (spell line) ≤ 16385
+worded_short line h w =
+    let a = join_short (fields line) in
+    let b = fields_short line h w in
+    simp length-append (omega arith)
 
 -- a line fits where 16385 bytes do
 pub spell_short : (line : Line) → IsLine line → length (spell line) ≤ 16385
-spell_short line h =
-    let a = join_short (fields line) in
-    let b = fields_short line h in
-    simp length-append (omega arith)
+spell_short (Conf text) h = h.1
+spell_short (Action text) h = h.2
+spell_short (Header version) h = worded_short (Header version) h tt
+spell_short (Guid guid) h = worded_short (Guid guid) h tt
+spell_short (User u) h = worded_short (User u) h tt
+spell_short Go h = worded_short Go h tt
+spell_short (EventLine e) h = worded_short (EventLine e) h tt
+spell_short End h = worded_short End h tt
+spell_short _ h = absurd h
+
+-- so does one that is spelled
+pub spells_short : (line : Line) (bytes : List ℕ) → Spells line bytes → length (spell line) ≤ 16385
+spells_short line bytes (Spells.plain l short) = short
+spells_short line bytes Spells.empty = omega arith
 
 -- what is read of a text is a line that is written so
 pub text_is : (text : List ℕ) (line : Line) → line_of (slice_split (λ b. eqb b 32) text) ≡ Some line → LineIs line (slice_split (λ b. eqb b 32) text)
@@ -250,14 +288,16 @@ text_written text line e bytes =
     (text_is text line e).written (subst AreRaw (sym back) bytes) (ap (slice_split (λ b. eqb b 32)) back)
 
 -- what a written line that is built means is one of a recording
-pub line_meant : (line : Line) → IsWritten line → is_built_line line ≡ true → IsLine (meant line)
-line_meant (Header version) w b = w
-line_meant (Guid guid) w b = w
-line_meant (User u) w b = w
-line_meant Go w b = tt
-line_meant (EventLine e) w b = meant_line e w b
-line_meant End w b = tt
-line_meant _ w b = cc
+pub line_meant : (line : Line) → IsWritten line → is_built_line line ≡ true → length (spell line) ≤ 16385 → IsLine (meant line)
+line_meant (Header version) w b short = w
+line_meant (Guid guid) w b short = w
+line_meant (User u) w b short = w
+line_meant (Conf text) w b short = (w, short)
+line_meant (Action text) w b short = (w.0, w.1, short)
+line_meant Go w b short = tt
+line_meant (EventLine e) w b short = meant_line e w b
+line_meant End w b short = tt
+line_meant _ w b short = cc
 
 -- a line of a recording means itself, and it is built
 pub line_means : (line : Line) → IsLine line → meant line ≡ line
@@ -269,6 +309,8 @@ pub line_built : (line : Line) → IsLine line → is_built_line line ≡ true
 line_built (Header version) h = refl
 line_built (Guid guid) h = refl
 line_built (User u) h = refl
+line_built (Conf text) h = refl
+line_built (Action text) h = refl
 line_built Go h = refl
 line_built (EventLine e) h = h.built
 line_built End h = refl
@@ -286,4 +328,4 @@ line_reads line h = record {
 
 -- what is read is a line of a recording
 pub read_IsLine : (bytes : List ℕ) (line : Line) → IsReadAs bytes line → IsLine line
-read_IsLine bytes line r = subst IsLine (sym r.means) (line_meant r.written r.fits r.built)
+read_IsLine bytes line r = subst IsLine (sym r.means) (line_meant r.written r.fits r.built (spells_short r.written bytes r.spells))

@@ -44,11 +44,14 @@ pub record IsEventLine (e : Event) : Type 0 where
   pub fits : Fits e
   pub built : is_built e ≡ true
 
--- the values of a line that is built are within their types and bounds
+-- the values of a line that is built are within their types and bounds; what stands as it is written leaves
+-- the line within its limit
 abbrev pub IsLine : Line → Type 0
 IsLine (Header version) = version ≡ 1
 IsLine (Guid guid) = is_guid guid ≡ true
 IsLine (User u) = (0 < u.uid.0) × (u.uid.0 < 2 ^ 32) × (u.gid < 2 ^ 32) × IsText name_limit u.name
+IsLine (Conf text) = AreRaw text × (length (spell (Conf text)) ≤ line_limit + 1)
+IsLine (Action text) = AreRaw text × (length (slice_split (λ b. b == 32) text) ≡ 4) × (length (spell (Action text)) ≤ line_limit + 1)
 IsLine Go = Unit {0}
 IsLine (EventLine e) = IsEventLine e
 IsLine End = Unit {0}

@@ -41,8 +41,6 @@ meant l = l
 
 -- whether a line is built, by its kind or as its event is
 abbrev pub is_built_line : Line → Bool
-is_built_line (line.Conf text) = false
-is_built_line (line.Action text) = false
 is_built_line (line.Event e) = is_built e
 is_built_line (line.Link c u) = false
 is_built_line (line.In c bytes) = false

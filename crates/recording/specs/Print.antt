@@ -1,5 +1,5 @@
--- How a transcript prints.
-use Rattle.std.specs.Prelude.{ℕ, ◌+◌, List, [], ◌∷◌, ◌++◌, length, codes}
+-- How entries print in a transcript.
+use Rattle.std.specs.Prelude.{ℕ, ◌+◌, List, [], ◌∷◌, ◌++◌, codes}
 use Rattle.std.specs.List.{join_with_byte, flat_map}
 use Rattle.std.specs.Fmt.{decimal}
 use Rattle.login_model.specs.declared.rule.Verdict.{Verdict}
@@ -7,7 +7,6 @@ use Rattle.login_model.specs.declared.rule.Verdict.TheVariants.{Granted, Denied}
 use Rattle.login_model.specs.declared.answer.Answer.{Answer}
 use Rattle.login_model.specs.declared.mark.Mark.{Mark}
 use Rattle.login_model.specs.declared.mark.Entry.{Entry}
-use Rattle.recording.specs.declared.line.Line.{Line}
 use Rattle.recording.specs.Lines.{event_words}
 pub use Rattle.recording.specs.MarkWords.{key_words, fact_words, notice_words, mark_words}
 pub use Rattle.recording.specs.RuleWords.{rule_words}
@@ -36,23 +35,3 @@ block number e =
 unfoldable pub blocks : ℕ → List Entry → List ℕ
 blocks number [] = []
 blocks number (e ∷ es) = block number e ++ blocks (number + 1) es
-
--- the first line of a transcript
-abbrev pub transcript_head : List ℕ
-transcript_head = codes "login-transcript 1" ++ 10 ∷ []
-
--- its last line, after so many entries
-abbrev pub transcript_end : ℕ → List ℕ
-transcript_end count = codes "end " ++ (decimal count ++ 10 ∷ [])
-
--- what a transcript has before its entries: its first line. What is said of lines of the preamble stands behind it
-abbrev pub transcript_start : List Line → List ℕ
-transcript_start preamble = transcript_head
-
--- the transcript of entries that others may follow
-abbrev pub transcript_front : List Line → List Entry → List ℕ
-transcript_front preamble journal = transcript_start preamble ++ blocks 1 journal
-
--- the transcript of a whole recording with this preamble and this journal
-abbrev pub transcript : List Line → List Entry → List ℕ
-transcript preamble journal = transcript_front preamble journal ++ transcript_end (length journal)

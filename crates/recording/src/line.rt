@@ -166,6 +166,8 @@ fn built(line: Line) -> Result<Line, LineFault>
         Line::Header(version) => Ok(Line::Header(version)),
         Line::Guid(guid) => Ok(Line::Guid(guid)),
         Line::User(user) => Ok(Line::User(user)),
+        Line::Conf(text) => Ok(Line::Conf(text)),
+        Line::Action(text) => Ok(Line::Action(text)),
         Line::Go => Ok(Line::Go),
         Line::End => Ok(Line::End),
         Line::Event(event) => built_event(event),

@@ -9,7 +9,8 @@ use std::test::Fail;
 const LINES: [(Option<LineFault>, &str); 8] = [
     (
         Some(LineFault::UnknownWord),
-        " go/GO/call 1 1 can Poweroff/call 1 1 idle c1 yes/add 1 1 usb seat0/\
+        " go/GO/call 1 1 can Poweroff/call 1 1 power %/call 1 1 power power-off/key reboot/key lid-switch/\
+         dock 1/call 1 1 idle c1 yes/add 1 1 usb seat0/\
          send 1 1 schedule poweroff 1/call 1 1 control c1 /call 1 1 control c1 1/\
          call 1 1 linger 1 yes",
     ),
@@ -35,28 +36,30 @@ const LINES: [(Option<LineFault>, &str); 8] = [
         "user 1/user 1 1/action/action a b c/connect/connect 1/call/call 1/send 1 1/add 1 1/\
          add 1 1 drm/input 1 1 0 0/key/dock/link 1/hangup/\
          call 1 1 create 1 1 login tty user % seat0 1 tty1 % false %/call 1 1 take c1 1/\
-         call 1 1 kill c1 all/call 1 1 get-user",
+         call 1 1 kill c1 all/call 1 1 get-user/\
+         call 1 1 power/call 1 1 can/call 1 1 inhibit sleep a b",
     ),
     (
         Some(LineFault::ExtraWord),
         "go x/end end/user 1 1 a b/action a b c d e/connect 1 1 1/call 1 1 ping 1/\
          call 1 1 uncontrol c1 c2/exit c1 /tick 1 1/call 1 1 list-users 1/\
+         key lid closed/dock true 1/jobdone poweroff/call 1 1 list-inhibitors 1/\
+         call 1 1 power halt false/call 1 1 inhibit sleep a b delay now/\
          call 3 1 create 1000 1 login tty user % seat0 1 tty1 % false % % %/go\n/go\ngo/conf a\nb",
     ),
     (
         Some(LineFault::BadName),
         "add 1 1 drm desk/add 1 1 evdev %zz/add 1 1 drm /add 1 1 drm sea",
     ),
-    (
-        Some(LineFault::NotBuilt),
-        "conf /conf  [Login] x/action a b c d/action    /link 1 0/in 1 00ff/hangup 1",
-    ),
+    (Some(LineFault::NotBuilt), "link 1 0/in 1 00ff/hangup 1"),
     (
         None,
         "login-recording 1/guid 0123456789abcdef0123456789abcdef/user 4294967295 0 %/\
+         conf/conf /conf  [Login] x/action a b c d/action    /\
          connect 3 4294967295/disconnect 1/vtkey 4294967295/exit c1/exit %/\
          tick 18446744073709551615/stop/add 226 0 drm seat0/add 13 4294967295 evdev seat-x/\
-         remove 1 1/input 13 64 1 30 -2147483648/input 0 0 65535 65535 2147483647",
+         remove 1 1/input 13 64 1 30 -2147483648/input 0 0 65535 65535 2147483647/\
+         key power/key suspend/key hibernate/key lid/dock true/dock false/jobdone",
     ),
 ];
 
@@ -64,8 +67,7 @@ const LINES: [(Option<LineFault>, &str); 8] = [
 const CALLS: [(Option<LineFault>, &str); 2] = [
     (
         Some(LineFault::NotBuilt),
-        "list-inhibitors/power hybrid-sleep/can poweroff/inhibit sleep a b delay/paused c1 226 0/\
-         get x % a/get-all x %/set x % a/ping/machine-id/hello/owner x/add-match %/remove-match %",
+        "get x % a/get-all x %/set x % a/ping/machine-id/hello/owner x/add-match %/remove-match %",
     ),
     (
         None,
@@ -74,8 +76,11 @@ const CALLS: [(Option<LineFault>, &str); 2] = [
          activate-on c1 seat0/lock c1/unlock c1/lock-all/unlock-all/kill c1 all -1/\
          kill-user 1000 9/terminate c1/terminate-user 1000/terminate-seat seat0/linger 1000 true/\
          idle c1 true/locked c1 false/control c1 true/uncontrol c1/switch seat0 2/next seat0/\
-         prev seat0/take c1 226 4294967295/release c1 226 0/read 4294967295/set-mode 1 4294967295/\
-         close 1/no-object/no-method/bad-args/nothing",
+         prev seat0/take c1 226 4294967295/release c1 226 0/paused c1 226 0/\
+         read 4294967295/set-mode 1 4294967295/\
+         close 1/no-object/no-method/bad-args/nothing/list-inhibitors/power hybrid-sleep/\
+         power suspend-then-hibernate/can poweroff/can reboot/inhibit sleep a b delay/\
+         inhibit % % % %/inhibit idle:desk a%20b c%0a weak",
     ),
 ];
 
@@ -88,7 +93,7 @@ const EDGES: [(&[u8], usize, &[u8], Option<LineFault>); 16] = [
     (b"call 1 1 uncontrol ", 512, b"\n", None),
     (b"call 1 1 uncontrol ", 513, b"\n", None),
     (b"call 1 1 owner ", 513, b"\n", Some(LineFault::NotBuilt)),
-    (b"conf ", 16379, b"\n", Some(LineFault::NotBuilt)),
+    (b"conf ", 16379, b"\n", None),
     (b"conf ", 16380, b"\n", Some(LineFault::TooLong)),
     (b"frob ", 16380, b"\n", Some(LineFault::TooLong)),
     (b"go", 0, b"", Some(LineFault::Ended)),
