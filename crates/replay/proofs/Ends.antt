@@ -1,18 +1,20 @@
 -- How a replay goes on and ends.
-use Rattle.std.proofs.Common.{◌<◌, ◌≤◌, ◌≡◌, ℕ, ◌+◌, List, [], ◌∷◌, ◌++◌, length, refl, arith, ap, sym, ◌∙◌, subst, append_assoc, append-nil, Option, Some, None, Err}
+use Rattle.std.proofs.Common.{◌<◌, ◌≤◌, ◌≡◌, ℕ, ◌+◌, List, [], ◌∷◌, ◌++◌, length, refl, arith, ap, sym, ◌∙◌, subst, append_assoc, append-nil, Option, Some, None, Err, ◌⊎◌, inl, inr}
 use Rattle.std.specs.Option.{IfSome}
+use Rattle.std.proofs.lemmas.Bool.{cases_lt}
 use Rattle.login_edge.specs.Texts.{Gains, GainsFront}
 use Rattle.login_edge.proofs.Gained.{Gains-nothing, Gains-whole, Gains-front-more}
 use Rattle.login_model.specs.declared.count.Count.{Count}
 use Rattle.login_model.specs.declared.mark.Entry.{Entry}
 use Rattle.recording.specs.declared.line.Line.{Line}
+use Rattle.recording.specs.declared.line.Line.TheVariants.{Go}
 use Rattle.recording.specs.Cut.{first_line}
 use Rattle.recording.specs.Reading.{Reading, left_to}
 use Rattle.recording.specs.Causes.{line_fault}
 use Rattle.recording.specs.declared.line.LineFault.TheVariants as fault
 use Rattle.recording.proofs.Grammar.{reads_one}
 use Rattle.replay.specs.Written.{Splits, WereRead}
-use Rattle.replay.specs.PreambleLines.{IsPreamble}
+use Rattle.replay.specs.PreambleLines.{IsPreamble, HasTable, line_at_fault}
 use Rattle.replay.specs.Recording.{most_lines}
 use Rattle.replay.specs.Front.{Front, fresh, headed, going, ended, lines_of, text_of, Takes, IsFront}
 use Rattle.replay.specs.inner.Ahead.{IsNoLine, Torn, Partly, BreaksOff, EndsBehind, EndsPast}
@@ -20,10 +22,10 @@ use Rattle.replay.specs.inner.Running.{EndsEarly}
 use Rattle.replay.specs.inner.Writing.{Writes}
 use Rattle.replay.specs.declared.early.Early.{Early}
 use Rattle.replay.specs.declared.early.Early.TheVariants as early
-use Rattle.replay.specs.Causes.{IsOwnCause, IsCause}
+use Rattle.replay.specs.Causes.{IsOwnCause, IsCause, refused_line}
 use Rattle.replay.specs.Outcome.{RefusedAt, FullAt, Broken, Fronted, IsPast, IsRefusal, IsFull}
 use Rattle.replay.specs.declared.cause.Cause.{Cause}
-use Rattle.replay.specs.declared.cause.Cause.TheVariants.{UnknownWord, BadNumber, BadHex, MissingWord, ExtraWord, TooLong, WrongPlace, BadName, Ended, NotBuilt}
+use Rattle.replay.specs.declared.cause.Cause.TheVariants.{UnknownWord, BadNumber, BadHex, MissingWord, ExtraWord, TooLong, WrongPlace, BadName, BadAction, Ended, NotBuilt}
 use Rattle.replay.proofs.Written.{told_split, one_line, first_is_read, text_is_some, read_some}
 use Rattle.replay.proofs.Recordings.{nothing_played}
 use Rattle.replay.proofs.Refusals.{Stops, refused_next, refused_full}
@@ -37,17 +39,18 @@ abbrev pub Reached : Option (List ℕ) → Front → Option (List ℕ) → Type 
 Reached all f left = WereRead all (lines_of f) left
 
 pub ends_refused : (f : Front) (all left before after : Option (List ℕ)) (number : ℕ) (cause : Cause) → IsFront f → Reached all f left → number ≤ most_lines + 1 → IfSome left (Stops f)
-    → IfSome left (IsRefusal cause f) → number ≡ length (lines_of f) + 1 → Gains before after (text_of f) → IfSome all (λ text. RefusedAt number cause text before after)
-ends_refused f None left before after number cause h a within stop why c w = tt
-ends_refused f (Some text) None before after number cause h a within stop why c w = absurd (nothing_left text a.split)
-ends_refused f (Some text) (Some rest) before after number cause h a within stop why c w =
+    → IfSome left (IsRefusal cause f) → number ≡ length (lines_of f) + 1 → IfSome left (λ rest. refused_line cause f ≡ length (lines_of f) + 1) → Gains before after (text_of f)
+    → IfSome all (λ text. RefusedAt number cause text before after)
+ends_refused f None left before after number cause h a within stop why c is w = tt
+ends_refused f (Some text) None before after number cause h a within stop why c is w = absurd (nothing_left text a.split)
+ends_refused f (Some text) (Some rest) before after number cause h a within stop why c is w =
     let s = told_split text (lines_of f) rest a in
     record {
       front = f;
       rest = rest;
       is_front = h;
       read = s;
-      count = c;
+      count = c ∙ sym is;
       refused = refused_next f text rest h s (omega (arith, c, within)) stop;
       caused = why;
       wrote = w;
@@ -127,19 +130,19 @@ stops_wrong f l (Some text) None e not_next = absurd (nothing_left text e.split)
 stops_wrong f l (Some text) (Some r) e not_next =
     let s = told_split text (l ∷ []) r e in
     record {
-      none = λ m k t. not_next (subst (λ (x : Line). Takes f x) (reads_one (first_line text) m l k (first_is_read text l r s)) t);
+      none = λ m k t table. not_next (subst (λ (x : Line). Takes f x) (reads_one (first_line text) m l k (first_is_read text l r s)) t);
       early = λ st k. text_is_some text l r s k;
     }
 
 -- a line that is none
 stops_none : (f : Front) (left : Option (List ℕ)) (cause : Cause) → (f.stage ≡ ended → IfSome left (λ text. text ≡ [] → ⊥)) → IfSome left (λ text. IsNoLine cause text) → IfSome left (Stops f)
 stops_none f None cause some h = tt
-stops_none f (Some rest) cause some h = record { none = λ m k t. h.none m k; early = λ s. some s }
+stops_none f (Some rest) cause some h = record { none = λ m k t table. h.none m k; early = λ s. some s }
 
 -- the end of the text, before the end of the recording
 stops_early : (f : Front) (rest : List ℕ) → rest ≡ [] → (f.stage ≡ ended → ⊥) → Stops f rest
 stops_early f rest h not_ended = record {
-  none = λ m k t. read_some (first_line rest) m [] k (append-nil (first_line rest) ∙ ap first_line h);
+  none = λ m k t table. read_some (first_line rest) m [] k (append-nil (first_line rest) ∙ ap first_line h);
   early = λ s k. not_ended s;
 }
 
@@ -166,8 +169,58 @@ own_is_cause ExtraWord f rest h = h
 own_is_cause TooLong f rest h = h
 own_is_cause WrongPlace f rest h = absurd h
 own_is_cause BadName f rest h = h
+own_is_cause BadAction f rest h = absurd h
 own_is_cause Ended f rest h = h
 own_is_cause NotBuilt f rest h = h
+
+-- whose line it is that is refused: but for that of an action it is the next one
+own_line : (cause : Cause) (f : Front) (rest : List ℕ) → IsOwnCause cause rest → refused_line cause f ≡ length (lines_of f) + 1
+own_line UnknownWord f rest h = refl
+own_line BadNumber f rest h = refl
+own_line BadHex f rest h = refl
+own_line MissingWord f rest h = refl
+own_line ExtraWord f rest h = refl
+own_line TooLong f rest h = refl
+own_line WrongPlace f rest h = refl
+own_line BadName f rest h = refl
+own_line BadAction f rest h = absurd h
+own_line Ended f rest h = refl
+own_line NotBuilt f rest h = refl
+
+past_line : (cause : Cause) (f : Front) (rest : List ℕ) → IsPast cause rest → refused_line cause f ≡ length (lines_of f) + 1
+past_line TooLong f rest h = refl
+past_line Ended f rest h = refl
+past_line UnknownWord f rest h = refl
+past_line BadNumber f rest h = refl
+past_line BadHex f rest h = refl
+past_line MissingWord f rest h = refl
+past_line ExtraWord f rest h = refl
+past_line WrongPlace f rest h = refl
+past_line BadName f rest h = refl
+past_line BadAction f rest h = absurd h
+past_line NotBuilt f rest h = refl
+
+line_none : (f : Front) (left : Option (List ℕ)) (cause : Cause) → IfSome left (λ text. IsNoLine cause text) → IfSome left (λ rest. refused_line cause f ≡ length (lines_of f) + 1)
+line_none f None cause h = tt
+line_none f (Some rest) cause h = own_line cause f rest h.own
+
+line_wrong : (f : Front) (left : Option (List ℕ)) (cause : Cause) → (cause ≡ WrongPlace) ⊎ (cause ≡ TooLong) → IfSome left (λ rest. refused_line cause f ≡ length (lines_of f) + 1)
+line_wrong f None cause is = tt
+line_wrong f (Some rest) cause (inl is) = rw is refl
+line_wrong f (Some rest) cause (inr is) = rw is refl
+
+line_by : (f : Front) (left : Option (List ℕ)) (own cause : Cause) → IfSome left (λ text. IsNoLine own text) → (cause ≡ own) ⊎ (cause ≡ TooLong) → IfSome left (λ rest. refused_line cause f ≡ length (lines_of f) + 1)
+line_by f None own cause none is = tt
+line_by f (Some rest) own cause none (inl is) = ap (λ (c : Cause). refused_line c f) is ∙ own_line own f rest none.own
+line_by f (Some rest) own cause none (inr is) = rw is refl
+
+-- which of two causes there is, behind so many lines
+which : (own cause : Cause) (number : ℕ) → number ≤ most_lines → (number < most_lines → cause ≡ own) → (number ≡ most_lines → cause ≡ TooLong) → (cause ≡ own) ⊎ (cause ≡ TooLong)
+which own cause number most below past = by (cases_lt number most_lines)
+  where
+    by : (number < most_lines) ⊎ (most_lines ≤ number) → (cause ≡ own) ⊎ (cause ≡ TooLong)
+    by (inl less) = inl (below less)
+    by (inr more) = inr (past (omega (arith, most, more)))
 
 -- why a line is refused that is none
 cause_none : (f : Front) (left : Option (List ℕ)) (cause : Cause) → length (lines_of f) < most_lines → IfSome left (λ text. IsNoLine cause text) → IfSome left (IsRefusal cause f)
@@ -217,17 +270,17 @@ some_line l (Some text) (Some r) e = text_is_some text l r (told_split text (l �
 
 -- as many lines as there may be were read, and no end
 ends_full : (f : Front) (all left before after : Option (List ℕ)) (cause : Cause) → IsFront f → Reached all f left → length (lines_of f) ≡ most_lines → (f.stage ≡ ended → ⊥)
-    → IfSome left (IsRefusal cause f) → Gains before after (text_of f) → IfSome all (λ text. RefusedAt (most_lines + 1) cause text before after)
-ends_full f None left before after cause h a full not_ended why w = tt
-ends_full f (Some text) None before after cause h a full not_ended why w = absurd (nothing_left text a.split)
-ends_full f (Some text) (Some rest) before after cause h a full not_ended why w =
+    → IfSome left (IsRefusal cause f) → IfSome left (IsPast cause) → Gains before after (text_of f) → IfSome all (λ text. RefusedAt (most_lines + 1) cause text before after)
+ends_full f None left before after cause h a full not_ended why is w = tt
+ends_full f (Some text) None before after cause h a full not_ended why is w = absurd (nothing_left text a.split)
+ends_full f (Some text) (Some rest) before after cause h a full not_ended why is w =
     let s = told_split text (lines_of f) rest a in
     record {
       front = f;
       rest = rest;
       is_front = h;
       read = s;
-      count = omega (arith, full);
+      count = omega (arith, full, past_line cause f rest is);
       refused = refused_full f text rest h s full (λ e. stops_early f rest e not_ended);
       caused = why;
       wrote = w;
@@ -270,7 +323,7 @@ pub behind_here : (f : Front) (number : ℕ) (all left now start held : Option (
 behind_here f number all left now start held (early.Script line cause) h a count within not_ended w e =
     subst (λ (n : ℕ). IfSome all (λ text. RefusedAt n cause text start held)) (sym e.0)
     (ends_refused f all left start held (number + 1) cause h a (omega (arith, within)) (stops_none f left cause (λ s. absurd (not_ended s)) e.1)
-    (cause_none f left cause (omega (arith, count, within)) e.1) (ap (λ (n : ℕ). n + 1) count) w)
+    (cause_none f left cause (omega (arith, count, within)) e.1) (ap (λ (n : ℕ). n + 1) count) (line_none f left cause e.1) w)
 behind_here f number all left now start held early.ReadFault h a count within not_ended w e = breaks_here f all left now start held early.ReadFault h a w e
 behind_here f number all left now start held early.NoMemory h a count within not_ended w e = breaks_here f all left now start held early.NoMemory h a w e
 behind_here f number all left now start held early.WriteFault h a count within not_ended w e = absurd e
@@ -281,7 +334,7 @@ pub past_here : (f : Front) (all left now start held : Option (List ℕ)) (e : E
     → (f.stage ≡ ended → ⊥) → Gains start held (text_of f) → EndsPast left now e → EndsEarly all now start held e
 past_here f all left now start held (early.Script line cause) h a full not_ended w e =
     subst (λ (n : ℕ). IfSome all (λ text. RefusedAt n cause text start held)) (sym e.0)
-    (ends_full f all left start held cause h a full not_ended (cause_past f left cause full e.1) w)
+    (ends_full f all left start held cause h a full not_ended (cause_past f left cause full e.1) e.1 w)
 past_here f all left now start held early.ReadFault h a full not_ended w e = breaks_here f all left now start held early.ReadFault h a w e
 past_here f all left now start held early.NoMemory h a full not_ended w e = breaks_here f all left now start held early.NoMemory h a w e
 past_here f all left now start held early.WriteFault h a full not_ended w e = absurd e
@@ -292,7 +345,37 @@ pub misplaced_here : (f : Front) (number : ℕ) (all left after start held : Opt
     → Gains start held (text_of f) → WereRead left (l ∷ []) after → (Takes f l → ⊥) → IfSome all (λ text. RefusedAt (number + 1) WrongPlace text start held)
 misplaced_here f number all left after start held l h a count within w r bars =
     ends_refused f all left start held (number + 1) WrongPlace h a (omega (arith, within)) (stops_wrong f l left after r bars)
-    (cause_wrong f l left after (omega (arith, count, within)) r bars) (ap (λ (n : ℕ). n + 1) count) w
+    (cause_wrong f l left after (omega (arith, count, within)) r bars) (ap (λ (n : ℕ). n + 1) count) (line_wrong f left WrongPlace (inl refl)) w
+
+-- `go` follows, and the table is refused
+stops_untabled : (f : Front) (text rest : List ℕ) → Splits text (Go ∷ []) rest → f.stage ≡ headed → (HasTable f.preamble → ⊥) → Stops f text
+stops_untabled f text rest s stage refused = record {
+  none = λ m k t table. refused (table (reads_one (first_line text) m Go k (first_is_read text Go rest s)) stage);
+  early = λ st k. text_is_some text Go rest s k;
+}
+
+pub untabled_here : (f : Front) (number line : ℕ) (all left after start held : Option (List ℕ)) → IsFront f → Reached all f left → number ≡ length (lines_of f) → number < most_lines
+    → Gains start held (text_of f) → WereRead left (Go ∷ []) after → f.stage ≡ headed → (HasTable f.preamble → ⊥) → line ≡ line_at_fault f.preamble
+    → IfSome all (λ text. RefusedAt line BadAction text start held)
+untabled_here f number line None left after start held h a count within w r stage refused is = tt
+untabled_here f number line (Some text) None after start held h a count within w r stage refused is = absurd (nothing_left text a.split)
+untabled_here f number line (Some text) (Some rest) None start held h a count within w r stage refused is = absurd (nothing_left rest r.split)
+untabled_here f number line (Some text) (Some rest) (Some behind) start held h a count within w r stage refused is =
+    let s = told_split text (lines_of f) rest a in
+    let go = told_split rest (Go ∷ []) behind r in
+    record {
+      front = f;
+      rest = rest;
+      is_front = h;
+      read = s;
+      count = is;
+      refused = refused_next f text rest h s (omega (arith, count, within)) (stops_untabled f rest behind go stage refused);
+      caused = record {
+        own = λ k. record { in_preamble = stage; go = first_is_read rest Go behind go; refused = refused };
+        past = λ k. absurd (omega (arith, k, count, within));
+      };
+      wrote = w;
+    }
 
 -- where a line follows behind the end, whatever it is
 pub line_behind : (f : Front) (number : ℕ) (all left after start held : Option (List ℕ)) (l : Line) (cause : Cause) → IsFront f → Reached all f left → number ≡ length (lines_of f) → number ≤ most_lines
@@ -301,7 +384,7 @@ pub line_behind : (f : Front) (number : ℕ) (all left after start held : Option
 line_behind f number all left after start held l cause h a count within w r bars below past =
     ends_refused f all left start held (number + 1) cause h a (omega (arith, within)) (stops_wrong f l left after r bars)
     (cause_by f left number WrongPlace cause count within below past (λ b. cause_wrong f l left after (omega (arith, b, count)) r bars) (some_line l left after r))
-    (ap (λ (n : ℕ). n + 1) count) w
+    (ap (λ (n : ℕ). n + 1) count) (line_wrong f left cause (which WrongPlace cause number within below past)) w
 
 pub none_behind : (f : Front) (number : ℕ) (all left start held : Option (List ℕ)) (own cause : Cause) → IsFront f → Reached all f left → number ≡ length (lines_of f) → number ≤ most_lines
     → Gains start held (text_of f) → IfSome left (λ text. (text ≡ [] → ⊥) × IsNoLine own text) → (number < most_lines → cause ≡ own) → (number ≡ most_lines → cause ≡ TooLong)
@@ -311,7 +394,7 @@ none_behind f number all left start held own cause h a count within w none below
     let some = refused_some left own none in
     ends_refused f all left start held (number + 1) cause h a (omega (arith, within)) (stops_none f left own (λ s. some) is)
     (cause_by f left number own cause count within below past (λ b. cause_none f left own (omega (arith, b, count)) is) some)
-    (ap (λ (n : ℕ). n + 1) count) w
+    (ap (λ (n : ℕ). n + 1) count) (line_by f left own cause is (which own cause number within below past)) w
 
 -- nothing was written
 stays_front : (held after : Option (List ℕ)) (text : List ℕ) → after ≡ held → GainsFront held after text

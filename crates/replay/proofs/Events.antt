@@ -14,7 +14,9 @@ use Rattle.login_core.specs.State.{CoreState}
 use Rattle.recording.specs.declared.line.Line.{Line}
 use Rattle.recording.specs.declared.line.Line.TheVariants.{Event, End}
 use Rattle.recording.specs.Lines.{IsLine, IsEventLine}
-use Rattle.recording.specs.Print.{transcript_start, block, blocks}
+use Rattle.recording.specs.Print.{block, blocks}
+use Rattle.login_conf.specs.declared.diagnostic.Diagnostic.{Diagnostic}
+use Rattle.replay.specs.Transcript.{transcript_start, start_of}
 use Rattle.replay.specs.Written.{WereRead, Splits}
 use Rattle.replay.specs.PreambleLines.{setup_of}
 use Rattle.replay.specs.Recording.{most_lines, IsPlay}
@@ -81,7 +83,7 @@ front_more : (ls : List Line) (core : CoreState) (entry : Entry) (l : Line) (e :
     → WereRead left (l ∷ []) after → l ≡ Event e → IsFront (going_front ls (core.journal ++ entry ∷ []))
 front_more ls core entry l e left after setup f m r is = record {
   play = play_more ls core.journal entry e f.play (subst (λ (U : Setup). IsLegal U (core.journal ++ entry ∷ [])) setup m.legal) (event_line_of l e left after r is) m.event_is;
-  stage_fits = tt;
+  stage_fits = f.stage_fits;
   room = room_more (setup_of ls) core.journal entry e f.room m.event_is (subst (λ (U : Setup). full U core.journal e ≡ None) setup m.room);
 }
 
@@ -104,26 +106,26 @@ unfolding blocks
 start_alone ls = sym (append-nil (transcript_start ls))
 
 -- a setup was read, and the first line of the transcript is not written whole
-pub setup_ends : (setup : Setup) (first : ℕ) (all left now held after : Told) (e : Early) → (s : WasSetUp all setup first left) → IfSome left (λ text. Partly text now)
-    → Writes held after (transcript_start s.preamble) (Err e) → EndsEarly all now held after e
-setup_ends setup first all left now held after e s part w =
+pub setup_ends : (setup : Setup) (wrong : List Diagnostic) (first : ℕ) (all left now held after : Told) (e : Early) → WasSetUp all setup wrong first left → IfSome left (λ text. Partly text now)
+    → Writes held after (start_of wrong) (Err e) → EndsEarly all now held after e
+setup_ends setup wrong first all left now held after e s part w =
     let ls = s.preamble in
-    writes_here (going_front ls []) all left now held held after [] (transcript_start ls) e (record { play = nothing_played ls s.is_preamble; stage_fits = tt; room = tt }) s.read part
-    (sym (start_alone ls)) (Gains-nothing held) w
+    writes_here (going_front ls []) all left now held held after [] (transcript_start ls) e (record { play = nothing_played ls s.is_preamble; stage_fits = s.table; room = tt }) s.read part
+    (sym (start_alone ls)) (Gains-nothing held) (subst (λ (t : List ℕ). Writes held after t (Err e)) (ap start_of s.wrong_is) w)
 
 -- a text whose setup was read
-pub set_up : (core : CoreState) (setup : Setup) (first : ℕ) (all left start held : Told) → core.setup ≡ setup → core.journal ≡ [] → (s : WasSetUp all setup first left)
-    → Gains start held (transcript_start s.preamble) → SoFar going core first all left start held
-set_up core setup first all left start held is none s w =
+pub set_up : (core : CoreState) (setup : Setup) (wrong : List Diagnostic) (first : ℕ) (all left start held : Told) → core.setup ≡ setup → core.journal ≡ [] → WasSetUp all setup wrong first left
+    → Gains start held (start_of wrong) → SoFar going core first all left start held
+set_up core setup wrong first all left start held is none s w =
     let j : [] ≡ core.journal = sym none in
     record {
       preamble = s.preamble;
       setup_is = is ∙ s.setup_is;
-      is_front = subst (λ (es : List Entry). IsFront (going_front s.preamble es)) j (record { play = nothing_played s.preamble s.is_preamble; stage_fits = tt; room = tt });
+      is_front = subst (λ (es : List Entry). IsFront (going_front s.preamble es)) j (record { play = nothing_played s.preamble s.is_preamble; stage_fits = s.table; room = tt });
       count = subst (λ (es : List Entry). first ≡ length (lines_at going s.preamble es)) j s.count_is;
       read = subst (λ (es : List Entry). WereRead all (lines_at going s.preamble es) left) j s.read;
       wrote = subst (λ (es : List Entry). Gains start held (text_at going s.preamble es)) j
-          (subst (λ (t : List ℕ). Gains start held t) (start_alone s.preamble) w);
+          (subst (λ (t : List ℕ). Gains start held t) (ap start_of s.wrong_is ∙ start_alone s.preamble) w);
     }
 
 -- one more event was played
@@ -152,7 +154,7 @@ so_far_ended core number all left after start held l s r is =
     record {
       preamble = ls;
       setup_is = s.setup_is;
-      is_front = record { play = s.is_front.play; stage_fits = tt; room = s.is_front.room };
+      is_front = record { play = s.is_front.play; stage_fits = s.is_front.stage_fits; room = s.is_front.room };
       count = count_end ls es number s.count;
       read = subst (λ (x : List Line). WereRead all x after) more (read_on all (lines_at going ls es) left (l ∷ []) after s.read r);
       wrote = s.wrote;

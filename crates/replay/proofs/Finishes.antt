@@ -8,7 +8,7 @@ use Rattle.login_core.specs.State.{CoreState}
 use Rattle.login_laws.proofs.LawfulLaws.{legal-is-lawful}
 use Rattle.recording.specs.declared.line.Line.{Line}
 use Rattle.recording.specs.Cut.{cut}
-use Rattle.recording.specs.Print.{transcript_end}
+use Rattle.replay.specs.Transcript.{transcript_end}
 use Rattle.replay.specs.Written.{AreReadAs, WereRead}
 use Rattle.replay.specs.PreambleLines.{setup_of}
 use Rattle.replay.specs.Recording.{most_lines, recording}
@@ -72,6 +72,7 @@ finish_done core number (Some text) (Some rest) now start held after s within e 
         preamble = ls;
         journal = es;
         play = s.is_front.play;
+        table = s.is_front.stage_fits;
         room = s.is_front.room;
         read = subst (λ (a : List (List ℕ)). AreReadAs a (recording ls es)) (sym whole) split.are;
         within = subst (λ (n : ℕ). n ≤ most_lines) s.count within;

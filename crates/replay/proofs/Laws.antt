@@ -1,15 +1,20 @@
 -- Laws of refusals.
-use Rattle.std.proofs.Common.{◌≡◌, ℕ, ◌+◌, ◌<◌, ◌≤◌, List, length, take, refl, arith, subst, length-take, Option, Some, None}
+use Rattle.std.proofs.Common.{◌≡◌, ℕ, ◌+◌, ◌<◌, ◌≤◌, List, length, take, refl, arith, subst, length-take, Option, Some, None, ◌⊎◌, inl, inr}
 use Rattle.std.specs.Option.{IfSome}
 use Rattle.std.proofs.lemmas.List.{take-take}
+use Rattle.recording.specs.declared.line.Line.{Line}
 use Rattle.recording.specs.Cut.{cut}
 use Rattle.replay.specs.Written.{AreReadAs}
 use Rattle.replay.specs.Recording.{recording}
 use Rattle.replay.specs.Front.{lines_of}
-use Rattle.replay.specs.Refused.{Begins, OneRefusal}
+use Rattle.replay.specs.Refused.{MayBegin, Begins, OneRefusal}
 use Rattle.replay.specs.Outcome.{RefusedAt, IsRecordingText}
 use Rattle.replay.specs.declared.cause.Cause.{Cause}
 use Rattle.replay.proofs.Written.{read_take, read_length}
+
+may_less : (m n : ℕ) (lines : List Line) → m ≤ n → MayBegin n lines → MayBegin m lines
+may_less m n lines le (inl o) = inl (o.0, omega (arith, le, o.1))
+may_less m n lines le (inr r) = inr r
 
 pub begins_less : (text : List ℕ) (m n : ℕ) → m ≤ n → Begins text n → Begins text m
 begins_less text m n le b =
@@ -18,7 +23,7 @@ begins_less text m n le b =
     let both : AreReadAs (take m (take n (cut text))) (take m (take n b.lines)) = read_take m (take n (cut text)) (take n b.lines) b.read in
     record {
       lines = b.lines;
-      recorded = b.recorded;
+      recorded = may_less m n b.lines le b.recorded;
       read = subst (λ (x : List (List ℕ)). AreReadAs x (take m b.lines)) a (subst (AreReadAs (take m (take n (cut text)))) c both);
       within = omega (arith, b.within, length-take m (cut text), length-take n (cut text));
     }
@@ -35,7 +40,7 @@ recording_begins text n r =
     let lines = recording r.preamble r.journal in
     record {
       lines = lines;
-      recorded = record { preamble = r.preamble; journal = r.journal; play = r.play; is = refl };
+      recorded = inr (record { preamble = r.preamble; journal = r.journal; play = r.play; table = r.table; is = refl });
       read = read_take n (cut text) lines r.read;
       within = omega (arith, length-take n (cut text), read_length (cut text) lines r.read, r.within);
     }

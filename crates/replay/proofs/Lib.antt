@@ -3,6 +3,7 @@ pub mod Journals
 pub mod Preambles
 pub mod Recordings
 pub mod Refusals
+pub mod FaultLines
 pub mod Reading
 pub mod Reasons
 pub mod Ends

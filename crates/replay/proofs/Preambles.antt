@@ -1,10 +1,10 @@
 -- Laws of the lines of a preamble.
-use Rattle.std.proofs.Common.{◌≡◌, ◌+◌, ℕ, List, [], ◌∷◌, ◌++◌, refl, ap, ◌∙◌, subst, append_assoc, append-nil, Some, None}
+use Rattle.std.proofs.Common.{◌≡◌, ◌+◌, ℕ, List, [], ◌∷◌, ◌++◌, length, refl, arith, ap, sym, ◌∙◌, subst, append_assoc, append-nil, Some, None}
 use Rattle.login_model.specs.declared.setup.UserRow.{UserRow}
 use Rattle.recording.specs.declared.line.Line.{Line}
 use Rattle.recording.specs.declared.line.Line.TheVariants.{Header, Guid, User, Conf, Action, Go, Event, Link, In, Hangup, End}
 use Rattle.recording.specs.Lines.{IsLine}
-use Rattle.replay.specs.PreambleLines.{guid_in, users_in, MayFollow, IsPreambleAfter, IsPreamble}
+use Rattle.replay.specs.PreambleLines.{guid_in, users_in, conf_in, table_in, action_lines, MayFollow, IsPreambleAfter, IsPreamble}
 use Rattle.replay.specs.Front.{headed, takes_at}
 
 -- the line that comes after some lines of a preamble may follow them
@@ -27,8 +27,8 @@ follows_takes : (ls : List Line) (l : Line) → MayFollow ls l → takes_at head
 follows_takes ls (Guid guid) h = h
 follows_takes ls (User row) h = h
 follows_takes ls (Header version) h = absurd h
-follows_takes ls (Conf text) h = absurd h
-follows_takes ls (Action text) h = absurd h
+follows_takes ls (Conf text) h = h
+follows_takes ls (Action text) h = h
 follows_takes ls Go h = absurd h
 follows_takes ls (Event e) h = absurd h
 follows_takes ls (Link c u) h = absurd h
@@ -96,24 +96,35 @@ go_after before' (l ∷ ls) (a ∷ all) x h e = let t : all ++ (Go ∷ x) ≡ ls
 pub no_go : (ls all x : List Line) → IsPreamble ls → all ++ (Go ∷ x) ≡ ls → ⊥
 no_go ls all x h e = go_after [] ls all x h e
 
--- what lines say, and an identity more
+-- what lines say, and more lines
 pub guid_guid : (ls : List Line) (guid : List ℕ) → guid_in ls ≡ None → guid_in (ls ++ Guid guid ∷ []) ≡ Some guid
 guid_guid [] guid e = refl
 guid_guid (Guid other ∷ ls) guid e = cc
 guid_guid (_ ∷ ls) guid e = guid_guid ls guid e
 
-pub users_guid : (ls : List Line) (guid : List ℕ) → users_in (ls ++ Guid guid ∷ []) ≡ users_in ls
-users_guid [] guid = refl
-users_guid (User other ∷ ls) guid = ap (λ (rows : List UserRow). other ∷ rows) (users_guid ls guid)
-users_guid (_ ∷ ls) guid = users_guid ls guid
+-- lines without an identity
+pub guid_more : (ls more : List Line) → guid_in more ≡ None → guid_in (ls ++ more) ≡ guid_in ls
+guid_more [] more e = e
+guid_more (Guid other ∷ ls) more e = refl
+guid_more (_ ∷ ls) more e = guid_more ls more e
 
--- and a user more
-pub guid_user : (ls : List Line) (row : UserRow) → guid_in (ls ++ User row ∷ []) ≡ guid_in ls
-guid_user [] row = refl
-guid_user (Guid other ∷ ls) row = refl
-guid_user (_ ∷ ls) row = guid_user ls row
+pub users_more : (ls more : List Line) → users_in (ls ++ more) ≡ users_in ls ++ users_in more
+users_more [] more = refl
+users_more (User other ∷ ls) more = ap (λ (rows : List UserRow). other ∷ rows) (users_more ls more)
+users_more (_ ∷ ls) more = users_more ls more
 
-pub users_user : (ls : List Line) (row : UserRow) → users_in (ls ++ User row ∷ []) ≡ users_in ls ++ row ∷ []
-users_user [] row = refl
-users_user (User other ∷ ls) row = ap (λ (rows : List UserRow). other ∷ rows) (users_user ls row)
-users_user (_ ∷ ls) row = users_user ls row
+pub conf_more : (ls more : List Line) → conf_in (ls ++ more) ≡ conf_in ls ++ conf_in more
+conf_more [] more = refl
+conf_more (Conf text ∷ ls) more = ap (λ (t : List ℕ). text ++ 10 ∷ t) (conf_more ls more) ∙ sym (append_assoc text (10 ∷ conf_in ls) (conf_in more))
+conf_more (_ ∷ ls) more = conf_more ls more
+
+pub table_more : (ls more : List Line) → table_in (ls ++ more) ≡ table_in ls ++ table_in more
+table_more [] more = refl
+table_more (Action text ∷ ls) more = ap (λ (t : List ℕ). text ++ 10 ∷ t) (table_more ls more) ∙ sym (append_assoc text (10 ∷ table_in ls) (table_in more))
+table_more (_ ∷ ls) more = table_more ls more
+
+pub actions_more : (n : ℕ) (ls more : List Line) → action_lines n (ls ++ more) ≡ action_lines n ls ++ action_lines (n + length ls) more
+actions_more n [] more = ap (λ (m : ℕ). action_lines m more) (omega arith)
+actions_more n (Action text ∷ ls) more =
+    ap (λ (t : List ℕ). n ∷ t) (actions_more (n + 1) ls more) ∙ ap (λ (m : ℕ). n ∷ (action_lines (n + 1) ls ++ action_lines m more)) (omega arith)
+actions_more n (_ ∷ ls) more = actions_more (n + 1) ls more ∙ ap (λ (m : ℕ). action_lines (n + 1) ls ++ action_lines m more) (omega arith)

@@ -12,7 +12,7 @@ use Rattle.recording.specs.Next.{NextIs}
 use Rattle.replay.specs.inner.Ahead.{IsNoLine, Partly}
 use Rattle.replay.specs.Causes.{IsOwnCause, own_fault}
 use Rattle.replay.specs.declared.cause.Cause.{Cause}
-use Rattle.replay.specs.declared.cause.Cause.TheVariants.{UnknownWord, BadNumber, BadHex, MissingWord, ExtraWord, TooLong, WrongPlace, BadName, Ended, NotBuilt}
+use Rattle.replay.specs.declared.cause.Cause.TheVariants.{UnknownWord, BadNumber, BadHex, MissingWord, ExtraWord, TooLong, WrongPlace, BadName, BadAction, Ended, NotBuilt}
 use Rattle.recording.specs.declared.line.LineFault.{LineFault}
 use Rattle.recording.specs.declared.line.LineFault.TheVariants as fault
 use Rattle.recording.specs.Causes.{line_fault}
@@ -65,6 +65,7 @@ own_came (Some text) new ExtraWord f is own other unbuilt = own_line text new Ex
 own_came (Some text) new TooLong f is own other unbuilt = own_line text new TooLong f is.1 own (other (λ e. cc))
 own_came (Some text) new WrongPlace f is own other unbuilt = cc
 own_came (Some text) new BadName f is own other unbuilt = own_line text new BadName f is.1 own (other (λ e. cc))
+own_came (Some text) new BadAction f is own other unbuilt = cc
 own_came (Some text) new Ended f is own other unbuilt = own_line text new Ended f is.1 own (other (λ e. cc))
 own_came (Some text) new NotBuilt f is own other unbuilt = let same : f ≡ fault.NotBuilt = cc in unbuilt_of_front text (subst IsUnbuilt is.1 (unbuilt same))
 
@@ -78,6 +79,7 @@ not_memory ExtraWord f own e = cc
 not_memory TooLong f own e = cc
 not_memory WrongPlace f own e = cc
 not_memory BadName f own e = cc
+not_memory BadAction f own e = cc
 not_memory Ended f own e = cc
 not_memory NotBuilt f own e = cc
 

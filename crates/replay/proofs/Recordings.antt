@@ -1,15 +1,16 @@
 -- How recordings go on.
-use Rattle.std.proofs.Common.{◌≡◌, List, [], ◌∷◌, ◌++◌, map, refl, sym, ◌∙◌, subst, append_assoc, append-nil}
+use Rattle.std.proofs.Common.{◌≡◌, ◌+◌, ℕ, List, [], ◌∷◌, ◌++◌, length, length-append, map, refl, sym, ◌∙◌, subst, append_assoc, append-nil, arith, ◌⊎◌, inl, inr}
 use Rattle.std.specs.List.{AllByRecursion}
 use Rattle.login_model.specs.declared.event.Event.{Event as AnEvent}
 use Rattle.login_model.specs.declared.mark.Entry.{Entry}
 use Rattle.login_model.specs.Legal.{IsPlaced, IsLegal}
 use Rattle.recording.specs.declared.line.Line.{Line}
 use Rattle.recording.specs.declared.line.Line.TheVariants.{Header, Go, Event, End}
-use Rattle.replay.specs.PreambleLines.{setup_of, IsPreamble}
+use Rattle.replay.specs.PreambleLines.{setup_of, IsPreamble, HasTable}
 use Rattle.replay.specs.Recording.{recording, event_line, IsPlay, IsRecording}
+use Rattle.replay.specs.Refused.{MayBegin}
 use Rattle.replay.specs.Front.{Stage, fresh, headed, going, ended, lines_at, takes_at, StageFits}
-use Rattle.replay.proofs.Preambles.{apart, next_in_preamble, no_go}
+use Rattle.replay.proofs.Preambles.{apart, next_in_preamble, preamble_takes, no_go}
 use Rattle.replay.proofs.Journals.{journal_goes_on, legal_at}
 
 -- a fact of each of a list and of one more
@@ -72,6 +73,40 @@ takes_next ended ls ls' es es' line more p q s e =
     let h = apart ls' ls (map event_line es' ++ (End ∷ [])) ((map event_line es ++ (End ∷ [])) ++ (line ∷ more)) q.preamble_is p.preamble_is (t ∙ append_assoc ls (Go ∷ (map event_line es ++ (End ∷ []))) (line ∷ more)) in
     absurd (behind_end es' es more line (h.behind ∙ append_assoc (map event_line es) (End ∷ []) (line ∷ more)))
 
+-- so it is where lines in front of `go` go on
+pub takes_opening : (st : Stage) (ls ls' : List Line) (es : List Entry) (line : Line) (more : List Line)
+    → IsPreamble ls' → StageFits st ls es → Header 1 ∷ ls' ≡ lines_at st ls es ++ (line ∷ more) → takes_at st ls es line
+takes_opening fresh ls ls' es line more q s e = let l : line ≡ Header 1 = cc in rw l tt
+takes_opening headed ls ls' es line more q s e =
+    let t : ls' ≡ ls ++ (line ∷ more) = cc in
+    subst (λ (j : List Entry). takes_at headed ls j line) (sym s) (preamble_takes ls line more (subst IsPreamble t q))
+takes_opening going ls ls' es line more q s e =
+    let t : ls' ≡ (ls ++ (Go ∷ map event_line es)) ++ (line ∷ more) = cc in
+    absurd (no_go ls' ls (map event_line es ++ (line ∷ more)) q (sym (t ∙ append_assoc ls (Go ∷ map event_line es) (line ∷ more))))
+takes_opening ended ls ls' es line more q s e =
+    let t : ls' ≡ (ls ++ (Go ∷ (map event_line es ++ (End ∷ [])))) ++ (line ∷ more) = cc in
+    absurd (no_go ls' ls ((map event_line es ++ (End ∷ [])) ++ (line ∷ more)) q (sym (t ∙ append_assoc ls (Go ∷ (map event_line es ++ (End ∷ []))) (line ∷ more))))
+
+-- and the line is not `go`
+pub opening_no_go : (st : Stage) (ls ls' : List Line) (es : List Entry) (line : Line) (more : List Line)
+    → IsPreamble ls' → Header 1 ∷ ls' ≡ lines_at st ls es ++ (line ∷ more) → line ≡ Go → st ≡ headed → ⊥
+opening_no_go fresh ls ls' es line more q e go h = cc
+opening_no_go headed ls ls' es line more q e go h =
+    let t : ls ++ (Go ∷ more) ≡ ls' = cc in
+    no_go ls' ls more q t
+opening_no_go going ls ls' es line more q e go h = cc
+opening_no_go ended ls ls' es line more q e go h = cc
+
+-- where a recording goes on with `go`, the table of the lines so far is not refused
+pub tabled_at_go : (st : Stage) (ls ls' : List Line) (es es' : List Entry) (line : Line) (more : List Line)
+    → IsPreamble ls → IsPreamble ls' → HasTable ls' → recording ls' es' ≡ lines_at st ls es ++ (line ∷ more) → line ≡ Go → st ≡ headed → HasTable ls
+tabled_at_go fresh ls ls' es es' line more p q t e go h = cc
+tabled_at_go headed ls ls' es es' line more p q t e go h =
+    let same : ls' ++ (Go ∷ (map event_line es' ++ (End ∷ []))) ≡ ls ++ (Go ∷ more) = cc in
+    subst HasTable (apart ls' ls _ more q p same).preambles t
+tabled_at_go going ls ls' es es' line more p q t e go h = cc
+tabled_at_go ended ls ls' es es' line more p q t e go h = cc
+
 no_end : (es es' : List Entry) → map event_line es' ++ (End ∷ []) ≡ map event_line es → ⊥
 no_end [] [] h = cc
 no_end [] (e' ∷ es') h = cc
@@ -90,18 +125,28 @@ whole_at_end ended ls ls' es es' p q e = refl
 pub record Continues (st : Stage) (ls : List Line) (es : List Entry) : Type 0 where
   pub lines : List Line
   pub more : List Line
-  pub recorded : IsRecording lines
+  pub recorded : MayBegin (length (lines_at st ls es)) lines
   pub split : lines ≡ lines_at st ls es ++ more
 
 -- nothing was played yet
 pub nothing_played : (ls : List Line) → IsPreamble ls → IsPlay ls []
 nothing_played ls h = record { preamble_is = h; legal = tt; events = tt }
 
-recorded_now : (ls : List Line) (es : List Entry) → IsPlay ls es → IsRecording (recording ls es)
-recorded_now ls es p = record { preamble = ls; journal = es; play = p; is = refl }
+recorded_now : (ls : List Line) (es : List Entry) → IsPlay ls es → HasTable ls → IsRecording (recording ls es)
+recorded_now ls es p t = record { preamble = ls; journal = es; play = p; table = t; is = refl }
 
 pub continues : (st : Stage) (ls : List Line) (es : List Entry) → IsPlay ls es → StageFits st ls es → Continues st ls es
-continues fresh ls es p s = record { lines = recording [] []; more = recording [] []; recorded = recorded_now [] [] (nothing_played [] tt); split = refl }
-continues headed ls es p s = record { lines = recording ls []; more = Go ∷ End ∷ []; recorded = recorded_now ls [] (nothing_played ls p.preamble_is); split = refl }
-continues going ls es p s = record { lines = recording ls es; more = End ∷ []; recorded = recorded_now ls es p; split = simp append_assoc }
-continues ended ls es p s = record { lines = recording ls es; more = []; recorded = recorded_now ls es p; split = sym (append-nil (recording ls es)) }
+continues fresh ls es p s = record {
+  lines = Header 1 ∷ [];
+  more = Header 1 ∷ [];
+  recorded = inl (record { preamble = []; is_preamble = tt; is = refl }, omega arith);
+  split = refl;
+}
+continues headed ls es p s = record {
+  lines = Header 1 ∷ ls;
+  more = [];
+  recorded = inl (record { preamble = ls; is_preamble = p.preamble_is; is = refl }, omega arith);
+  split = sym (append-nil (Header 1 ∷ ls));
+}
+continues going ls es p s = record { lines = recording ls es; more = End ∷ []; recorded = inr (recorded_now ls es p s); split = simp append_assoc }
+continues ended ls es p s = record { lines = recording ls es; more = []; recorded = inr (recorded_now ls es p s); split = sym (append-nil (recording ls es)) }

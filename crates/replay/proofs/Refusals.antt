@@ -1,17 +1,19 @@
 -- Which line is refused.
-use Rattle.std.proofs.Common.{◌≤◌, length-append, ◌≡◌, ℕ, suc, ◌+◌, List, [], ◌∷◌, ◌++◌, length, take, refl, arith, ap, sym, ◌∙◌, subst, append-nil}
+use Rattle.std.proofs.Common.{◌≤◌, length-append, ◌≡◌, ℕ, suc, ◌+◌, List, [], ◌∷◌, ◌++◌, length, take, refl, arith, ap, sym, ◌∙◌, subst, append-nil, ◌⊎◌, inl, inr}
 use Rattle.std.proofs.Math.Seq.{take-append-add}
 use Rattle.std.proofs.lemmas.List.{take_at}
 use Rattle.recording.specs.declared.line.Line.{Line}
+use Rattle.recording.specs.declared.line.Line.TheVariants.{Go}
 use Rattle.recording.specs.Cut.{cut, first_line}
 use Rattle.recording.proofs.Cuts.{cut_head}
 use Rattle.recording.specs.Meaning.{IsReadAs}
 use Rattle.replay.specs.Written.{AreReadAs, Splits}
-use Rattle.replay.specs.Recording.{recording, IsPlay, IsRecording, most_lines}
-use Rattle.replay.specs.Front.{Front, ended, lines_of, Takes, StageFits, IsFront}
-use Rattle.replay.specs.Refused.{Begins, Refused}
+use Rattle.replay.specs.PreambleLines.{HasTable}
+use Rattle.replay.specs.Recording.{recording, IsPlay, most_lines}
+use Rattle.replay.specs.Front.{Front, headed, ended, lines_of, Takes, StageFits, IsFront}
+use Rattle.replay.specs.Refused.{MayBegin, Begins, Refused}
 use Rattle.replay.proofs.Written.{read_length, cut_joined, read_apart}
-use Rattle.replay.proofs.Recordings.{takes_next, whole_at_end, continues}
+use Rattle.replay.proofs.Recordings.{takes_next, takes_opening, opening_no_go, tabled_at_go, whole_at_end, continues}
 
 -- the lines of a text that begins with lines that are read
 split_cut : (text : List ℕ) (ls : List Line) (rest : List ℕ) → (s : Splits text ls rest) → cut text ≡ s.written ++ cut rest
@@ -50,18 +52,24 @@ pub next_is : (rest : List ℕ) (line : Line) → AreReadAs (take 1 (cut rest)) 
 next_is [] line e = absurd e
 next_is (b ∷ bs) line e = let h = subst (λ (a : List (List ℕ)). AreReadAs a (line ∷ [])) (cut_head b bs) e in h.0
 
--- no line that may come next is there, and the end of the text is no whole recording
+-- no line that may come next is there, or it is `go` and the table is refused; and the end of the text is no
+-- whole recording
 pub record Stops (f : Front) (rest : List ℕ) : Type 0 where
-  pub none : (line : Line) → IsReadAs (first_line rest) line → Takes f line → ⊥
+  pub none : (line : Line) → IsReadAs (first_line rest) line → Takes f line → (line ≡ Go → f.stage ≡ headed → HasTable f.preamble) → ⊥
   pub early : f.stage ≡ ended → rest ≡ [] → ⊥
 
 stops_after : (f : Front) (rest : List ℕ) (more : List Line) → IsFront f → Stops f rest
-    → (r : IsRecording (lines_of f ++ more)) → AreReadAs (take 1 (cut rest)) (take 1 more) → ⊥
-stops_after f rest [] h stop r e =
+    → MayBegin (length (lines_of f) + 1) (lines_of f ++ more) → AreReadAs (take 1 (cut rest)) (take 1 more) → ⊥
+stops_after f rest [] h stop (inl o) e = omega (arith, o.1, length-append (lines_of f) [])
+stops_after f rest (line ∷ more) h stop (inl o) e =
+    stop.none line (next_is rest line e) (takes_opening f.stage f.preamble o.0.preamble f.journal line more o.0.is_preamble h.stage_fits (sym o.0.is))
+    (λ go headed. absurd (opening_no_go f.stage f.preamble o.0.preamble f.journal line more o.0.is_preamble (sym o.0.is) go headed))
+stops_after f rest [] h stop (inr r) e =
     let is : recording r.preamble r.journal ≡ lines_of f = sym r.is ∙ append-nil (lines_of f) in
     stop.early (whole_at_end f.stage f.preamble r.preamble f.journal r.journal h.play r.play is) (nothing_is rest e)
-stops_after f rest (line ∷ more) h stop r e =
+stops_after f rest (line ∷ more) h stop (inr r) e =
     stop.none line (next_is rest line e) (takes_next f.stage f.preamble r.preamble f.journal r.journal line more h.play r.play h.stage_fits (sym r.is))
+    (λ go headed. tabled_at_go f.stage f.preamble r.preamble f.journal r.journal line more h.play.preamble_is r.play.preamble_is r.table (sym r.is) go headed)
 
 pub begins_more : (f : Front) (text rest : List ℕ) → IsFront f → Splits text (lines_of f) rest → Stops f rest → Begins text (length (lines_of f) + 1) → ⊥
 begins_more f text rest h s stop b =
@@ -69,7 +77,7 @@ begins_more f text rest h s stop b =
     let read : AreReadAs (s.written ++ take 1 (cut rest)) (take (length ls + 1) b.lines) = subst (λ (a : List (List ℕ)). AreReadAs a (take (length ls + 1) b.lines)) (take_more text ls rest s) b.read in
     let one : length ls + 1 ≡ suc (length ls) = omega arith in
     let on = read_apart s.written ls b.lines (take 1 (cut rest)) s.are (subst (λ (n : ℕ). AreReadAs (s.written ++ take 1 (cut rest)) (take n b.lines)) one read) in
-    stops_after f rest on.more h stop (subst IsRecording on.is b.recorded) on.read
+    stops_after f rest on.more h stop (subst (MayBegin (length ls + 1)) on.is b.recorded) on.read
 
 -- where nothing that may come next is there, the next line is refused
 pub refused_next : (f : Front) (text rest : List ℕ) → IsFront f → Splits text (lines_of f) rest → length (lines_of f) ≤ most_lines → Stops f rest → Refused text (length (lines_of f))

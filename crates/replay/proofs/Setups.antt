@@ -1,33 +1,38 @@
 -- How the reading of a preamble goes on and ends.
-use Rattle.std.proofs.Common.{◌≡◌, ℕ, ◌+◌, ◌<◌, List, [], ◌∷◌, ◌++◌, length, length-append, refl, arith, ap, sym, ◌∙◌, subst, Option, Some, None}
+use Rattle.std.proofs.Common.{◌≡◌, ℕ, ◌+◌, ◌-◌, ◌<◌, slice_index_or, List, [], ◌∷◌, ◌++◌, length, length-append, append-nil, refl, arith, ap, sym, ◌∙◌, subst, Option, Some, None, Result, Ok, Err}
 use Rattle.std.specs.Option.{IfSome}
 use Rattle.login_edge.specs.Texts.{Gains}
 use Rattle.login_edge.proofs.Gained.{Gains-nothing}
 use Rattle.login_model.specs.declared.setup.UserRow.{UserRow}
 use Rattle.login_model.specs.declared.setup.Setup.{Setup}
-use Rattle.login_model.specs.Conf.{default_conf}
 use Rattle.login_model.specs.Limits.{users_limit}
-use Rattle.login_model.specs.Table.{default_table}
+use Rattle.login_model.specs.declared.table.Row.{Row}
+use Rattle.login_conf.specs.Reading.{conf_of, diagnostics_of}
+use Rattle.login_conf.specs.declared.diagnostic.Diagnostic.{Diagnostic}
+use Rattle.login_policy.specs.Reading.{table_of, line_of_fault, ReadsTable}
+use Rattle.login_policy.specs.declared.fault.TableFault.{TableFault}
+use Rattle.login_policy.specs.declared.fault.TableFault.TheVariants.{BadLine, UnknownAction, Repeated}
+use Rattle.login_policy.specs.declared.fault.TableFault.TheVariants as unread
 use Rattle.login_model.specs.Setups.{IsNewUser}
 use Rattle.recording.specs.declared.line.Line.{Line}
 use Rattle.recording.specs.declared.line.Line.TheVariants.{Header, Guid, User, Conf, Action, Go, Event, Link, In, Hangup, End}
 use Rattle.recording.specs.Lines.{IsLine}
 use Rattle.replay.specs.Written.{WereRead}
-use Rattle.replay.specs.PreambleLines.{guid_in, users_in, guid_or_default, setup_of, MayFollow, IsPreamble}
+use Rattle.replay.specs.PreambleLines.{guid_in, users_in, conf_in, table_in, action_lines, guid_or_default, table_or_default, IsRead, HasTable, number_at_fault, setup_of, MayFollow, IsPreamble}
 use Rattle.replay.specs.Recording.{most_lines}
 use Rattle.replay.specs.Front.{Front, fresh, headed, ended, lines_of, text_of, takes_at, IsFront}
 use Rattle.replay.specs.Outcome.{RefusedAt, Broken, Fronted}
 use Rattle.replay.specs.Preamble.{WasSetUp}
 use Rattle.replay.specs.inner.Ahead.{Partly, EndsBehind, EndsPast}
-use Rattle.replay.specs.inner.Opening.{SaySo, OpensNot}
+use Rattle.replay.specs.inner.Opening.{SaySo, OpensNot, Makes, IsRefusedAt, MakesTable, MakesSetup}
 use Rattle.replay.specs.inner.Running.{EndsEarly}
-use Rattle.replay.specs.declared.cause.Cause.TheVariants.{WrongPlace}
+use Rattle.replay.specs.declared.cause.Cause.TheVariants.{UnknownWord, BadNumber, BadHex, MissingWord, ExtraWord, TooLong, WrongPlace, BadName, BadAction, Ended, NotBuilt}
 use Rattle.replay.specs.declared.early.Early.{Early}
 use Rattle.replay.specs.declared.early.Early.TheVariants as early
 use Rattle.replay.specs.declared.preamble.Preamble.{Preamble}
 use Rattle.replay.proofs.Written.{read_on, nothing_read}
-use Rattle.replay.proofs.Preambles.{preamble_more, guid_guid, users_guid, guid_user, users_user}
-use Rattle.replay.proofs.Ends.{Reached, breaks_here, behind_here, past_here, misplaced_here, fresh_front, fresh_is_front, headed_front, headed_is_front}
+use Rattle.replay.proofs.Preambles.{preamble_more, guid_guid, guid_more, users_more, conf_more, table_more, actions_more}
+use Rattle.replay.proofs.Ends.{Reached, breaks_here, behind_here, past_here, misplaced_here, untabled_here, fresh_front, fresh_is_front, headed_front, headed_is_front}
 
 abbrev Out : Type 0
 Out = Option (List ℕ)
@@ -45,14 +50,20 @@ pub record Said (p : Preamble) (number : ℕ) (before left : Option (List ℕ)) 
   pub read : WereRead before lines left
 
 -- nothing was said yet
-pub said_nothing : (p : Preamble) (before : Option (List ℕ)) → p.guid ≡ None → p.users ≡ [] → Said p 1 before before
-said_nothing p before g u = record { lines = []; is_preamble = tt; say_so = record { guid = g; users = u }; count = refl; read = nothing_read before }
+pub said_nothing : (p : Preamble) (before : Option (List ℕ)) → p.guid ≡ None → p.users ≡ [] → p.conf.items ≡ [] → p.table.items ≡ [] → p.action_lines ≡ [] → Said p 1 before before
+said_nothing p before g u c t a = record {
+  lines = [];
+  is_preamble = tt;
+  say_so = record { guid = g; users = u; conf = c; table = t; actions = a };
+  count = refl;
+  read = nothing_read before;
+}
 
 -- and one line more
 pub said_more : (p q : Preamble) (number : ℕ) (before left after : Option (List ℕ)) (l : Line) → (s : Said p number before left) → WereRead left (l ∷ []) after
-    → ((ls : List Line) → SaySo ls p → SaySo (ls ++ l ∷ []) q × MayFollow ls l) → IsLine l → Said q (number + 1) before after
+    → ((ls : List Line) → number ≡ length ls + 1 → SaySo ls p → SaySo (ls ++ l ∷ []) q × MayFollow ls l) → IsLine l → Said q (number + 1) before after
 said_more p q number before left after l s r takes is =
-    let t = takes s.lines s.say_so in
+    let t = takes s.lines s.count s.say_so in
     record {
       lines = s.lines ++ l ∷ [];
       is_preamble = preamble_more s.lines l s.is_preamble is t.1;
@@ -61,19 +72,82 @@ said_more p q number before left after l s r takes is =
       read = read_on before s.lines left (l ∷ []) after s.read r;
     }
 
+-- what lines say, and a line that says nothing of this
+same_users : (ls : List Line) (l : Line) → users_in (l ∷ []) ≡ [] → users_in (ls ++ l ∷ []) ≡ users_in ls
+same_users ls l e = users_more ls (l ∷ []) ∙ (ap (λ (rows : List UserRow). users_in ls ++ rows) e ∙ append-nil (users_in ls))
+
+same_conf : (ls : List Line) (l : Line) → conf_in (l ∷ []) ≡ [] → conf_in (ls ++ l ∷ []) ≡ conf_in ls
+same_conf ls l e = conf_more ls (l ∷ []) ∙ (ap (λ (text : List ℕ). conf_in ls ++ text) e ∙ append-nil (conf_in ls))
+
+same_table : (ls : List Line) (l : Line) → table_in (l ∷ []) ≡ [] → table_in (ls ++ l ∷ []) ≡ table_in ls
+same_table ls l e = table_more ls (l ∷ []) ∙ (ap (λ (text : List ℕ). table_in ls ++ text) e ∙ append-nil (table_in ls))
+
+same_actions : (ls : List Line) (l : Line) → action_lines (2 + length ls) (l ∷ []) ≡ [] → action_lines 2 (ls ++ l ∷ []) ≡ action_lines 2 ls
+same_actions ls l e = actions_more 2 ls (l ∷ []) ∙ (ap (λ (numbers : List ℕ). action_lines 2 ls ++ numbers) e ∙ append-nil (action_lines 2 ls))
+
 -- an identity is taken where none was given
 pub guid_said : (p : Preamble) (guid : List ℕ) → p.guid ≡ None → (lines : List Line) → SaySo lines p
-    → SaySo (lines ++ Guid guid ∷ []) (record { guid = Some guid; users = p.users }) × (guid_in lines ≡ None)
+    → SaySo (lines ++ Guid guid ∷ []) (record p { guid = Some guid }) × (guid_in lines ≡ None)
 guid_said p guid none lines h =
     let first : guid_in lines ≡ None = sym h.guid ∙ none in
-    (record { guid = sym (guid_guid lines guid first); users = h.users ∙ sym (users_guid lines guid) }, first)
+    let l = Guid guid in (
+      record {
+        guid = sym (guid_guid lines guid first);
+        users = h.users ∙ sym (same_users lines l refl);
+        conf = h.conf ∙ sym (same_conf lines l refl);
+        table = h.table ∙ sym (same_table lines l refl);
+        actions = h.actions ∙ sym (same_actions lines l refl);
+      },
+      first,
+    )
 
 -- a user is taken behind others
 pub user_said : (p : Preamble) (row : UserRow) (users : List UserRow) → users ≡ p.users ++ row ∷ [] → IsNewUser row.uid.0 p.users × (length p.users < users_limit) → (lines : List Line) → SaySo lines p
-    → SaySo (lines ++ User row ∷ []) (record { guid = p.guid; users = users }) × (IsNewUser row.uid.0 (users_in lines) × (length (users_in lines) < users_limit))
+    → SaySo (lines ++ User row ∷ []) (record p { users = users }) × (IsNewUser row.uid.0 (users_in lines) × (length (users_in lines) < users_limit))
 user_said p row users e next lines h =
-    let more : users ≡ users_in (lines ++ User row ∷ []) = e ∙ (ap (λ (us : List UserRow). us ++ row ∷ []) h.users ∙ sym (users_user lines row)) in
-    (record { guid = h.guid ∙ sym (guid_user lines row); users = more }, subst (λ (us : List UserRow). IsNewUser row.uid.0 us × (length us < users_limit)) h.users next)
+    let l = User row in
+    let more : users ≡ users_in (lines ++ l ∷ []) = e ∙ (ap (λ (us : List UserRow). us ++ row ∷ []) h.users ∙ sym (users_more lines (l ∷ []))) in (
+      record {
+        guid = h.guid ∙ sym (guid_more lines (l ∷ []) refl);
+        users = more;
+        conf = h.conf ∙ sym (same_conf lines l refl);
+        table = h.table ∙ sym (same_table lines l refl);
+        actions = h.actions ∙ sym (same_actions lines l refl);
+      },
+      subst (λ (us : List UserRow). IsNewUser row.uid.0 us × (length us < users_limit)) h.users next,
+    )
+
+-- a line of the configuration
+pub conf_said : (p q : Preamble) (text : List ℕ) → q.guid ≡ p.guid → q.users ≡ p.users → q.conf.items ≡ p.conf.items ++ (text ++ 10 ∷ []) → q.table.items ≡ p.table.items → q.action_lines ≡ p.action_lines
+    → (lines : List Line) → SaySo lines p → SaySo (lines ++ Conf text ∷ []) q × Unit {0}
+conf_said p q text g u c t a lines h =
+    let l = Conf text in (
+      record {
+        guid = g ∙ (h.guid ∙ sym (guid_more lines (l ∷ []) refl));
+        users = u ∙ (h.users ∙ sym (same_users lines l refl));
+        conf = c ∙ (ap (λ (before : List ℕ). before ++ (text ++ 10 ∷ [])) h.conf ∙ sym (conf_more lines (l ∷ [])));
+        table = t ∙ (h.table ∙ sym (same_table lines l refl));
+        actions = a ∙ (h.actions ∙ sym (same_actions lines l refl));
+      },
+      tt,
+    )
+
+-- a line of the table
+pub action_said : (p q : Preamble) (text : List ℕ) (number : ℕ) → q.guid ≡ p.guid → q.users ≡ p.users → q.conf.items ≡ p.conf.items → q.table.items ≡ p.table.items ++ (text ++ 10 ∷ [])
+    → q.action_lines ≡ p.action_lines ++ number ∷ [] → (lines : List Line) → number ≡ length lines + 2 → SaySo lines p → SaySo (lines ++ Action text ∷ []) q × Unit {0}
+action_said p q text number g u c t a lines count h =
+    let l = Action text in
+    let at : action_lines 2 (lines ++ l ∷ []) ≡ action_lines 2 lines ++ number ∷ []
+    = actions_more 2 lines (l ∷ []) ∙ ap (λ (n : ℕ). action_lines 2 lines ++ n ∷ []) (omega (arith, count)) in (
+      record {
+        guid = g ∙ (h.guid ∙ sym (guid_more lines (l ∷ []) refl));
+        users = u ∙ (h.users ∙ sym (same_users lines l refl));
+        conf = c ∙ (h.conf ∙ sym (same_conf lines l refl));
+        table = t ∙ (ap (λ (before : List ℕ). before ++ (text ++ 10 ∷ [])) h.table ∙ sym (table_more lines (l ∷ [])));
+        actions = a ∙ (ap (λ (numbers : List ℕ). numbers ++ number ∷ []) h.actions ∙ sym at);
+      },
+      tt,
+    )
 
 -- all that was read, behind the header
 pub said_after : (p : Preamble) (number : ℕ) (all before left : Option (List ℕ)) → WereRead all (Header 1 ∷ []) before → (s : Said p number before left) → Reached all (headed_front s.lines) left
@@ -123,24 +197,98 @@ pub said_fronted : (p : Preamble) (number : ℕ) (all before left now : Out) →
 said_fronted p number all before left now r s part = each_out all (λ text out. Fronted text now out out) (λ out.
     breaks_here (headed_front s.lines) all left now out out early.NoMemory (headed_is_front s.lines s.is_preamble) (said_after p number all before left r s) (Gains-nothing out) part)
 
-setup_is : (s : Setup) (p : Preamble) (ls : List Line) → SaySo ls p → s.guid ≡ guid_or_default p.guid → s.users ≡ p.users → s.conf ≡ default_conf → s.table ≡ default_table → s ≡ setup_of ls
+table_is : (r : Result (List Row) TableFault) (table : List Row) → r ≡ Ok table → (table ≡ table_or_default r) × IsRead r
+table_is (Ok rows) table e = (cc, tt)
+table_is (Err fault) table e = cc
+
+setup_is : (s : Setup) (wrong : List Diagnostic) (p : Preamble) (ls : List Line) → SaySo ls p → Makes p s wrong → s ≡ setup_of ls
 unfolding setup_of
-setup_is s p ls h g u c t =
-    let guid : s.guid ≡ guid_or_default (guid_in ls) = g ∙ ap guid_or_default h.guid in
-    let users : s.users ≡ users_in ls = u ∙ h.users in
-    λ i. record { guid = guid i; users = users i; conf = c i; table = t i }
+setup_is s wrong p ls h m =
+    let guid : s.guid ≡ guid_or_default (guid_in ls) = m.guid ∙ ap guid_or_default h.guid in
+    let users : s.users ≡ users_in ls = m.users ∙ h.users in
+    let conf : s.conf ≡ conf_of (conf_in ls) = m.conf ∙ ap conf_of h.conf in
+    let conf_text : s.conf_text ≡ conf_in ls = m.conf_text ∙ h.conf in
+    let table : s.table ≡ table_or_default (table_of (table_in ls)) = (table_is _ _ (ap table_of (sym h.table) ∙ m.table)).0 in
+    let table_text : s.table_text ≡ table_in ls = m.table_text ∙ h.table in
+    λ i. record { guid = guid i; users = users i; conf = conf i; conf_text = conf_text i; table = table i; table_text = table_text i }
 
 -- the preamble ends
-pub said_whole : (p : Preamble) (s : Setup) (number : ℕ) (all before left after : Option (List ℕ)) (l : Line) → WereRead all (Header 1 ∷ []) before → Said p number before left
-    → number < most_lines → (read : WereRead left (l ∷ []) after) → l ≡ Go → s.guid ≡ guid_or_default p.guid → s.users ≡ p.users → s.conf ≡ default_conf → s.table ≡ default_table → WasSetUp all s (number + 1) after
-said_whole p s number all before left after l r said within read go g u c t = record {
+pub said_whole : (p : Preamble) (s : Setup) (wrong : List Diagnostic) (number : ℕ) (all before left after : Option (List ℕ)) (l : Line) → WereRead all (Header 1 ∷ []) before → Said p number before left
+    → number < most_lines → (read : WereRead left (l ∷ []) after) → l ≡ Go → Makes p s wrong → WasSetUp all s wrong (number + 1) after
+said_whole p s wrong number all before left after l r said within read go m = record {
   preamble = said.lines;
   is_preamble = said.is_preamble;
-  setup_is = setup_is s p said.lines said.say_so g u c t;
+  table = (table_is _ _ (ap table_of (sym said.say_so.table) ∙ m.table)).1;
+  setup_is = setup_is s wrong p said.lines said.say_so m;
+  wrong_is = m.wrong_is ∙ ap diagnostics_of said.say_so.conf;
   count_is = omega (arith, said.count, length-append said.lines (Go ∷ []));
   within = omega (arith, within);
   read = read_on all (Header 1 ∷ said.lines) left (Go ∷ []) after (said_after p number all before left r said) (subst (λ (x : Line). WereRead left (x ∷ []) after) go read);
 }
+
+-- or its table is refused
+table_not : (r : Result (List Row) TableFault) (fault : TableFault) → r ≡ Err fault → IsRead r → ⊥
+table_not (Ok rows) fault e h = cc
+table_not (Err found) fault e h = h
+
+pub said_untabled : (p : Preamble) (line number : ℕ) (all before left after : Out) (l : Line) → WereRead all (Header 1 ∷ []) before → Said p number before left → number < most_lines
+    → WereRead left (l ∷ []) after → l ≡ Go → IsRefusedAt p line → OpensNot all after (early.Script line BadAction)
+said_untabled p line number all before left after l r s within read go is = each_out all (λ text out. RefusedAt line BadAction text out out) (λ out.
+    let found : table_of (table_in s.lines) ≡ Err is.fault = ap table_of (sym s.say_so.table) ∙ is.refused in
+    let at : line ≡ number_at_fault (table_of (table_in s.lines)) (action_lines 2 s.lines)
+    = is.number_is ∙ (ap (λ (numbers : List ℕ). number_at_fault (Err is.fault) numbers) s.say_so.actions ∙ ap (λ (t : Result (List Row) TableFault). number_at_fault t (action_lines 2 s.lines)) (sym found)) in
+    untabled_here (headed_front s.lines) number line all left after out out (headed_is_front s.lines s.is_preamble) (said_after p number all before left r s) (omega (arith, s.count)) within (Gains-nothing out)
+    (subst (λ (x : Line). WereRead left (x ∷ []) after) go read) refl (table_not _ _ found) at)
+
+-- a table that is refused, at the line of an action
+pub untabled : (p : Preamble) (fault : TableFault) (action number : ℕ) → ReadsTable p.table.items (Err fault) → line_of_fault fault ≡ Some action → number ≡ slice_index_or p.action_lines (action - 1) 0
+    → MakesTable p (Err (early.Script number BadAction))
+untabled p (BadLine n) action number r e is = record { fault = BadLine n; refused = r; number_is = is ∙ ap (λ (k : ℕ). slice_index_or p.action_lines (k - 1) 0) (sym (let same : n ≡ action = cc in same)) }
+untabled p (UnknownAction n) action number r e is = record { fault = UnknownAction n; refused = r; number_is = is ∙ ap (λ (k : ℕ). slice_index_or p.action_lines (k - 1) 0) (sym (let same : n ≡ action = cc in same)) }
+untabled p (Repeated n) action number r e is = record { fault = Repeated n; refused = r; number_is = is ∙ ap (λ (k : ℕ). slice_index_or p.action_lines (k - 1) 0) (sym (let same : n ≡ action = cc in same)) }
+untabled p unread.NoMemory action number r e is = cc
+
+-- what makes no table makes no setup
+pub table_unmade : (p : Preamble) (e : Early) → MakesTable p (Err e) → MakesSetup p (Err e)
+table_unmade p (early.Script line BadAction) h = h
+table_unmade p early.NoMemory h = tt
+table_unmade p (early.Script line UnknownWord) h = absurd h
+table_unmade p (early.Script line BadNumber) h = absurd h
+table_unmade p (early.Script line BadHex) h = absurd h
+table_unmade p (early.Script line MissingWord) h = absurd h
+table_unmade p (early.Script line ExtraWord) h = absurd h
+table_unmade p (early.Script line TooLong) h = absurd h
+table_unmade p (early.Script line WrongPlace) h = absurd h
+table_unmade p (early.Script line BadName) h = absurd h
+table_unmade p (early.Script line Ended) h = absurd h
+table_unmade p (early.Script line NotBuilt) h = absurd h
+table_unmade p early.ReadFault h = absurd h
+table_unmade p early.WriteFault h = absurd h
+table_unmade p (early.Full count) h = absurd h
+
+-- it makes no setup
+unmade : (p : Preamble) (number : ℕ) (all before left after now : Out) (l : Line) (e : Early) → WereRead all (Header 1 ∷ []) before → Said p number before left → number < most_lines
+    → WereRead left (l ∷ []) after → l ≡ Go → IfSome left (λ text. Partly text now) → MakesSetup p (Err e) → OpensNot all now e
+unmade p number all before left after now l (early.Script line BadAction) r s within read go part m = said_untabled p line number all before left after l r s within read go m
+unmade p number all before left after now l early.NoMemory r s within read go part m = said_fronted p number all before left now r s part
+unmade p number all before left after now l (early.Script line UnknownWord) r s within read go part m = absurd m
+unmade p number all before left after now l (early.Script line BadNumber) r s within read go part m = absurd m
+unmade p number all before left after now l (early.Script line BadHex) r s within read go part m = absurd m
+unmade p number all before left after now l (early.Script line MissingWord) r s within read go part m = absurd m
+unmade p number all before left after now l (early.Script line ExtraWord) r s within read go part m = absurd m
+unmade p number all before left after now l (early.Script line TooLong) r s within read go part m = absurd m
+unmade p number all before left after now l (early.Script line WrongPlace) r s within read go part m = absurd m
+unmade p number all before left after now l (early.Script line BadName) r s within read go part m = absurd m
+unmade p number all before left after now l (early.Script line Ended) r s within read go part m = absurd m
+unmade p number all before left after now l (early.Script line NotBuilt) r s within read go part m = absurd m
+unmade p number all before left after now l early.ReadFault r s within read go part m = absurd m
+unmade p number all before left after now l early.WriteFault r s within read go part m = absurd m
+unmade p number all before left after now l (early.Full count) r s within read go part m = absurd m
+
+pub said_unmade : (p q : Preamble) (number : ℕ) (all before left after now : Out) (l : Line) (e : Early) → WereRead all (Header 1 ∷ []) before → Said p number before left → number < most_lines
+    → WereRead left (l ∷ []) after → (l ≡ Go) × (q ≡ p) → IfSome left (λ text. Partly text now) → MakesSetup q (Err e) → OpensNot all now e
+said_unmade p q number all before left after now l e r s within read go part m =
+    unmade p number all before left after now l e r s within read go.0 part (subst (λ (x : Preamble). MakesSetup x (Err e)) go.1 m)
 
 -- how it ends before the first line
 pub fresh_behind : (before now : Out) (e : Early) → EndsBehind 0 before now e → OpensNot before now e

@@ -46,11 +46,12 @@ cut_spelling ls h =
     subst (λ (a : List (List ℕ)). AreReadAs a ls) (sym pieces) read
 
 pub spelled_recording : SpelledIsRecording
-spelled_recording ls es p room within = record {
+spelled_recording ls es p table room within = record {
   recorded = record {
     preamble = ls;
     journal = es;
     play = p;
+    table = table;
     room = room;
     read = cut_spelling (recording ls es) (recording_lines ls es p);
     within = within;

@@ -18,12 +18,13 @@ use Rattle.recording.proofs.Spellings.{read_IsLine}
 use Rattle.replay.specs.Written.{AreReadAs, Splits, joined}
 use Rattle.replay.specs.PreambleLines.{setup_of}
 use Rattle.replay.specs.Recording.{event_line, IsPlay, HasRoom, most_lines}
-use Rattle.replay.specs.Front.{Front, Stage, fresh, headed, going, ended, lines_at, lines_of, IsFront}
+use Rattle.replay.specs.Front.{Front, Stage, fresh, headed, going, ended, lines_at, lines_of, StageFits, IsFront}
+use Rattle.replay.specs.Causes.{refused_line}
 use Rattle.replay.specs.Refused.{Begins}
 use Rattle.replay.specs.Outcome.{IsRecordingText, RefusedAt, FullAt, IsPast, IsRefusal, IsFull}
 use Rattle.replay.specs.Stopping.{OneRefusedAt, OneFullAt, OneStop}
 use Rattle.replay.specs.declared.cause.Cause.{Cause}
-use Rattle.replay.specs.declared.cause.Cause.TheVariants.{UnknownWord, BadNumber, BadHex, MissingWord, ExtraWord, TooLong, WrongPlace, BadName, Ended, NotBuilt}
+use Rattle.replay.specs.declared.cause.Cause.TheVariants.{UnknownWord, BadNumber, BadHex, MissingWord, ExtraWord, TooLong, WrongPlace, BadName, BadAction, Ended, NotBuilt}
 use Rattle.replay.proofs.Written.{read_take, read_length, read_append, read_apart, first_is_read, text_is_some, joined_more}
 use Rattle.replay.proofs.Journals.{one_entry, journal_goes_on, room_at}
 use Rattle.replay.proofs.Preambles.{apart, no_go}
@@ -129,6 +130,7 @@ past MissingWord rest h = absurd h
 past ExtraWord rest h = absurd h
 past WrongPlace rest h = absurd h
 past BadName rest h = absurd h
+past BadAction rest h = absurd h
 past NotBuilt rest h = absurd h
 
 one_past : (c d : Cause) (rest : List ℕ) → ((c ≡ TooLong) × (rest ≡ [] → ⊥)) ⊎ ((c ≡ Ended) × (rest ≡ [])) → ((d ≡ TooLong) × (rest ≡ [] → ⊥)) ⊎ ((d ≡ Ended) × (rest ≡ [])) → c ≡ d
@@ -153,7 +155,7 @@ one_refused text m n c d p q r s a b =
     let there : IsRefusal c b.front b.rest = subst (IsRefusal c b.front) same.rests (subst (λ (g : Front). IsRefusal c g a.rest) same.fronts a.caused) in
     let within : length (lines_of b.front) ≤ most_lines = within_most text (lines_of b.front) b.rest b.read b.refused.begins in
     let causes : c ≡ d = one_why b.front b.rest c d there b.caused within (cases_lt (length (lines_of b.front)) most_lines) in
-    (omega (arith, a.count, b.count, lengths), causes, same.fronts)
+    (a.count ∙ ((λ i. refused_line (causes i) (same.fronts i)) ∙ sym b.count), causes, same.fronts)
 
 -- the events of a legal journal, and one more in place, are in place
 in_place : (U : Setup) (before es : List Entry) (e : AnEvent) → IsLegalAfter U before es → IsPlaced (before ++ es) e → AreInPlace U before (events_of es ++ e ∷ [])
@@ -212,7 +214,7 @@ full_begins text count f x h s within is =
     ∙ (ap (λ (e : AnEvent). lines_at going f.preamble f.journal ++ Event e ∷ []) (sym m.event_is) ∙ sym (lines_more f.preamble f.journal m.entry)) in
     let t : Splits text (lines_of g) is.behind = subst (λ (v : List Line). Splits text v is.behind) lines (split_more text (lines_of f) x line is.behind s is.next) in
     let count : length (lines_of g) ≡ length (lines_of f) + 1 = ap length (sym lines) ∙ length-append (lines_of f) (line ∷ []) in
-    subst (Begins text) count (begins_played g text is.behind play tt t (omega (arith, count, within)))
+    subst (Begins text) count (begins_played g text is.behind play (subst (λ (st : Stage). StageFits st f.preamble f.journal) is.going_on h.stage_fits) t (omega (arith, count, within)))
 
 not_both : (text : List ℕ) (n : ℕ) (c : Cause) (d : Count) (p q r s : Option (List ℕ)) → RefusedAt n c text p q → FullAt d text r s → ⊥
 not_both text n c d p q r s a b = by (cases_lt (length (lines_of b.front)) (length (lines_of a.front)))
@@ -234,7 +236,7 @@ one_more text d f x s is =
 never_full : (text : List ℕ) (d : Count) (p q : Option (List ℕ)) → IsRecordingText text → FullAt d text p q → ⊥
 never_full text d p q r b =
     let g : Front = record { stage = ended; preamble = r.preamble; journal = r.journal } in
-    let front : IsFront g = record { play = r.play; stage_fits = tt; room = r.room } in
+    let front : IsFront g = record { play = r.play; stage_fits = r.table; room = r.room } in
     let lengths : length (cut text) ≡ length (lines_of g) = read_length (cut text) (lines_of g) r.read in
     let whole : take (length (lines_of g)) (cut text) ≡ cut text = take_all (length (lines_of g)) (cut text) (omega (arith, lengths)) in
     let read : AreReadAs (take (length (lines_of g)) (cut text)) (lines_of g) = subst (λ (a : List (List ℕ)). AreReadAs a (lines_of g)) (sym whole) r.read in

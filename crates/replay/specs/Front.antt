@@ -3,9 +3,9 @@ use Rattle.std.specs.Prelude.{ℕ, ◌≡◌, List, [], ◌∷◌, ◌++◌, map
 use Rattle.login_model.specs.declared.mark.Entry.{Entry}
 use Rattle.login_model.specs.Legal.{IsPlaced}
 use Rattle.recording.specs.declared.line.Line.{Line}
-use Rattle.recording.specs.declared.line.Line.TheVariants.{Header, Guid, User, Go, Event, End}
-use Rattle.recording.specs.Print.{transcript_front, transcript}
-use Rattle.replay.specs.PreambleLines.{setup_of, MayFollow}
+use Rattle.recording.specs.declared.line.Line.TheVariants.{Header, Guid, User, Conf, Action, Go, Event, End}
+use Rattle.replay.specs.PreambleLines.{setup_of, HasTable, MayFollow}
+use Rattle.replay.specs.Transcript.{transcript_front, transcript}
 use Rattle.replay.specs.Recording.{recording, event_line, IsPlay, HasRoom}
 
 pub data Stage : Type 0 where
@@ -42,8 +42,8 @@ text_of f = text_at f.stage f.preamble f.journal
 abbrev pub StageFits : Stage → List Line → List Entry → Type 0
 StageFits fresh preamble journal = (preamble ≡ []) × (journal ≡ [])
 StageFits headed preamble journal = journal ≡ []
-StageFits going preamble journal = Unit {0}
-StageFits ended preamble journal = Unit {0}
+StageFits going preamble journal = HasTable preamble
+StageFits ended preamble journal = HasTable preamble
 
 -- the lines so far begin a recording, and none of their events found the journal full
 pub record IsFront (f : Front) : Type 0 where
@@ -51,11 +51,13 @@ pub record IsFront (f : Front) : Type 0 where
   pub stage_fits : StageFits f.stage f.preamble f.journal
   pub room : HasRoom (setup_of f.preamble) f.journal
 
--- a line of the built forms may come next
+-- a line of the built forms may come next, whatever a table says that is read at `go`
 abbrev pub takes_at : Stage → List Line → List Entry → Line → Type 0
 takes_at fresh preamble journal (Header version) = Unit {0}
 takes_at headed preamble journal (Guid guid) = MayFollow preamble (Guid guid)
 takes_at headed preamble journal (User row) = MayFollow preamble (User row)
+takes_at headed preamble journal (Conf text) = MayFollow preamble (Conf text)
+takes_at headed preamble journal (Action text) = MayFollow preamble (Action text)
 takes_at headed preamble journal Go = Unit {0}
 takes_at going preamble journal (Event e) = IsPlaced journal e
 takes_at going preamble journal End = Unit {0}

@@ -1,5 +1,6 @@
 pub mod Written
 pub mod PreambleLines
+pub mod Transcript
 pub mod Recording
 pub mod Front
 pub mod Refused

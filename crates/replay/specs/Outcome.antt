@@ -10,13 +10,13 @@ use Rattle.login_laws.specs.Lawful.{IsLawful}
 use Rattle.recording.specs.declared.line.Line.{Line}
 use Rattle.recording.specs.declared.line.Line.TheVariants.{Event}
 use Rattle.recording.specs.Cut.{NoLineFeed, cut}
-use Rattle.recording.specs.Print.{transcript}
 use Rattle.replay.specs.Written.{AreReadAs, Splits}
-use Rattle.replay.specs.PreambleLines.{setup_of}
+use Rattle.replay.specs.Transcript.{transcript}
+use Rattle.replay.specs.PreambleLines.{setup_of, HasTable}
 use Rattle.replay.specs.Recording.{recording, IsPlay, HasRoom, most_lines}
 use Rattle.replay.specs.Front.{Front, going, lines_of, text_of, IsFront}
 use Rattle.replay.specs.Refused.{Refused}
-use Rattle.replay.specs.Causes.{IsCause}
+use Rattle.replay.specs.Causes.{IsCause, refused_line}
 use Rattle.replay.specs.declared.cause.Cause.{Cause}
 use Rattle.replay.specs.declared.cause.Cause.TheVariants.{TooLong, Ended}
 
@@ -25,6 +25,7 @@ pub record IsRecordingText (text : List ℕ) : Type 0 where
   pub preamble : List Line
   pub journal : List Entry
   pub play : IsPlay preamble journal
+  pub table : HasTable preamble
   pub room : HasRoom (setup_of preamble) journal
   pub read : AreReadAs (cut text) (recording preamble journal)
   pub within : length (recording preamble journal) ≤ most_lines
@@ -53,7 +54,7 @@ pub record RefusedAt (number : ℕ) (cause : Cause) (text : List ℕ) (before af
   pub rest : List ℕ
   pub is_front : IsFront front
   pub read : Splits text (lines_of front) rest
-  pub count : number ≡ length (lines_of front) + 1
+  pub count : number ≡ refused_line cause front
   pub refused : Refused text (length (lines_of front))
   pub caused : IsRefusal cause front rest
   pub wrote : Gains before after (text_of front)

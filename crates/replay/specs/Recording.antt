@@ -8,7 +8,7 @@ use Rattle.login_model.specs.Legal.{IsLegal}
 use Rattle.recording.specs.declared.line.Line.{Line}
 use Rattle.recording.specs.declared.line.Line.TheVariants.{Header, Go, Event, End}
 use Rattle.recording.specs.Lines.{IsEventLine}
-use Rattle.replay.specs.PreambleLines.{setup_of, IsPreamble}
+use Rattle.replay.specs.PreambleLines.{setup_of, IsPreamble, HasTable}
 
 -- the line of an entry's event
 abbrev pub event_line : Entry → Line
@@ -30,6 +30,7 @@ pub record IsRecording (lines : List Line) : Type 0 where
   pub preamble : List Line
   pub journal : List Entry
   pub play : IsPlay preamble journal
+  pub table : HasTable preamble
   pub is : lines ≡ recording preamble journal
 
 -- a recording has at most so many lines

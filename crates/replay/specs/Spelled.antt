@@ -4,7 +4,7 @@ use Rattle.std.specs.List.{flat_map}
 use Rattle.login_model.specs.declared.mark.Entry.{Entry}
 use Rattle.recording.specs.declared.line.Line.{Line}
 use Rattle.recording.specs.Lines.{spell}
-use Rattle.replay.specs.PreambleLines.{setup_of}
+use Rattle.replay.specs.PreambleLines.{setup_of, HasTable}
 use Rattle.replay.specs.Recording.{recording, IsPlay, HasRoom, most_lines}
 use Rattle.replay.specs.Outcome.{IsRecordingText}
 
@@ -19,7 +19,7 @@ pub record IsRecordingOf (journal : List Entry) (text : List ℕ) : Type 0 where
 
 -- a preamble and a legal journal, spelled, are a recording of this journal
 abbrev pub SpelledIsRecording : Type 0
-SpelledIsRecording = (preamble : List Line) (journal : List Entry) → IsPlay preamble journal → HasRoom (setup_of preamble) journal
+SpelledIsRecording = (preamble : List Line) (journal : List Entry) → IsPlay preamble journal → HasTable preamble → HasRoom (setup_of preamble) journal
     → length (recording preamble journal) ≤ most_lines → IsRecordingOf journal (spelling (recording preamble journal))
 
 -- a text is a recording of one journal at most, under one setup

@@ -24,6 +24,8 @@ pub enum Cause {
     WrongPlace,
     /// A word is no name of a seat, or a name or an id that is too long.
     BadName,
+    /// The line of the table of actions is the first at fault.
+    BadAction,
     /// There is no line feed, or no line where one must be.
     Ended,
     /// The line is one of the grammar, but not of this stage.
@@ -44,6 +46,7 @@ impl Cause {
             Cause::TooLong => b"too-long",
             Cause::WrongPlace => b"wrong-place",
             Cause::BadName => b"bad-name",
+            Cause::BadAction => b"bad-action",
             Cause::Ended => b"ended",
             Cause::NotBuilt => b"not-built",
         }

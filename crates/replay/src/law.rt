@@ -1,7 +1,7 @@
 // Laws of recordings, and of refused lines.
 
 ghost use Rattle.replay.specs.Causes.{OneCause};
-ghost use Rattle.replay.specs.Refused.{OneRefusal};
+ghost use Rattle.replay.specs.Refused.{FaultIsOfAnAction, OneRefusal};
 ghost use Rattle.replay.specs.Spelled.{OneRecording, SpelledIsRecording};
 ghost use Rattle.replay.specs.Stopping.{OneStop};
 
@@ -13,6 +13,11 @@ pub fn one_refusal()
 /// Behind the same lines, a line is refused for one cause.
 pub fn one_cause()
     ensures { OneCause }
+{}
+
+/// A table that is refused is so at the line of one of its actions.
+pub fn fault_is_of_an_action()
+    ensures { FaultIsOfAnAction }
 {}
 
 /// A preamble and the events of a legal journal that was never full, spelled in at most 4000000000 lines,

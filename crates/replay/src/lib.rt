@@ -12,6 +12,7 @@ mod preamble;
 mod replaying;
 mod reporting;
 mod run;
+mod start;
 
 pub use cause::Cause;
 pub use law::{one_cause, one_recording, one_refusal, one_stop, spelled_recording};

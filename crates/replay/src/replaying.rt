@@ -59,7 +59,7 @@ fn replay_text<S: Source, K: Sink>(alloc: Global, source: &mut S, sink: &mut K) 
     let opening = read_opening(alloc, &mut lines, source)?;
     let player = Player::new(alloc, opening.setup)?;
     let mut run = Run::new(alloc, lines, opening.count, player);
-    let played = run.play_all(source, sink);
+    let played = run.play_all(&opening.wrong, source, sink);
     // By name: so the end of each of its types is proved apart, and not all of them here.
     drop(run);
     played

@@ -2,12 +2,12 @@
 
 ghost use Rattle.std.specs.Prelude.{ℕ, List, Option, ◌≤◌, ◌≡◌, ◌+◌, ◌<◌, [], false, length, IfOk, OnOk, string_bytes};
 ghost use Rattle.recording.specs.Lines.{IsLine, IsEventLine};
-ghost use Rattle.recording.specs.Print.{transcript_end};
 ghost use Rattle.recording.specs.Reading.{left_to};
 ghost use Rattle.replay.specs.Front.{going, ended};
 ghost use Rattle.replay.specs.Preamble.{WasSetUp};
 ghost use Rattle.replay.specs.Recording.{most_lines};
 ghost use Rattle.replay.specs.Rising.{Rises};
+ghost use Rattle.replay.specs.Transcript.{transcript_end, start_of};
 ghost use Rattle.replay.specs.inner.Behind.{SaysBehind};
 ghost use Rattle.replay.specs.inner.Early.{failed, of_reading, of_writing};
 ghost use Rattle.replay.specs.inner.Running.{RunGives, GoesOn};
@@ -20,6 +20,9 @@ use crate::early::Early;
 use crate::placing::is_placed;
 use crate::play::play_placed;
 use crate::player::Player;
+use crate::start::start_text;
+use login_base::Items;
+use login_conf::Diagnostic;
 use login_edge::{Sink, Source, WriteEnd, write_all};
 use login_model::Event;
 use recording::{Line, LineReader};
@@ -212,20 +215,22 @@ impl Run {
         Err(read_past(self.alloc, &mut self.lines, source))
     }
 
-    /// Writes the first line of the transcript, and plays the events, of which none was played before.
+    /// Writes what the transcript has before its entries, and plays the events, of which none was played before.
     pub fn play_all<S: Source, K: Sink>(
         &mut self,
+        wrong: &Items<Diagnostic>,
         source: &mut S,
         sink: &mut K,
     ) -> Result<(), Early>
         requires few { self.old.number ≤ most_lines }
         requires nothing { self.old.player.journal ≡ [] }
-        ensures gives { (all : Option (List ℕ)) → WasSetUp all self.old.player.setup self.old.number (left_to self.old.lines (S.left source.old))
+        ensures gives { (all : Option (List ℕ)) → WasSetUp all self.old.player.setup wrong.now self.old.number (left_to self.old.lines (S.left source.old))
             → RunGives all (S.left source.new) (K.held sink.old) (K.held sink.new) result }
         ensures read { Rises (failed of_reading result) (S.faults source.old) (S.faults source.new) }
         ensures write { Rises (failed of_writing result) (K.faults sink.old) (K.faults sink.new) }
     {
-        write_text(sink, b"login-transcript 1\n")?;
+        let start = start_text(self.alloc, wrong.as_slice())?;
+        write_text(sink, &start)?;
         self.play_events(source, sink)
     }
 }

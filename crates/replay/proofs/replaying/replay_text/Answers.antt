@@ -26,7 +26,7 @@ pub returns-in_err-player-clause-gives : goal.returns-in_err-player-clause-gives
 returns-in_err-player-clause-gives g c =
     let p = err_from_is_err_and c.from_residual-in_err-player.result c.from_residual-in_err-player.ensures.1 in
     let all = nothing_held c.in_ok-lines.lines (g.S.Source.left c.args.source.now) c.in_ok-lines.ensures.held in
-    rw (p.1, p.2) (setup_ends _ _ _ _ _ _ _ early.NoMemory (rw all at c.in_ok-opening.ensures.gives) (left_partly c.read_opening.new.lines _) refl)
+    rw (p.1, p.2) (setup_ends _ _ _ _ _ _ _ _ early.NoMemory (rw all at c.in_ok-opening.ensures.gives) (left_partly c.read_opening.new.lines _) refl)
 
 pub returns-clause-gives : goal.returns-clause-gives
 returns-clause-gives g c =

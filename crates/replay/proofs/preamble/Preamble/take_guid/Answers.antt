@@ -3,6 +3,6 @@ use Rattle.replay.proofs.Setups.{guid_said}
 use Rattle.replay.proofs.preamble.Preamble.take_guid.Goals as goal
 
 pub returns : goal.returns
-returns c =
+returns c = λ number lines count.
     let none : c.args.self.now.guid ≡ None = search rules in
-    guid_said c.args.self.now c.args.guid none
+    guid_said c.args.self.now c.args.guid none lines

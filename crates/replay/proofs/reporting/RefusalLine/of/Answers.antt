@@ -1,7 +1,7 @@
 use Rattle.std.proofs.Common.{◌≤◌, length, ap, arith}
 use Rattle.replay.specs.Causes.{cause_word}
 use Rattle.replay.specs.declared.cause.Cause.{Cause}
-use Rattle.replay.specs.declared.cause.Cause.TheVariants.{UnknownWord, BadNumber, BadHex, MissingWord, ExtraWord, TooLong, WrongPlace, BadName, Ended, NotBuilt}
+use Rattle.replay.specs.declared.cause.Cause.TheVariants.{UnknownWord, BadNumber, BadHex, MissingWord, ExtraWord, TooLong, WrongPlace, BadName, BadAction, Ended, NotBuilt}
 use Rattle.recording.proofs.Decimals.{short_decimal}
 use Rattle.replay.proofs.reporting.RefusalLine.of.Goals as goal
 
@@ -14,6 +14,7 @@ short_word ExtraWord = omega arith
 short_word TooLong = omega arith
 short_word WrongPlace = omega arith
 short_word BadName = omega arith
+short_word BadAction = omega arith
 short_word Ended = omega arith
 short_word NotBuilt = omega arith
 
