@@ -1,12 +1,11 @@
 //! The program `login`: the top call over standard input, standard output and standard error.
 #![tactic(auto)]
 
-mod standard;
 mod words;
 
 use login_edge::write_all;
 use login_prog::{StatusLine, run};
-use standard::{Reading, Writing};
+use login_real::{ReaderSource, WriterSink};
 use std::process::ExitCode;
 use words::words_of;
 
@@ -14,9 +13,9 @@ use words::words_of;
 const NO_MEMORY: u8 = 5;
 
 fn main(rt: HostRuntime) -> ExitCode {
-    let mut input = Reading::new(rt.stdin());
-    let mut output = Writing::new(rt.stdout());
-    let mut errors = Writing::new(rt.stderr());
+    let mut input = ReaderSource::new(rt.stdin());
+    let mut output = WriterSink::new(rt.stdout());
+    let mut errors = WriterSink::new(rt.stderr());
     let Ok(words) = words_of(&rt) else {
         let _end = write_all(&mut errors, StatusLine::NoMemory.text());
         return ExitCode::from(NO_MEMORY);

@@ -5,9 +5,8 @@ use Rattle.login_model.specs.declared.count.Count.{Count}
 use Rattle.replay.specs.Outcome.{Replayed, RefusedAt, FullAt}
 use Rattle.replay.specs.declared.cause.Cause.{Cause}
 use Rattle.replay.proofs.Laws.{never_refused}
+use Rattle.replay.proofs.Stopping.{one_stop}
 use Rattle.login_prog.specs.Statuses.{Completes, Refuses, Fills}
-use Rattle.login_prog.proofs.Fullness.{never_full}
-use Rattle.login_prog.proofs.Endings.{one_ending}
 
 abbrev Told : Type 0
 Told = Option (List ℕ)
@@ -19,7 +18,7 @@ done_refuses (Some text) left before after input output h = λ number cause k p 
 
 pub done_fills : (all left before after : Told) (input output : Type 0) → IfSome all (λ text. Replayed text left before after) → Fills 0 all input output
 done_fills None left before after input output h = tt
-done_fills (Some text) left before after input output h = λ count k p q. absurd (never_full (Some text) None None count k h.recorded)
+done_fills (Some text) left before after input output h = λ count k p q. absurd (one_stop.never_full text count None None h.recorded k)
 
 -- a refused text is no recording, and none that fills the journal
 pub refused_completes : (all before after : Told) (number : ℕ) (cause : Cause) (input output : Type 0) → IfSome all (λ text. RefusedAt number cause text before after) → Completes 2 all input output
@@ -28,13 +27,13 @@ refused_completes (Some text) before after number cause input output h = λ r p 
 
 pub refused_fills : (all before after : Told) (number : ℕ) (cause : Cause) (input output : Type 0) → IfSome all (λ text. RefusedAt number cause text before after) → Fills 2 all input output
 refused_fills None before after number cause input output h = tt
-refused_fills (Some text) before after number cause input output h = λ count k p q. absurd (one_ending text count number cause None None before after k h)
+refused_fills (Some text) before after number cause input output h = λ count k p q. absurd (one_stop.refused_or_full text number cause count before after None None h k)
 
 -- a text that fills the journal is no recording, and none that is refused
 pub full_completes : (all before after : Told) (count : Count) (input output : Type 0) → IfSome all (λ text. FullAt count text before after) → Completes 6 all input output
 full_completes None before after count input output h = tt
-full_completes (Some text) before after count input output h = λ r p q. absurd (never_full (Some text) before after count h r)
+full_completes (Some text) before after count input output h = λ r p q. absurd (one_stop.never_full text count before after r h)
 
 pub full_refuses : (all before after : Told) (count : Count) (input output : Type 0) → IfSome all (λ text. FullAt count text before after) → Refuses 6 all input output
 full_refuses None before after count input output h = tt
-full_refuses (Some text) before after count input output h = λ number cause k p q. absurd (one_ending text count number cause before after None None h k)
+full_refuses (Some text) before after count input output h = λ number cause k p q. absurd (one_stop.refused_or_full text number cause count None None before after k h)

@@ -1,3 +1,1 @@
-pub mod Fullness
-pub mod Endings
 pub mod Completions

@@ -1,14 +1,10 @@
 -- What the top call answers, and what it says.
-use Rattle.std.specs.Prelude.{ℕ, ◌≡◌, ◌⊎◌, List, [], ◌∷◌, codes, Option, None, IfSome}
+use Rattle.std.specs.Prelude.{ℕ, ◌≡◌, ◌⊎◌, List, Option, None, IfSome}
 use Rattle.login_model.specs.declared.count.Count.{Count}
 use Rattle.replay.specs.Outcome.{RefusedAt, FullAt, IsRecordingText}
 use Rattle.replay.specs.declared.cause.Cause.{Cause}
 use Rattle.replay.specs.Reporting.{Reported, refusal, full_line, status_line}
 use Rattle.replay.specs.declared.reporting.StatusLine.TheVariants as line
-
--- the words are `replay` alone
-abbrev pub AreReplay : List (List ℕ) → Type 0
-AreReplay words = words ≡ codes "replay" ∷ []
 
 -- a line is refused for a cause, and the errors say which and why; the transcript of the lines before it was written
 pub record RefusedSo (all before after old new : Option (List ℕ)) (fault now : ℕ) : Type 0 where

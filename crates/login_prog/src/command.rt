@@ -1,29 +1,16 @@
-// The words of the command line, and what they start.
+// The top call: what the command that the words are does, and its status.
 
-ghost use Rattle.std.specs.Prelude.{◌≡◌, ◌≤◌, ◌⊎◌, ◌↔◌, IfSome, IsTrue};
+ghost use Rattle.std.specs.Prelude.{◌≡◌, ◌≤◌, ◌⊎◌, ◌↔◌, IfSome};
 ghost use Rattle.login_edge.specs.Faults.{Rose};
 ghost use Rattle.replay.specs.Outcome.{Replayed, Broken, Fronted};
-ghost use Rattle.login_prog.specs.Statuses.{AreReplay, RefusedSo, FullSo, Says, Stays, Completes, Refuses, Fills};
+ghost use Rattle.login_prog.specs.Words.{AreReplay};
+ghost use Rattle.login_prog.specs.Statuses.{RefusedSo, FullSo, Says, Stays, Completes, Refuses, Fills};
 
+use crate::words::{Command, command_of};
 use login_base::{Items, Word};
 use login_edge::{Sink, Source};
 use replay::{ReplayEnd, StatusLine, replay_all, report};
 use std::alloc::Global;
-
-/// Whether a word is this text.
-fn is_word(word: &[u8], text: &[u8]) -> bool
-    ensures { IsTrue result ↔ (word.now ≡ text.now) }
-{
-    word == text
-}
-
-/// Whether the words are `replay` alone.
-fn are_replay(words: &Items<Word>) -> bool
-    ensures { IsTrue result ↔ AreReplay words.now }
-{
-    let words = words.as_slice();
-    words.len() == 1 && is_word(words[0].as_slice(), b"replay")
-}
 
 /// Runs `login` with these words, and answers its status. `replay` reads a recording from the input and
 /// writes its transcript to the output; each status but 0 has its line on the errors.
@@ -63,10 +50,10 @@ pub fn run<S: Source, K: Sink, E: Sink>(
     ensures fills { AreReplay words.now → Fills result (S.left input.old)
         (Rose (S.faults input.old) (S.faults input.new)) (Rose (K.faults output.old) (K.faults output.new)) }
 {
-    if !are_replay(words) {
+    let Some(Command::Replay) = command_of(words) else {
         report(errors, StatusLine::Usage.text());
         return 1;
-    }
+    };
     match replay_all(alloc, input, output, errors) {
         ReplayEnd::Done => 0,
         ReplayEnd::Script(_, _) => 2,

@@ -2,6 +2,7 @@
 #![tactic(auto)]
 
 mod command;
+mod words;
 
 pub use command::run;
 pub use replay::StatusLine;

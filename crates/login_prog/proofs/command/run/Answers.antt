@@ -1,5 +1,18 @@
 use Rattle.login_prog.proofs.Completions.{done_refuses, done_fills, refused_completes, refused_fills, full_completes, full_refuses}
+use Rattle.login_prog.specs.declared.words.Command.TheVariants as command
 use Rattle.login_prog.proofs.command.run.Goals as goal
+
+pub returns-in_default-clause-usage : goal.returns-in_default-clause-usage
+returns-in_default-clause-usage g c = (λ status. c.in_default.ensures command.Replay, λ none. cc)
+
+pub returns-in_default-clause-complete : goal.returns-in_default-clause-complete
+returns-in_default-clause-complete g c = λ words. absurd (c.in_default.ensures command.Replay words)
+
+pub returns-in_default-clause-refuses : goal.returns-in_default-clause-refuses
+returns-in_default-clause-refuses g c = λ words. absurd (c.in_default.ensures command.Replay words)
+
+pub returns-in_default-clause-fills : goal.returns-in_default-clause-fills
+returns-in_default-clause-fills g c = λ words. absurd (c.in_default.ensures command.Replay words)
 
 pub returns-in-Done-clause-refuses : goal.returns-in-Done-clause-refuses
 returns-in-Done-clause-refuses g c = λ words. done_refuses _ _ _ _ _ _ c.in-Done.ensures.gives

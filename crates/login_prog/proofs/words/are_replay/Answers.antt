@@ -1,5 +1,5 @@
 use Rattle.std.proofs.Common.{arith, List, ℕ, length, get_or, ◌≡◌, ◌∷◌, [], codes, sym, ◌∙◌}
-use Rattle.login_prog.proofs.command.are_replay.Goals as goal
+use Rattle.login_prog.proofs.words.are_replay.Goals as goal
 
 lone : (ws : List (List ℕ)) (w x : List ℕ) → length ws ≡ 1 → w ≡ get_or ws 0 w → (w ≡ x → ws ≡ x ∷ []) × (ws ≡ x ∷ [] → w ≡ x)
 lone [] w x h e = absurd (omega arith)
