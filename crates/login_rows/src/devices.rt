@@ -2,9 +2,11 @@
 
 mod closing;
 mod denials;
-mod fronts;
+mod ending;
+pub mod fronts;
 mod listening;
 mod many;
+mod pausing;
 mod plugging;
 mod seats;
 mod switching;

@@ -8,6 +8,8 @@
 #[cfg(test)]
 mod answers;
 #[cfg(test)]
+mod configuration;
+#[cfg(test)]
 mod core_calls;
 #[cfg(test)]
 mod denials;
@@ -23,6 +25,8 @@ mod links;
 mod one_by_one;
 #[cfg(test)]
 mod places;
+#[cfg(test)]
+mod power;
 #[cfg(test)]
 mod refusals;
 #[cfg(test)]

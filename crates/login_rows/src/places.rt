@@ -4,7 +4,7 @@ use crate::running::{accept, refuse};
 use std::test::Fail;
 
 /// What may not stand before `go`.
-const BEFORE_GO: [(&[u8], &str); 14] = [
+const BEFORE_GO: [(&[u8], &str); 17] = [
     (b"login-recording 1\n", "wrong-place"),
     (b"connect 1 0\n", "wrong-place"),
     (b"disconnect 1\n", "wrong-place"),
@@ -14,6 +14,9 @@ const BEFORE_GO: [(&[u8], &str); 14] = [
     (b"remove 226 0\n", "wrong-place"),
     (b"input 13 64 1 30 1\n", "wrong-place"),
     (b"vtkey 2\n", "wrong-place"),
+    (b"key power\n", "wrong-place"),
+    (b"dock true\n", "wrong-place"),
+    (b"jobdone\n", "wrong-place"),
     (b"exit c1\n", "wrong-place"),
     (b"tick 5\n", "wrong-place"),
     (b"stop\n", "wrong-place"),
@@ -30,7 +33,7 @@ const REPEATED: [(&[u8], &str); 4] = [
 ];
 
 /// What may not stand behind `go` and the connect of connection 1.
-const BEHIND_GO: [(&[u8], &str); 12] = [
+const BEHIND_GO: [(&[u8], &str); 14] = [
     (b"login-recording 1\n", "wrong-place"),
     (b"guid 0123456789abcdef0123456789abcdef\n", "wrong-place"),
     (b"user 1001 1001 bob\n", "wrong-place"),
@@ -43,6 +46,8 @@ const BEHIND_GO: [(&[u8], &str); 12] = [
     (b"call 2 1 nothing\n", "wrong-place"),
     (b"send 2 1 nothing\n", "wrong-place"),
     (b"call 4294967295 1 uncontrol c1\n", "wrong-place"),
+    (b"call 2 1 power poweroff\n", "wrong-place"),
+    (b"call 2 1 inhibit % % % %\n", "wrong-place"),
 ];
 
 /// What may not stand behind its disconnect.
@@ -55,7 +60,7 @@ const BEHIND_DISCONNECT: [(&[u8], &str); 5] = [
 ];
 
 /// What may not stand behind the stop.
-const BEHIND_STOP: [(&[u8], &str); 17] = [
+const BEHIND_STOP: [(&[u8], &str); 20] = [
     (b"connect 2 0\n", "wrong-place"),
     (b"connect 1 0\n", "wrong-place"),
     (b"disconnect 2\n", "wrong-place"),
@@ -71,7 +76,10 @@ const BEHIND_STOP: [(&[u8], &str); 17] = [
     (b"go\n", "wrong-place"),
     (b"user 1001 1001 bob\n", "wrong-place"),
     (b"frob\n", "unknown-word"),
-    (b"key power\n", "not-built"),
+    (b"key power\n", "wrong-place"),
+    (b"dock false\n", "wrong-place"),
+    (b"jobdone\n", "wrong-place"),
+    (b"link 2 0\n", "not-built"),
     (b"", "ended"),
 ];
 

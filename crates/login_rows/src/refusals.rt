@@ -52,7 +52,7 @@ const USERS: [(&[u8], &str); 20] = [
 ];
 
 /// What may not follow them: other lines.
-const PREAMBLE: [(&[u8], &str); 18] = [
+const PREAMBLE: [(&[u8], &str); 15] = [
     (b"", "ended"),
     (b"\n", "unknown-word"),
     (b"go", "ended"),
@@ -66,9 +66,6 @@ const PREAMBLE: [(&[u8], &str); 18] = [
     (b"guid 0123456789abcdef0123456789abcdef0\n", "bad-hex"),
     (b"guid 0123456789abcdef0123456789abcdef x\n", "extra-word"),
     (b"confx\n", "unknown-word"),
-    (b"conf\n", "not-built"),
-    (b"conf [Login]\n", "not-built"),
-    (b"action chvt yes yes yes\n", "not-built"),
     (b"action chvt yes yes\n", "missing-word"),
     (b"action chvt yes yes yes yes\n", "extra-word"),
 ];
@@ -171,44 +168,40 @@ const CREATIONS: [(&[u8], &str); 8] = [
     ),
 ];
 
-/// What may not follow them, and has another fault: words of devices, and words that are not built.
-const FAULTS_FIRST: [(&[u8], &str); 12] = [
+/// What may not follow them: words of devices, of keys and of operations, and words that are not built, with
+/// another fault.
+const FAULTS_FIRST: [(&[u8], &str); 20] = [
     (b"add 226 1 drm desk\n", "bad-name"),
     (b"add 226 1 tty seat0\n", "unknown-word"),
     (b"remove 226\n", "missing-word"),
     (b"key f1\n", "unknown-word"),
+    (b"key\n", "missing-word"),
+    (b"key lid true\n", "extra-word"),
     (b"dock 1\n", "unknown-word"),
+    (b"dock\n", "missing-word"),
     (b"jobdone 1\n", "extra-word"),
     (b"link 0 1000\n", "bad-number"),
     (b"in 1\n", "missing-word"),
     (b"in 1 0A\n", "bad-hex"),
     (b"call 1 1 power off\n", "unknown-word"),
+    (b"call 1 1 power poweroff true\n", "extra-word"),
+    (b"call 1 1 can\n", "missing-word"),
+    (b"call 1 1 inhibit sleep who why\n", "missing-word"),
+    (b"call 1 1 inhibit sleep who why block 1\n", "extra-word"),
+    (b"call 1 1 list-inhibitors 1\n", "extra-word"),
     (b"call 1 1 hello 1\n", "extra-word"),
     (b"call 1 1 take c1 226\n", "missing-word"),
 ];
 
-/// The events and lines of links that are not built.
-const UNBUILT_LINES: [(&[u8], &str); 11] = [
-    (b"conf\n", "not-built"),
-    (b"action chvt yes yes yes\n", "not-built"),
-    (b"key power\n", "not-built"),
-    (b"key suspend\n", "not-built"),
-    (b"key hibernate\n", "not-built"),
-    (b"key lid\n", "not-built"),
-    (b"dock true\n", "not-built"),
-    (b"jobdone\n", "not-built"),
+/// The lines of links, which are not built.
+const UNBUILT_LINES: [(&[u8], &str); 3] = [
     (b"link 2 0\n", "not-built"),
     (b"in 2 00\n", "not-built"),
     (b"hangup 2\n", "not-built"),
 ];
 
 /// The calls that are not built, also of a connection that is not connected.
-const UNBUILT_CALLS: [(&[u8], &str); 16] = [
-    (b"call 1 1 list-inhibitors\n", "not-built"),
-    (b"call 1 1 power poweroff\n", "not-built"),
-    (b"call 1 1 can suspend\n", "not-built"),
-    (b"call 1 1 inhibit sleep who why block\n", "not-built"),
-    (b"call 1 1 paused c1 226 1\n", "not-built"),
+const UNBUILT_CALLS: [(&[u8], &str); 11] = [
     (
         b"call 1 1 get /org/freedesktop/login1 % Docked\n",
         "not-built",

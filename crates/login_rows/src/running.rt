@@ -135,6 +135,7 @@ pub fn accept_pieces(rt: &impl Abort, alloc: Global, pieces: &[Piece]) -> Result
 }
 
 /// The front of a recording through some of its events, its transcript, and how many events these are.
+#[derive(Clone, Copy)]
 pub struct Front {
     pub recording: &'static str,
     pub transcript: &'static str,

@@ -8,11 +8,11 @@ ghost use Rattle.login_model.specs.Setups.{IsGuid, IsUserRow};
 ghost use Rattle.login_model.specs.Texts.{IsText, texts, has_object, hardware_texts};
 ghost use Rattle.login_model.specs.Where.{is_connected};
 
-use login_base::{ConnId, Items, NoMemory, Uid, Word};
+use login_base::{Bytes, ConnId, Items, NoMemory, Uid, Word};
 use login_core::{Core, Refused};
 use login_model::{
-    Call, Conf, Creation, Entry, Event, Hardware, Key, Look, Request, Setup, Table, UserRow,
-    is_built,
+    Call, Conf, Creation, Entry, Event, Hardware, Inhibition, Key, Look, Request, Setup, Table,
+    UserRow, is_built,
 };
 use std::alloc::Global;
 
@@ -54,7 +54,9 @@ pub fn new_core(alloc: Global) -> Result<Core, NoMemory> {
         guid: guid(alloc)?,
         users: only(alloc, alice)?,
         conf: Conf::default(),
+        conf_text: Bytes::new(alloc),
         table: Table::default(),
+        table_text: Bytes::new(alloc),
     };
     Core::new(alloc, setup)
 }
@@ -141,6 +143,16 @@ fn are_last_texts(creation: &Creation) -> bool
         && is_text(creation.remote_host.as_slice(), 512)
 }
 
+/// Whether the texts of a lock are texts that a call may have.
+fn are_lock_texts(inhibition: &Inhibition) -> bool
+    ensures { IsTrue result ↔ AllByRecursion (IsText 512) (inhibition.now.what ∷ inhibition.now.who ∷ inhibition.now.why ∷ inhibition.now.mode ∷ []) }
+{
+    is_text(inhibition.what.as_slice(), 512)
+        && is_text(inhibition.who.as_slice(), 512)
+        && is_text(inhibition.why.as_slice(), 512)
+        && is_text(inhibition.mode.as_slice(), 512)
+}
+
 /// Whether a call is one of those that the tests make, with texts that it may have.
 fn fits_call(call: &Call) -> bool
     ensures texts { IsTrue result → AllByRecursion (IsText 512) (texts call.now) }
@@ -149,8 +161,9 @@ fn fits_call(call: &Call) -> bool
     match call {
         Call::Create(creation) => are_first_texts(creation) && are_last_texts(creation),
         Call::ListSessions | Call::ListUsers | Call::ListSeats => true,
+        Call::Inhibit(inhibition) => are_lock_texts(inhibition),
         Call::Control(id, _) | Call::TakeDevice(id, _) => is_text(id.as_slice(), 512),
-        Call::ReadInput(_) => true,
+        Call::ReadInput(_) | Call::Close(_) => true,
         _ => false,
     }
 }

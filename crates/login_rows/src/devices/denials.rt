@@ -116,6 +116,19 @@ const TAKING: [(&str, &str); 17] = [
     ("call 2 9 release c2 13 64", "denied P20 device-not-taken"),
 ];
 
+/// The rules of acknowledging a pause, each where the later ones are broken too. One that is not awaited does nothing.
+const PAUSING: [(&str, &str); 9] = [
+    ("call 2 9 paused c4 13 64", "denied P04 no-such-session"),
+    ("call 2 9 paused c01 13 64", "denied P04 no-such-session"),
+    ("call 2 9 paused c3 226 0", "denied P18 not-in-control"),
+    ("call 1 9 paused c1 13 64", "denied P18 not-in-control"),
+    ("call 3 9 paused c1 226 0", "denied P18 not-in-control"),
+    ("call 2 9 paused c1 226 0", "denied P20 device-not-taken"),
+    ("call 2 9 paused c1 13 99", "denied P20 device-not-taken"),
+    ("call 2 9 paused c2 13 64", "denied P20 device-not-taken"),
+    ("call 2 9 paused c1 13 64", "granted"),
+];
+
 /// The rules of using a handle, each where the later ones are broken too.
 const USING: [(&str, &str); 14] = [
     ("call 2 9 read 6", "denied P07 no-such-handle"),
@@ -189,6 +202,11 @@ fn a_device_is_taken_once(rt: HostRuntime) -> Result<(), Fail> {
 #[test]
 fn devices_are_taken_and_given_back(rt: HostRuntime) -> Result<(), Fail> {
     answer(&rt, rt.alloc(), &DEVICES, &TAKING)
+}
+
+#[test]
+fn pauses_are_acknowledged(rt: HostRuntime) -> Result<(), Fail> {
+    answer(&rt, rt.alloc(), &DEVICES, &PAUSING)
 }
 
 #[test]

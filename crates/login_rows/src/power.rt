@@ -1,0 +1,10 @@
+// Inhibitor locks, operations on the machine, and the keys that ask for them.
+
+mod asking;
+mod evening;
+mod fronts;
+mod keys;
+mod kinds;
+mod locks;
+mod shutdown;
+mod waiting;
