@@ -38,6 +38,15 @@ function begin(  i) {
     else if (shape ~ /^(inputs|reads|takes)$/) {
         create(1, 1); call(1, "control c1 false"); line("add 13 64 evdev seat0")
         if (shape != "takes") call(1, "take c1 13 64")
+    } else if (shape ~ /switches$/) {
+        devices = shape == "switches" ? 128 : 8
+        create(1, 1); create(1, 2); call(1, "control c1 false"); call(1, "control c2 false")
+        for (i = 1; i <= devices; i++) {
+            line("add 14 " i " evdev seat0"); call(1, "take c1 14 " i); call(1, "take c2 14 " i)
+        }
+    } else if (shape == "waiting") {
+        for (i = 1; i <= 1000; i++) call(1, "inhibit idle login test block")
+        call(1, "inhibit shutdown login test delay"); call(1, "power poweroff")
     } else if (shape == "many_devices") for (i = 1; i <= 2000; i++) line("add 14 " i " evdev seat0")
     long = sprintf("%512s", ""); gsub(/ /, "x", long)
 }
@@ -55,6 +64,12 @@ function end_fifos(who,  i) {
     for (i = 2; i >= 0; i--) line("exit c" (sessions - i))
 }
 
+# The i-th switch between two sessions, in which all devices of the active one are let go of.
+function switch_over(i,  d) {
+    line("vtkey " (1 + i % 2))
+    for (d = 1; d <= devices; d++) call(1, "paused c" (2 - i % 2) " 14 " d)
+}
+
 # The i-th entry, or few that belong together.
 function step(i,  who) {
     if (shape == "nothing") call(1, "nothing")
@@ -69,6 +84,7 @@ function step(i,  who) {
     else if (shape == "ticks") line("tick " i)
     else if (shape == "refused") call(2, "control c1 false")
     else if (shape == "terminals") line("vtkey " (1 + i % 2))
+    else if (shape ~ /switches$/) switch_over(i)
     else if (shape == "lock_all") call(1, i % 2 ? "lock-all" : "unlock-all")
     else if (shape == "kill_user") call(1, "kill-user 1000 " (1 + i % 60))
     else if (shape == "lists") call(1, "list-sessions")
@@ -77,6 +93,9 @@ function step(i,  who) {
     else if (shape == "reads") { line("input 13 64 1 30 " i); call(1, "read 2") }
     else if (shape == "takes") call(1, i % 2 ? "take c1 13 64" : "release c1 13 64")
     else if (shape == "plugs" || shape == "many_devices") line(i % 2 ? "add 13 64 evdev seat0" : "remove 13 64")
+    else if (shape == "locks") call(1, i % 2 ? "inhibit sleep login test block" : "close " int(i / 2))
+    else if (shape == "operations") { if (i % 2) call(1, "power suspend"); else line("jobdone") }
+    else if (shape == "waiting") call(1, "nothing")
     else if (shape == "idle_hints") call(1, "idle c" (1 + i % beside) " " setting(int(i / beside) + 1))
     else if (shape == "next") call(1, "next seat0")
     else if (shape == "own_lock") call(2, "lock c1")
