@@ -3,7 +3,7 @@ use Rattle.std.proofs.Common.{◌≡◌, ◌∙◌, ℕ, zero, suc, ◌<◌, Boo
 use Rattle.std.proofs.lemmas.Bool.Decides.{nat_tests}
 use Rattle.std.specs.Prelude.{IsOk, is_ok}
 use Rattle.login_base.specs.declared.memory.NoMemory.{NoMemory}
-use Rattle.bus_names.specs.Types.{Shape}
+use Rattle.bus_names.specs.Types.{Shape, signature_text}
 use Rattle.bus_value.specs.declared.fault.ValueFault.{ValueFault}
 use Rattle.bus_value.specs.Values.{Val, vals, shapes}
 use Rattle.bus_value.specs.declared.order.Order.{Order}
@@ -68,3 +68,7 @@ held_shapes held s vs is h view =
 pub with_types : (r : Result (List Shape) NoMemory) (ts us : List Shape) → ts ≡ us → IfOk r (λ copy. copy ≡ ts) → IfOk r (λ copy. copy ≡ us)
 with_types (Ok copy) ts us same e = e ∙ same
 with_types (Err e) ts us same h = tt
+
+pub with_letters : (r : Result (List ℕ) NoMemory) (ts us : List Shape) → ts ≡ us → IfOk r (λ word. word ≡ signature_text ts) → IfOk r (λ word. word ≡ signature_text us)
+with_letters (Ok word) ts us same e = e ∙ ap signature_text same
+with_letters (Err e) ts us same h = tt

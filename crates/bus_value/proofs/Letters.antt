@@ -22,16 +22,17 @@ letters_pushed now after n vs v so less is pushed =
     let one : take (n + 1) vs ≡ take n vs ++ v ∷ [] = ap (λ (k : ℕ). take k vs) (add-one n) ∙ take-suc vs n v less ∙ ap (λ (w : Val). take n vs ++ w ∷ []) (sym is) in
     pushed ∙ ap (λ (x : List ℕ). x ++ text (shape v)) so ∙ sym (text_push (take n vs) v) ∙ ap (λ (ws : List Val). signature_text (shapes (vals ws))) (sym one)
 
-all_letters : (slice now : List ℕ) (vs : List Val) (n : ℕ) → IsWithin (shapes (vals vs)) → now ≡ signature_text (shapes (vals (take n vs))) → length vs ≤ n → slice ≡ now
-    → signature_of slice ≡ Ok (shapes (vals vs))
-all_letters slice now vs n within so over is =
-    ap signature_of (is ∙ so ∙ ap (λ (ws : List Val). signature_text (shapes (vals ws))) (take_all n vs over)) ∙ signature_read (shapes (vals vs)) within
+-- the letters of all types, where the last one was pushed
+pub letters_all : (now : List ℕ) (vs : List Val) (n : ℕ) → now ≡ signature_text (shapes (vals (take n vs))) → length vs ≤ n → now ≡ signature_text (shapes (vals vs))
+letters_all now vs n so over = so ∙ ap (λ (ws : List Val). signature_text (shapes (vals ws))) (take_all n vs over)
 
-pub letters_read : (slice now : List ℕ) (vs : List Val) (n : ℕ) → IsWithin (shapes (vals vs)) → now ≡ signature_text (shapes (vals (take n vs))) → length vs ≤ n → slice ≡ now
-    → IsOk (signature_of slice)
-letters_read slice now vs n within so over is = ok_is _ _ (all_letters slice now vs n within so over is)
+all_letters : (slice : List ℕ) (vs : List Val) → IsWithin (shapes (vals vs)) → slice ≡ signature_text (shapes (vals vs)) → signature_of slice ≡ Ok (shapes (vals vs))
+all_letters slice vs within is = ap signature_of is ∙ signature_read (shapes (vals vs)) within
 
-pub letters_same : (slice now : List ℕ) (vs : List Val) (n : ℕ) (r : Result (List Shape) NoMemory) → IsWithin (shapes (vals vs)) → now ≡ signature_text (shapes (vals (take n vs))) → length vs ≤ n → slice ≡ now
+pub letters_read : (slice : List ℕ) (vs : List Val) → IsWithin (shapes (vals vs)) → slice ≡ signature_text (shapes (vals vs)) → IsOk (signature_of slice)
+letters_read slice vs within is = ok_is _ _ (all_letters slice vs within is)
+
+pub letters_same : (slice : List ℕ) (vs : List Val) (r : Result (List Shape) NoMemory) → IsWithin (shapes (vals vs)) → slice ≡ signature_text (shapes (vals vs))
     → IfOk r (λ ts. signature_of slice ≡ Ok ts) → IfOk r (λ ts. ts ≡ shapes (vals vs))
-letters_same slice now vs n (Ok ts) within so over is found = let e : Ok ts ≡ Ok (shapes (vals vs)) = sym found ∙ all_letters slice now vs n within so over is in cc
-letters_same slice now vs n (Err e) within so over is found = tt
+letters_same slice vs (Ok ts) within is found = let e : Ok ts ≡ Ok (shapes (vals vs)) = sym found ∙ all_letters slice vs within is in cc
+letters_same slice vs (Err e) within is found = tt

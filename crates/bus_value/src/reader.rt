@@ -15,6 +15,8 @@ mod checking;
 mod containers;
 mod numbered;
 
+pub use basic::is_text;
+
 /// A place in which values are read.
 #[derive(Clone, Copy)]
 pub struct Reader {

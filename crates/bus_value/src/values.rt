@@ -3,8 +3,9 @@
 ghost use Rattle.std.specs.Prelude.{◌≡◌, ◌%◌, ◌↔◌, IfOk, IfSome, IsOk, IsTrue, Ok};
 ghost use Rattle.bus_names.specs.Parsing.{signature_of};
 ghost use Rattle.bus_names.specs.Signatures.{IsWithin};
+ghost use Rattle.bus_names.specs.Types.{signature_text};
 ghost use Rattle.bus_value.specs.Limits.{AllFit};
-ghost use Rattle.bus_value.specs.Held.{IsHeld, read_in, values_in};
+ghost use Rattle.bus_value.specs.Held.{IsHeld, listed, read_in, values_in};
 ghost use Rattle.bus_value.specs.Reading.{read_all};
 ghost use Rattle.bus_value.specs.Spelling.{spellings};
 ghost use Rattle.bus_value.specs.Values.{shapes, vals};
@@ -16,7 +17,7 @@ use crate::reading::make_values;
 use crate::value::Value;
 use crate::writing::write_each;
 use bus_names::{NameFault, Signature};
-use login_base::{Bytes, Items, NoMemory};
+use login_base::{Bytes, Items, NoMemory, Word};
 use std::alloc::Global;
 use std::marker::Model;
 
@@ -111,16 +112,45 @@ pub fn signature_of(alloc: Global, text: &[u8]) -> Result<Signature, NoMemory>
     }
 }
 
-/// The signature of the values.
-fn signature(alloc: Global, values: &[Value]) -> Result<Signature, NoMemory>
-    requires { IsWithin (shapes (vals values.now)) }
-    ensures { IfOk result (λ types. types ≡ shapes (vals values.now)) }
+/// The letters of the values' types.
+fn letters_of(alloc: Global, values: &[Value]) -> Result<Vec<u8>, NoMemory>
+    ensures { IfOk result (λ letters. letters.items ≡ signature_text (shapes (vals values.now))) }
 {
     let mut letters = Vec::new(alloc);
     for value in values {
         value.push_type(&mut letters)?;
     }
+    Ok(letters)
+}
+
+/// The signature of the values.
+fn signature(alloc: Global, values: &[Value]) -> Result<Signature, NoMemory>
+    requires { IsWithin (shapes (vals values.now)) }
+    ensures { IfOk result (λ types. types ≡ shapes (vals values.now)) }
+{
+    let letters = letters_of(alloc, values)?;
     signature_of(alloc, letters.as_slice())
+}
+
+/// Values that are there, or that were made to be looked at.
+#[derive(Drop)]
+pub enum Listed<'a> {
+    There(&'a [Value]),
+    Made(Items<Value>),
+}
+
+impl Listed<'_> {
+    ghost use Rattle.bus_value.specs.Held.{listed};
+
+    /// The values in order.
+    pub fn as_slice(&self) -> &[Value]
+        ensures { result.now ≡ listed self.now }
+    {
+        match self {
+            Listed::There(values) => values,
+            Listed::Made(values) => values.as_slice(),
+        }
+    }
 }
 
 impl Values {
@@ -164,6 +194,26 @@ impl Values {
         match held {
             Held::Made(values) => Ok(values),
             Held::Read(spelled) => spelled.values(alloc),
+        }
+    }
+
+    /// The values as trees, which are made where only their bytes are kept.
+    pub fn listed(&self, alloc: Global) -> Result<Listed<'_>, NoMemory>
+        ensures { IfOk result (λ values. listed values ≡ self.now) }
+    {
+        match &self.held {
+            Held::Made(values) => Ok(Listed::There(values.as_slice())),
+            Held::Read(spelled) => Ok(Listed::Made(spelled.values(alloc)?)),
+        }
+    }
+
+    /// The letters of the values' types, also where these are too many for a signature or nested too deep for one.
+    pub fn letters(&self, alloc: Global) -> Result<Word, NoMemory>
+        ensures { IfOk result (λ letters. letters ≡ signature_text (shapes (vals self.now))) }
+    {
+        match &self.held {
+            Held::Made(values) => Ok(Word::from_vec(letters_of(alloc, values.as_slice())?)),
+            Held::Read(spelled) => spelled.types.text(alloc),
         }
     }
 

@@ -75,7 +75,7 @@ fn has_no_zero(text: &[u8]) -> bool
 }
 
 /// Whether a text is UTF-8 with no zero byte.
-fn is_text(text: &[u8]) -> bool
+pub fn is_text(text: &[u8]) -> bool
     ensures { result ≡ is_text text.now }
 {
     is_utf8(text) && has_no_zero(text)
