@@ -1,0 +1,7 @@
+pub mod TextBytes
+pub mod Labels
+pub mod ObjectPaths
+pub mod MethodNames
+pub mod SentCalls
+pub mod Standing
+pub mod Naming

@@ -1,0 +1,134 @@
+// The methods of all objects.
+
+ghost use Rattle.std.specs.Prelude.{◌≡◌, IfOk};
+ghost use Rattle.std.specs.Str.{bytes_eq};
+ghost use Rattle.wire_calls.specs.Arguments.{signature_of};
+ghost use Rattle.wire_calls.specs.Calls.{call_with};
+
+use crate::arguments::{are_short, is_short};
+use crate::machine::{MachineMethod, machine_call};
+use crate::manager::{ManagerMethod, manager_call};
+use crate::object::Object;
+use crate::seat::{SeatMethod, seat_call};
+use crate::session::{SessionMethod, session_call};
+use crate::user::{UserMethod, user_call};
+use bus_value::{Value, Values};
+use login_base::{NoMemory, Uid, Word};
+use login_model::Call;
+use std::alloc::Global;
+
+/// A method of an object's own interface.
+#[derive(Debug, Drop)]
+pub enum Method {
+    Manager(ManagerMethod),
+    /// Of the session with this id.
+    Session(Word, SessionMethod),
+    /// Of the seat with this name.
+    Seat(Word, SeatMethod),
+    User(Uid, UserMethod),
+    Machine(MachineMethod),
+}
+
+impl Method {
+    ghost use Rattle.std.specs.Prelude.{◌≡◌, IfOk};
+    ghost use Rattle.wire_calls.specs.Calls.{is_short_method, method_call};
+    ghost use Rattle.wire_calls.specs.Methods.{method_named, object_of, signed};
+
+    /// The object's own method with a name.
+    pub(crate) fn named(object: Object, name: &[u8]) -> Option<Method>
+        ensures { result ≡ method_named object name.now }
+    {
+        match object {
+            Object::Manager => Some(Method::Manager(ManagerMethod::named(name)?)),
+            Object::Session(id) => Some(Method::Session(id, SessionMethod::named(name)?)),
+            Object::Seat(seat) => Some(Method::Seat(seat, SeatMethod::named(name)?)),
+            Object::User(uid) => Some(Method::User(uid, UserMethod::named(name)?)),
+            Object::Machine => Some(Method::Machine(MachineMethod::named(name)?)),
+        }
+    }
+
+    /// The method's name.
+    pub(crate) fn name(&self) -> &'static [u8]
+        ensures { result.now ≡ (signed self.now).name }
+    {
+        match self {
+            Method::Manager(method) => method.name(),
+            Method::Session(_, method) => method.name(),
+            Method::Seat(_, method) => method.name(),
+            Method::User(_, method) => method.name(),
+            Method::Machine(method) => method.name(),
+        }
+    }
+
+    /// The object that it is of.
+    pub(crate) fn into_object(self) -> Object
+        ensures { result ≡ object_of self }
+    {
+        match self {
+            Method::Manager(_) => Object::Manager,
+            Method::Session(id, _) => Object::Session(id),
+            Method::Seat(seat, _) => Object::Seat(seat),
+            Method::User(uid, _) => Object::User(uid),
+            Method::Machine(_) => Object::Machine,
+        }
+    }
+
+    /// The signature of its arguments.
+    fn takes(&self) -> &'static [u8]
+        ensures { result.now ≡ (signed self.now).takes }
+    {
+        match self {
+            Method::Manager(method) => method.takes(),
+            Method::Session(_, method) => method.takes(),
+            Method::Seat(_, method) => method.takes(),
+            Method::User(_, method) => method.takes(),
+            Method::Machine(method) => method.takes(),
+        }
+    }
+
+    /// Whether the text that its path names is within the limit.
+    fn is_short(&self) -> bool
+        ensures { result ≡ is_short_method self.now }
+    {
+        match self {
+            Method::Session(name, _) => is_short(name),
+            Method::Seat(name, _) => is_short(name),
+            Method::Manager(_) | Method::User(..) | Method::Machine(_) => true,
+        }
+    }
+
+    /// The call that it is with arguments of its signature.
+    fn call(self, alloc: Global, values: &[Value]) -> Result<Call, NoMemory>
+        ensures { IfOk result (λ call. call ≡ method_call self values.now) }
+    {
+        match self {
+            Method::Manager(method) => manager_call(alloc, method, values),
+            Method::Session(id, method) => session_call(alloc, id, method, values),
+            Method::Seat(seat, method) => seat_call(alloc, seat, method, values),
+            Method::User(uid, method) => Ok(user_call(uid, method, values)),
+            Method::Machine(method) => Ok(machine_call(method, values)),
+        }
+    }
+}
+
+/// Whether the values are of this signature.
+fn is_of(alloc: Global, body: &Values, takes: &[u8]) -> Result<bool, NoMemory>
+    ensures { IfOk result (λ same. same ≡ bytes_eq (signature_of body.now) takes.now) }
+{
+    Ok(body.letters(alloc)?.as_slice() == takes)
+}
+
+/// The call that a method is with any arguments. No values are made for those of another signature.
+#[tactic(auto, unfolding(crate::specs::Calls::call_with))]
+pub(crate) fn call_with(alloc: Global, method: Method, body: &Values) -> Result<Call, NoMemory>
+    ensures { IfOk result (λ call. call ≡ call_with method body.now) }
+{
+    if !is_of(alloc, body, method.takes())? {
+        return Ok(Call::BadArguments);
+    }
+    let values = body.listed(alloc)?;
+    if !method.is_short() || !are_short(values.as_slice()) {
+        return Ok(Call::BadArguments);
+    }
+    method.call(alloc, values.as_slice())
+}

@@ -1,0 +1,350 @@
+// The message that a call is sent as.
+
+ghost use Rattle.std.specs.Prelude.{◌≡◌, ◌++◌, [], ◌∷◌, false, true, IfOk, IfSome, None, OnOk};
+ghost use Rattle.bus_value.specs.Values.{array, none};
+ghost use Rattle.bus_names.specs.Reading.{interface_fault, member_fault, path_fault};
+ghost use Rattle.login_model.specs.Built.{is_built_call};
+ghost use Rattle.wire_calls.specs.declared.method.Method.TheVariants.{User};
+ghost use Rattle.wire_calls.specs.declared.user.UserMethod.TheVariants.{Kill};
+ghost use Rattle.wire_calls.specs.Methods.{object_of};
+ghost use Rattle.wire_calls.specs.inner.Fitting.{FitsMethod};
+ghost use Rattle.wire_calls.specs.Objects.{path_of};
+ghost use Rattle.wire_calls.specs.Reading.{call_of};
+ghost use Rattle.wire_calls.specs.Sending.{HasTexts, IsSent, arguments_of, creation_values, device_values, flag, inhibition_values, is_other, message_with, number, place_values, property_type, purpose_values, sent_as, signal, text};
+
+use crate::machine::MachineMethod;
+use crate::manager::ManagerMethod;
+use crate::method::Method;
+use crate::reading::METHOD_CALL;
+use crate::seat::SeatMethod;
+use crate::session::SessionMethod;
+use crate::user::UserMethod;
+use bus_message::Message;
+use bus_names::{Basic, Interface, Member, NameFault, Type};
+use bus_value::{BasicValue, Order, Value, Values};
+use login_base::{DevNo, Items, NoMemory, Uid, Word};
+use login_model::{Call, Creation, Inhibition};
+use std::alloc::Global;
+
+/// The method that sends a signal to the processes of a user.
+fn kill_of(uid: Uid) -> Method
+    ensures method { result ≡ User uid Kill }
+    ensures fits { FitsMethod result }
+{
+    Method::User(uid, UserMethod::Kill)
+}
+
+/// The method as which a call is sent: the manager's where it has one.
+#[tactic(auto, unfolding(crate::specs::Sending::sent_as))]
+fn sent_as(call: &Call) -> Result<Option<Method>, NoMemory>
+    ensures method { IfOk result (λ method. method ≡ sent_as call.now) }
+    ensures fits { IfOk result (λ method. IfSome method FitsMethod) }
+{
+    Ok(Some(match call {
+        Call::Create(_) => Method::Manager(ManagerMethod::CreateSession),
+        Call::GetSession(_) => Method::Manager(ManagerMethod::GetSession),
+        Call::GetUser(_) => Method::Manager(ManagerMethod::GetUser),
+        Call::GetSeat(_) => Method::Manager(ManagerMethod::GetSeat),
+        Call::ListSessions => Method::Manager(ManagerMethod::ListSessions),
+        Call::ListUsers => Method::Manager(ManagerMethod::ListUsers),
+        Call::ListSeats => Method::Manager(ManagerMethod::ListSeats),
+        Call::ListInhibitors => Method::Manager(ManagerMethod::ListInhibitors),
+        Call::Activate(_) => Method::Manager(ManagerMethod::ActivateSession),
+        Call::ActivateOnSeat(..) => Method::Manager(ManagerMethod::ActivateSessionOnSeat),
+        Call::Lock(_) => Method::Manager(ManagerMethod::LockSession),
+        Call::Unlock(_) => Method::Manager(ManagerMethod::UnlockSession),
+        Call::LockAll => Method::Manager(ManagerMethod::LockSessions),
+        Call::UnlockAll => Method::Manager(ManagerMethod::UnlockSessions),
+        Call::Kill(..) => Method::Manager(ManagerMethod::KillSession),
+        Call::Terminate(_) => Method::Manager(ManagerMethod::TerminateSession),
+        Call::TerminateUser(_) => Method::Manager(ManagerMethod::TerminateUser),
+        Call::TerminateSeat(_) => Method::Manager(ManagerMethod::TerminateSeat),
+        Call::SetLinger(..) => Method::Manager(ManagerMethod::SetUserLinger),
+        Call::Power(kind) => Method::Manager(ManagerMethod::Power(*kind)),
+        Call::Can(kind) => Method::Manager(ManagerMethod::Can(*kind)),
+        Call::Inhibit(_) => Method::Manager(ManagerMethod::Inhibit),
+        Call::SetIdle(id, _) => Method::Session(id.copied()?, SessionMethod::SetIdleHint),
+        Call::SetLocked(id, _) => Method::Session(id.copied()?, SessionMethod::SetLockedHint),
+        Call::Control(id, _) => Method::Session(id.copied()?, SessionMethod::TakeControl),
+        Call::Uncontrol(id) => Method::Session(id.copied()?, SessionMethod::ReleaseControl),
+        Call::TakeDevice(id, _) => Method::Session(id.copied()?, SessionMethod::TakeDevice),
+        Call::ReleaseDevice(id, _) => Method::Session(id.copied()?, SessionMethod::ReleaseDevice),
+        Call::PauseComplete(id, _) => {
+            Method::Session(id.copied()?, SessionMethod::PauseDeviceComplete)
+        }
+        Call::SwitchTo(seat, _) => Method::Seat(seat.copied()?, SeatMethod::SwitchTo),
+        Call::SwitchToNext(seat) => Method::Seat(seat.copied()?, SeatMethod::SwitchToNext),
+        Call::SwitchToPrevious(seat) => Method::Seat(seat.copied()?, SeatMethod::SwitchToPrevious),
+        Call::KillUser(uid, _) => kill_of(*uid),
+        Call::ReadInput(_) => Method::Machine(MachineMethod::Read),
+        Call::SetMode(..) => Method::Machine(MachineMethod::SetMode),
+        Call::Close(_) => Method::Machine(MachineMethod::Close),
+        Call::GetProperty(_) | Call::GetAllProperties(..) | Call::SetProperty(_) => {
+            return Ok(None);
+        }
+        Call::Ping | Call::GetMachineId | Call::Hello | Call::GetNameOwner(_) => return Ok(None),
+        Call::AddMatch(_) | Call::RemoveMatch(_) => return Ok(None),
+        Call::NoCall | Call::NoObject | Call::NoMethod | Call::BadArguments => return Ok(None),
+    }))
+}
+
+/// A text as a value.
+fn text(word: &Word) -> Result<Value, NoMemory>
+    ensures { IfOk result (λ value. value ≡ text word.now) }
+{
+    Ok(Value::basic(BasicValue::Str(word.copied()?)))
+}
+
+/// A number as a value.
+fn number(value: u32) -> Value
+    ensures { result ≡ number value }
+{
+    Value::basic(BasicValue::U32(value))
+}
+
+/// A flag as a value.
+fn flag(value: bool) -> Value
+    ensures { result ≡ flag value }
+{
+    Value::basic(BasicValue::Bool(value))
+}
+
+/// A signal as a value.
+fn signal(value: i32) -> Value
+    ensures { result ≡ signal value }
+{
+    Value::basic(BasicValue::I32(value))
+}
+
+/// No further properties of a session.
+fn no_properties(alloc: Global) -> Result<Value, NoMemory>
+    ensures { IfOk result (λ value. value ≡ array property_type none) }
+{
+    let parts = [Type::basic(Basic::Str), Type::variant()];
+    let property = Type::structure(alloc, Vec::from_array(alloc, parts)?)?;
+    Ok(Value::array(property, Vec::new(alloc)))
+}
+
+/// One value alone.
+fn alone(alloc: Global, value: Value) -> Result<Vec<Value>, NoMemory>
+    ensures { IfOk result (λ values. values.items ≡ value ∷ []) }
+{
+    Ok(Vec::from_array(alloc, [value])?)
+}
+
+/// A device's numbers.
+fn device_values(alloc: Global, device: DevNo) -> Result<Vec<Value>, NoMemory>
+    ensures { IfOk result (λ values. values.items ≡ device_values device) }
+{
+    Ok(Vec::from_array(alloc, [number(device.major), number(device.minor)])?)
+}
+
+/// Adds a text.
+fn push_text(out: &mut Vec<Value>, word: &Word) -> Result<(), NoMemory>
+    ensures { OnOk result (out.new.items ≡ out.old.items ++ text word.now ∷ []) }
+{
+    out.push(text(word)?)?;
+    Ok(())
+}
+
+/// Adds a number.
+fn push_number(out: &mut Vec<Value>, value: u32) -> Result<(), NoMemory>
+    ensures { OnOk result (out.new.items ≡ out.old.items ++ number value ∷ []) }
+{
+    out.push(number(value))?;
+    Ok(())
+}
+
+/// Adds whose a session is and what it is for.
+fn push_purpose(out: &mut Vec<Value>, x: &Creation) -> Result<(), NoMemory>
+    ensures { OnOk result (out.new.items ≡ out.old.items ++ purpose_values x.now) }
+{
+    push_number(out, x.uid.0)?;
+    push_number(out, x.process)?;
+    push_text(out, &x.service)?;
+    push_text(out, &x.session_type)?;
+    push_text(out, &x.class)?;
+    push_text(out, &x.desktop)
+}
+
+/// Adds where a session is and where its user is.
+fn push_place(out: &mut Vec<Value>, x: &Creation) -> Result<(), NoMemory>
+    ensures { OnOk result (out.new.items ≡ out.old.items ++ place_values x.now) }
+{
+    push_text(out, &x.seat)?;
+    push_number(out, x.vt)?;
+    push_text(out, &x.tty)?;
+    push_text(out, &x.display)?;
+    out.push(flag(x.remote))?;
+    push_text(out, &x.remote_user)?;
+    push_text(out, &x.remote_host)
+}
+
+/// What a session is created with, and no further properties.
+fn creation_values(alloc: Global, x: &Creation) -> Result<Vec<Value>, NoMemory>
+    ensures { IfOk result (λ values. values.items ≡ creation_values x.now) }
+{
+    let mut out = Vec::new(alloc);
+    push_purpose(&mut out, x)?;
+    push_place(&mut out, x)?;
+    out.push(no_properties(alloc)?)?;
+    Ok(out)
+}
+
+/// What a lock is asked for with.
+fn inhibition_values(alloc: Global, x: &Inhibition) -> Result<Vec<Value>, NoMemory>
+    ensures { IfOk result (λ values. values.items ≡ inhibition_values x.now) }
+{
+    let mut out = Vec::new(alloc);
+    push_text(&mut out, &x.what)?;
+    push_text(&mut out, &x.who)?;
+    push_text(&mut out, &x.why)?;
+    push_text(&mut out, &x.mode)?;
+    Ok(out)
+}
+
+/// Two texts.
+fn two_texts(alloc: Global, first: &Word, second: &Word) -> Result<Vec<Value>, NoMemory>
+    ensures { IfOk result (λ values. values.items ≡ text first.now ∷ text second.now ∷ []) }
+{
+    let mut out = alone(alloc, text(first)?)?;
+    push_text(&mut out, second)?;
+    Ok(out)
+}
+
+/// A session, which of its processes, and the signal.
+fn kill_values(alloc: Global, id: &Word, whom: &Word, number: i32) -> Result<Vec<Value>, NoMemory>
+    ensures { IfOk result (λ values. values.items ≡ text id.now ∷ text whom.now ∷ signal number ∷ []) }
+{
+    let mut out = two_texts(alloc, id, whom)?;
+    out.push(signal(number))?;
+    Ok(out)
+}
+
+/// A user, whether it lingers, and that nobody is asked to authenticate.
+fn linger_values(alloc: Global, uid: u32, on: bool) -> Result<Vec<Value>, NoMemory>
+    ensures { IfOk result (λ values. values.items ≡ number uid ∷ flag on ∷ flag false ∷ []) }
+{
+    Ok(Vec::from_array(alloc, [number(uid), flag(on), flag(false)])?)
+}
+
+/// The arguments with which a call is sent.
+#[tactic(auto, unfolding(crate::specs::Sending::arguments_of))]
+fn arguments_of(alloc: Global, call: &Call) -> Result<Vec<Value>, NoMemory>
+    ensures { IfOk result (λ values. values.items ≡ arguments_of call.now) }
+{
+    match call {
+        Call::Create(x) => creation_values(alloc, x),
+        Call::GetSession(id) => alone(alloc, text(id)?),
+        Call::GetUser(uid) => alone(alloc, number(uid.0)),
+        Call::GetSeat(seat) => alone(alloc, text(seat)?),
+        Call::Activate(id) => alone(alloc, text(id)?),
+        Call::ActivateOnSeat(id, seat) => two_texts(alloc, id, seat),
+        Call::Lock(id) => alone(alloc, text(id)?),
+        Call::Unlock(id) => alone(alloc, text(id)?),
+        Call::Kill(id, whom, number) => kill_values(alloc, id, whom, *number),
+        Call::Terminate(id) => alone(alloc, text(id)?),
+        Call::TerminateUser(uid) => alone(alloc, number(uid.0)),
+        Call::TerminateSeat(seat) => alone(alloc, text(seat)?),
+        Call::SetLinger(uid, on) => linger_values(alloc, uid.0, *on),
+        Call::Power(_) => alone(alloc, flag(false)),
+        Call::Inhibit(x) => inhibition_values(alloc, x),
+        Call::SetIdle(_, on) => alone(alloc, flag(*on)),
+        Call::SetLocked(_, on) => alone(alloc, flag(*on)),
+        Call::Control(_, force) => alone(alloc, flag(*force)),
+        Call::TakeDevice(_, device) => device_values(alloc, *device),
+        Call::ReleaseDevice(_, device) => device_values(alloc, *device),
+        Call::PauseComplete(_, device) => device_values(alloc, *device),
+        Call::SwitchTo(_, vt) => alone(alloc, number(*vt)),
+        Call::KillUser(_, number) => alone(alloc, signal(*number)),
+        Call::ReadInput(handle) => alone(alloc, number(handle.0)),
+        Call::SetMode(handle, mode) => Ok(Vec::from_array(
+            alloc,
+            [number(handle.0), number(*mode)],
+        )?),
+        Call::Close(handle) => alone(alloc, number(handle.0)),
+        Call::ListSessions | Call::ListUsers | Call::ListSeats | Call::ListInhibitors => {
+            Ok(Vec::new(alloc))
+        }
+        Call::LockAll | Call::UnlockAll | Call::Can(_) | Call::Uncontrol(_) => Ok(Vec::new(alloc)),
+        Call::SwitchToNext(_) | Call::SwitchToPrevious(_) => Ok(Vec::new(alloc)),
+        Call::GetProperty(_) | Call::GetAllProperties(..) | Call::SetProperty(_) => {
+            Ok(Vec::new(alloc))
+        }
+        Call::Ping | Call::GetMachineId | Call::Hello => Ok(Vec::new(alloc)),
+        Call::GetNameOwner(_) | Call::AddMatch(_) | Call::RemoveMatch(_) => Ok(Vec::new(alloc)),
+        Call::NoCall | Call::NoObject | Call::NoMethod | Call::BadArguments => Ok(Vec::new(alloc)),
+    }
+}
+
+/// The name of an interface.
+fn made_interface(alloc: Global, name: &[u8]) -> Result<Interface, NoMemory>
+    requires { interface_fault name.now ≡ None }
+    ensures { IfOk result (λ interface. interface ≡ name.now) }
+{
+    match Interface::read(alloc, name) {
+        Ok(interface) => Ok(interface),
+        Err(NameFault::NoMemory) => Err(NoMemory),
+        Err(_) => unreachable!(),
+    }
+}
+
+/// The name of a member.
+fn made_member(alloc: Global, name: &[u8]) -> Result<Member, NoMemory>
+    requires { member_fault name.now ≡ None }
+    ensures { IfOk result (λ member. member ≡ name.now) }
+{
+    match Member::read(alloc, name) {
+        Ok(member) => Ok(member),
+        Err(NameFault::NoMemory) => Err(NoMemory),
+        Err(_) => unreachable!(),
+    }
+}
+
+/// The call of a method with these arguments.
+fn message_with(
+    alloc: Global,
+    method: Method,
+    arguments: Vec<Value>,
+    serial: u32,
+) -> Result<Message, NoMemory>
+    requires { path_fault (path_of (object_of method)) ≡ None }
+    ensures { IfOk result (λ message. message ≡ message_with method arguments.items serial) }
+{
+    let member = made_member(alloc, method.name())?;
+    let object = method.into_object();
+    let interface = made_interface(alloc, object.interface())?;
+    let path = object.path(alloc)?;
+    Ok(Message {
+        order: Order::Little,
+        kind: METHOD_CALL,
+        flags: 0,
+        serial,
+        path: Some(path),
+        interface: Some(interface),
+        member: Some(member),
+        error: None,
+        reply_to: None,
+        destination: None,
+        sender: None,
+        body: Values::made(Items::from_vec(arguments)),
+    })
+}
+
+/// The message that a call is sent as, which is read as the call again: the method of the manager where it has one, else
+/// that of the session, the seat, the user or the machine.
+pub fn message_of(alloc: Global, call: &Call, serial: u32) -> Result<Message, NoMemory>
+    requires built { is_built_call call.now ≡ true }
+    requires ordinary { is_other call.now ≡ false }
+    requires texts { HasTexts call.now }
+    ensures sent { IfOk result (λ message. IsSent call.now serial message) }
+    ensures read { IfOk result (λ message. call_of message ≡ call.now) }
+{
+    match sent_as(call)? {
+        Some(method) => {
+            let arguments = arguments_of(alloc, call)?;
+            message_with(alloc, method, arguments, serial)
+        }
+        None => unreachable!(),
+    }
+}

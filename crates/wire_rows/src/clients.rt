@@ -1,0 +1,58 @@
+// The first messages of programs of a Debian 12, which a peer recorded: busctl of systemd 252, dbus-send of libdbus 1.14,
+// gdbus of GLib 2.74; and what they are.
+
+use crate::glib::Case;
+
+/// What the programs sent.
+pub const CLIENTS: &[Case] = &[
+    // busctl
+    Case {
+        bytes: b"l\x01\0\x01\0\0\0\0\x01\0\0\0m\0\0\0\x01\x01o\0\x15\0\0\0/org/freedesktop/DBus\0\0\0\x03\x01s\0\x05\0\0\0Hello\0\0\0\x02\x01s\0\x14\0\0\0org.freedesktop.DBus\0\0\0\0\x06\x01s\0\x14\0\0\0org.freedesktop.DBus\0\0\0\0",
+        event: b"call 2 1 no-object",
+    },
+    // busctl
+    Case {
+        bytes: b"l\x01\x04\x01\x07\0\0\0\x02\0\0\0\x87\0\0\0\x01\x01o\0\x17\0\0\0/org/freedesktop/login1\0\x03\x01s\0\x0a\0\0\0GetSession\0\0\0\0\0\0\x02\x01s\0\x1e\0\0\0org.freedesktop.login1.Manager\0\0\x06\x01s\0\x16\0\0\0org.freedesktop.login1\0\0\x08\x01g\0\x01s\0\0\x02\0\0\0c1\0",
+        event: b"call 2 2 get-session c1",
+    },
+    // busctl
+    Case {
+        bytes: b"l\x01\x04\x01 \0\0\0\x02\0\0\0]\0\0\0\x01\x01o\0\x04\0\0\0/a/b\0\0\0\0\x03\x01s\0\x01\0\0\0M\0\0\0\0\0\0\0\x02\x01s\0\x0d\0\0\0org.example.I\0\0\0\x06\x01s\0\x0d\0\0\0org.example.A\0\0\0\x08\x01g\0\x07asu(yb)\0\0\0\0\x0f\0\0\0\x01\0\0\0a\0\0\0\x02\0\0\0bc\0\0\x07\0\0\0\x09\0\0\0\x01\0\0\0",
+        event: b"call 2 2 no-object",
+    },
+    // dbus-send
+    Case {
+        bytes: b"l\x01\0\x01\0\0\0\0\x01\0\0\0n\0\0\0\x01\x01o\0\x15\0\0\0/org/freedesktop/DBus\0\0\0\x06\x01s\0\x14\0\0\0org.freedesktop.DBus\0\0\0\0\x02\x01s\0\x14\0\0\0org.freedesktop.DBus\0\0\0\0\x03\x01s\0\x05\0\0\0Hello\0\0\0",
+        event: b"call 2 1 no-object",
+    },
+    // dbus-send
+    Case {
+        bytes: b"l\x01\0\x01\x07\0\0\0\x02\0\0\0\x87\0\0\0\x01\x01o\0\x17\0\0\0/org/freedesktop/login1\0\x02\x01s\0\x1e\0\0\0org.freedesktop.login1.Manager\0\0\x03\x01s\0\x0a\0\0\0GetSession\0\0\0\0\0\0\x06\x01s\0\x16\0\0\0org.freedesktop.login1\0\0\x08\x01g\0\x01s\0\0\x02\0\0\0c1\0",
+        event: b"call 2 2 get-session c1",
+    },
+    // dbus-send
+    Case {
+        bytes: b"l\x04\x01\x010\0\0\0\x02\0\0\0E\0\0\0\x01\x01o\0\x04\0\0\0/a/b\0\0\0\0\x02\x01s\0\x0d\0\0\0org.example.I\0\0\0\x03\x01s\0\x07\0\0\0Changed\0\x08\x01g\0\x07ia{su}v\0\0\0\0\xfe\xff\xff\xff\x1c\0\0\0\x03\0\0\0one\0\x01\0\0\0\0\0\0\0\x03\0\0\0two\0\x02\0\0\0\x01d\0\0\0\0\0\0\0\0\xf8?",
+        event: b"send 2 2 nothing",
+    },
+    // gdbus
+    Case {
+        bytes: b"l\x01\0\x01\0\0\0\0\x01\0\0\0n\0\0\0\x01\x01o\0\x15\0\0\0/org/freedesktop/DBus\0\0\0\x02\x01s\0\x14\0\0\0org.freedesktop.DBus\0\0\0\0\x06\x01s\0\x14\0\0\0org.freedesktop.DBus\0\0\0\0\x03\x01s\0\x05\0\0\0Hello\0\0\0",
+        event: b"call 2 1 no-object",
+    },
+    // gdbus
+    Case {
+        bytes: b"l\x01\0\x01\0\0\0\0\x02\0\0\0\x83\0\0\0\x01\x01o\0\x17\0\0\0/org/freedesktop/login1\0\x02\x01s\0#\0\0\0org.freedesktop.DBus.Introspectable\0\0\0\0\0\x06\x01s\0\x16\0\0\0org.freedesktop.login1\0\0\x03\x01s\0\x0a\0\0\0Introspect\0\0\0\0\0\0",
+        event: b"call 2 2 no-method",
+    },
+    // gdbus
+    Case {
+        bytes: b"l\x01\0\x01\x07\0\0\0\x03\0\0\0\x83\0\0\0\x01\x01o\0\x17\0\0\0/org/freedesktop/login1\0\x02\x01s\0\x1e\0\0\0org.freedesktop.login1.Manager\0\0\x06\x01s\0\x16\0\0\0org.freedesktop.login1\0\0\x08\x01g\0\x01s\0\0\x03\x01s\0\x0a\0\0\0GetSession\0\0\0\0\0\0\x02\0\0\0c1\0",
+        event: b"call 2 3 get-session c1",
+    },
+    // gdbus
+    Case {
+        bytes: b"l\x04\x01\x01\x17\0\0\0\x01\0\0\0H\0\0\0\x01\x01o\0\x04\0\0\0/a/b\0\0\0\0\x02\x01s\0\x0d\0\0\0org.example.I\0\0\0\x08\x01g\0\x03uas\0\0\0\0\0\0\0\0\x03\x01s\0\x07\0\0\0Changed\0\x07\0\0\0\x0f\0\0\0\x01\0\0\0x\0\0\0\x02\0\0\0yz\0",
+        event: b"send 2 1 nothing",
+    },
+];
