@@ -1,10 +1,9 @@
 -- What handles hear, settled behind the marks of a draft: the table of takes says what all marks say.
-use Rattle.std.proofs.Common.{◌≡◌, ℕ, Bool, true, cond, Option, None, List, [], ◌∷◌, refl, ap, sym, subst, ◌∙◌}
+use Rattle.std.proofs.Common.{◌≡◌, ℕ, Bool, true, cond, Option, Some, None, List, [], ◌∷◌, refl, ap, sym, subst, ◌∙◌}
 use Rattle.std.specs.List.{AllByRecursion}
 use Rattle.login_base.specs.declared.ids.HandleNo.{HandleNo}
 use Rattle.login_model.specs.Devices.{is_live}
 use Rattle.login_model.specs.Legal.{trail_of}
-use Rattle.login_model.specs.Reading.{is_granted}
 use Rattle.login_model.specs.Trail.{Trail, after, value}
 use Rattle.login_model.specs.Facts.{is_set}
 use Rattle.login_model.specs.declared.event.Event.{Event}
@@ -15,15 +14,15 @@ use Rattle.login_model.specs.declared.mark.Mark.{Mark}
 use Rattle.login_model.specs.declared.rule.Verdict.{Verdict}
 use Rattle.device_model.specs.Ears.{heard_of}
 use Rattle.device_model.specs.declared.ears.Ear.{Ear}
-use Rattle.login_laws.specs.Hearing.{Heard, begins, heard_behind, heard_event, is_turned, unheard}
+use Rattle.login_laws.specs.Hearing.{Heard, begins, is_turned, unheard}
 use Rattle.login_laws.proofs.Hearing.{unturned}
 use Rattle.login_laws.proofs.JournalLaws.{one-marks}
 use Rattle.login_core.specs.inner.Draft.{DraftState}
-use Rattle.login_core.specs.inner.Ears.{AreEnough, ListenLive, ListenOn}
+use Rattle.login_core.specs.inner.Ears.{AreEnough, ListenLive, ListenOn, heard_with, is_evdev, of_evdev, settled}
 use Rattle.login_core.specs.inner.Facts.{Tables, StandFor}
 use Rattle.login_core.specs.inner.UnderWay.{so_far}
 use Rattle.login_core.proofs.Drafting.{seen}
-use Rattle.login_core.proofs.HomeLaws.{takes-stand}
+use Rattle.login_core.proofs.HomeLaws.{devices-stand, takes-stand}
 use Rattle.login_core.proofs.Standing.{opened}
 
 -- a handle is live in the table where it is after the marks
@@ -34,6 +33,11 @@ begins-there : (f : Tables) (t : Trail) → StandFor f t → (h : HandleNo) → 
 begins-there f t s h =
     ap (λ (b : Bool). cond b (unheard (value f.takes (key.Owner h))) None) (live-there f t s h)
     ∙ ap (λ (x : Fact). cond (is_live t h) (unheard x) None) (takes-stand f t (opened f t s) (key.Owner h) refl)
+
+-- a device is of the same kind in the table
+evdev-there : (f : Tables) (t : Trail) → StandFor f t → (o : Option Heard) → of_evdev f.devices o ≡ of_evdev t o
+evdev-there f t s None = refl
+evdev-there f t s (Some p) = ap (λ (x : Fact). cond (is_evdev x) (Some p) None) (devices-stand f t (opened f t s) (key.Dev p.0) refl)
 
 -- rings that are enough for the draft are enough for the table
 all-live : (f : Tables) (t : Trail) → StandFor f t → (handles : List HandleNo) → AllByRecursion (λ h. is_live f.takes h ≡ true) handles → AllByRecursion (λ h. is_live t h ≡ true) handles
@@ -59,22 +63,23 @@ listen-there es ms f reach d v s live =
 
 -- what the handles hear then
 abbrev pub HearBehind : List Ear → Event → Verdict → DraftState → Type 0
-HearBehind ears e v d = (ms : List Mark) → after d.before ms ≡ d.trail → (h : HandleNo) → heard_of ears h ≡ heard_behind h e v ms d.trail (heard_of d.ears h)
+HearBehind ears e v d = (ms : List Mark) → after d.before ms ≡ d.trail → (h : HandleNo) → heard_of ears h ≡ settled h e v ms d.trail d.trail (heard_of d.ears h)
 
-behind-there : (f : Tables) (t : Trail) → StandFor f t → (h : HandleNo) (e : Event) (v : Verdict) (ms : List Mark) (o : Option Heard) → heard_behind h e v ms f.takes o ≡ heard_behind h e v ms t o
-behind-there f t s h e v ms o = ap (λ (z : Option Heard). cond (is_turned h ms) z (cond (is_granted v) (heard_event h e o) o)) (begins-there f t s h)
+settled-there : (f : Tables) (t : Trail) → StandFor f t → (h : HandleNo) (e : Event) (v : Verdict) (ms : List Mark) (o : Option Heard) → settled h e v ms f.takes f.devices o ≡ settled h e v ms t t o
+settled-there f t s h e v ms o =
+    ap (λ (z : Option Heard). cond (is_turned h ms) z (heard_with h e v o)) (evdev-there f t s (begins f.takes h) ∙ ap (of_evdev t) (begins-there f t s h))
 
 hear-seen : (es : List Entry) (ms : List Mark) (f : Tables) (reach : ℕ) (ears : List Ear) (e : Event) (v : Verdict) → StandFor f (so_far es ms)
-    → ((h : HandleNo) → heard_of ears h ≡ heard_behind h e v ms f.takes (heard_of f.ears h)) → HearBehind ears e v (seen es ms f reach)
+    → ((h : HandleNo) → heard_of ears h ≡ settled h e v ms f.takes f.devices (heard_of f.ears h)) → HearBehind ears e v (seen es ms f reach)
 unfolding so_far
 hear-seen es ms f reach ears e v s heard ns same h =
     let t = after (trail_of es) ms in
     heard h
-    ∙ behind-there f t s h e v ms (heard_of f.ears h)
-    ∙ ap (λ (xs : List Mark). heard_behind h e v xs t (heard_of f.ears h)) (sym (one-marks (trail_of es) ns ms same))
+    ∙ settled-there f t s h e v ms (heard_of f.ears h)
+    ∙ ap (λ (xs : List Mark). settled h e v xs t t (heard_of f.ears h)) (sym (one-marks (trail_of es) ns ms same))
 
 pub hear-there : (es : List Entry) (ms : List Mark) (f : Tables) (reach : ℕ) (d : DraftState) (ears : List Ear) (e : Event) (v : Verdict) → seen es ms f reach ≡ d → StandFor f (so_far es ms)
-    → ((h : HandleNo) → heard_of ears h ≡ heard_behind h e v ms f.takes (heard_of f.ears h)) → HearBehind ears e v d
+    → ((h : HandleNo) → heard_of ears h ≡ settled h e v ms f.takes f.devices (heard_of f.ears h)) → HearBehind ears e v d
 hear-there es ms f reach d ears e v seen_as s heard =
     let P : DraftState → Type 0 = HearBehind ears e v in
     subst P seen_as (hear-seen es ms f reach ears e v s heard)

@@ -32,6 +32,7 @@ pub mod Departing
 pub mod Appearing
 pub mod TextsEnd
 pub mod ShutLaws
+pub mod DeviceFacts
 pub mod NearestPlace
 pub mod SeatPlaces
 pub mod TerminalPlaces
@@ -40,6 +41,7 @@ pub mod Filling
 pub mod TextsClose
 pub mod GrantedLaws
 pub mod Entries
+pub mod Evdev
 pub mod Judged
 pub mod Keeping
 pub mod Listeners

@@ -25,19 +25,19 @@ use Rattle.login_laws.proofs.FewLives.{lives-are-few}
 use Rattle.login_laws.proofs.Holds.{none_out}
 use Rattle.login_laws.proofs.Settling.{settled}
 use Rattle.login_laws.proofs.SoundLaws.{good-direct}
-use Rattle.login_core.specs.inner.Ears.{AreEars, AreEnough, ListenLive}
+use Rattle.login_core.specs.inner.Ears.{AreEars, AreEnough, ListenLive, of_evdev}
 use Rattle.login_core.proofs.Keeping.{disconnect-granted, stop-granted}
 
 -- ---- who listens is live
 
-live-some : (b : Bool) (o : Option Heard) → IsSome (cond b o None) → b ≡ true
-live-some true o i = refl
-live-some false o i = i
+live-some : (t : Trail) (b : Bool) (o : Option Heard) → IsSome (of_evdev t (cond b o None)) → b ≡ true
+live-some t true o i = refl
+live-some t false o i = i
 
 pub listen-live : (es : List Entry) (ears : List Ear) (rings : ℕ) → AreEars es ears rings → ListenLive ears (trail_of es)
 listen-live es ears rings a h i =
     let P : Option Heard → Type 0 = IsSome in
-    live-some (is_live (trail_of es) h) _ (subst P (a.heard h) i)
+    live-some (trail_of es) (is_live (trail_of es) h) _ (subst P (a.heard h) i)
 
 -- ---- rings are enough
 

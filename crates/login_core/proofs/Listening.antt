@@ -15,7 +15,7 @@ use Rattle.login_model.proofs.Values.{same-refl}
 use Rattle.device_model.specs.Ears.{AreOnce, DeviceList, heard_of, is_ear_of}
 use Rattle.device_model.specs.declared.ears.Ear.{Ear}
 use Rattle.login_laws.specs.Few.{same_handle}
-use Rattle.login_laws.specs.Hearing.{Heard, begins, is_turned}
+use Rattle.login_laws.specs.Hearing.{Heard, is_turned}
 use Rattle.login_core.specs.inner.Ears.{AreEnough, KeepsRings, ListenLive, ring_count, turned_by}
 
 -- ---- marks that make a handle live or dead
@@ -88,17 +88,17 @@ before : (b : Bool) (x z o : Option Heard) → x ≡ cond b z o → o ≡ None �
 before true x z o e n = inl e
 before false x z o e n = inr (e ∙ n)
 
--- one handle begins anew, unless it does already
-pub begin-next : (old new : HandleNo → Option Heard) (t : Trail) (g : HandleNo) → (old g ≡ None → new g ≡ begins t g) → (IsSome (old g) → new g ≡ old g)
+-- one handle begins anew, with what these begin with, unless it does already
+pub begin-next : (old new starts : HandleNo → Option Heard) (g : HandleNo) → (old g ≡ None → new g ≡ starts g) → (IsSome (old g) → new g ≡ old g)
     → ((h : HandleNo) → (h.0 == g.0) ≡ false → new h ≡ old h)
-    → (h : HandleNo) (b : Bool) (o : Option Heard) → (turns h (Some g) ≡ true → o ≡ None) → old h ≡ cond b (begins t h) o → new h ≡ cond (b || turns h (Some g)) (begins t h) o
-begin-next old new t g own kept others h b o deaf e = elim (test (g.0 == h.0)) [
+    → (h : HandleNo) (b : Bool) (o : Option Heard) → (turns h (Some g) ≡ true → o ≡ None) → old h ≡ cond b (starts h) o → new h ≡ cond (b || turns h (Some g)) (starts h) o
+begin-next old new starts g own kept others h b o deaf e = elim (test (g.0 == h.0)) [
   | inl y ↦ (let i = same-handle g h y in
-      let P : HandleNo → Type 0 = λ k. (old k ≡ None → new k ≡ begins t k) × (IsSome (old k) → new k ≡ old k) in
+      let P : HandleNo → Type 0 = λ k. (old k ≡ None → new k ≡ starts k) × (IsSome (old k) → new k ≡ old k) in
       let p = subst P i (own, kept) in
-      anew (old h) (new h) (begins t h) p.0 p.1 (before b (old h) (begins t h) o e (deaf y))
-      ∙ sym (ap (λ (c : Bool). cond (b || c) (begins t h) o) y ∙ ap (λ (c : Bool). cond c (begins t h) o) (or-true b)))
-  | inr n ↦ others h (flipped g h n) ∙ e ∙ sym (ap (λ (c : Bool). cond (b || c) (begins t h) o) n ∙ ap (λ (c : Bool). cond c (begins t h) o) (or-false b))
+      anew (old h) (new h) (starts h) p.0 p.1 (before b (old h) (starts h) o e (deaf y))
+      ∙ sym (ap (λ (c : Bool). cond (b || c) (starts h) o) y ∙ ap (λ (c : Bool). cond c (starts h) o) (or-true b)))
+  | inr n ↦ others h (flipped g h n) ∙ e ∙ sym (ap (λ (c : Bool). cond (b || c) (starts h) o) n ∙ ap (λ (c : Bool). cond c (starts h) o) (or-false b))
 ]
 
 -- ---- there is a ring for each live handle

@@ -4,7 +4,6 @@ use Rattle.login_base.specs.declared.ids.SessId.{SessId}
 use Rattle.login_model.specs.Full.{taken_by, taken_count}
 use Rattle.device_model.specs.Ears.{heard_of}
 use Rattle.device_model.specs.declared.ears.Ear.{Ear}
-use Rattle.login_laws.specs.Hearing.{heard_in}
 use Rattle.login_model.specs.Legal.{IsLegal, trail_of}
 use Rattle.login_laws.specs.Need.{need}
 use Rattle.login_model.specs.Names.{names}
@@ -15,7 +14,7 @@ use Rattle.login_model.specs.Where.{connections, locks, open_sessions, sessions}
 use Rattle.login_model.specs.declared.mark.Entry.{Entry}
 use Rattle.login_model.specs.declared.setup.Setup.{Setup}
 use Rattle.login_core.specs.inner.Board.{IsBegun}
-use Rattle.login_core.specs.inner.Ears.{AreEars}
+use Rattle.login_core.specs.inner.Ears.{AreEars, heard_evdev}
 use Rattle.login_core.specs.inner.Inside.{IsCore}
 use Rattle.login_core.specs.Kept.{HaveTexts, copies_in}
 use Rattle.login_core.specs.declared.board.Board.{Board}
@@ -49,7 +48,7 @@ unfolding heard_of value
 no-ears es ears rings j q =
     let n = ap (λ (js : List Entry). taken_count (trail_of js)) j in
     let m = no-taken in
-    record { heard = λ h. ap (λ (xs : List Ear). heard_of xs h) q ∙ ap (λ (js : List Entry). heard_in js h) (sym j); enough = omega arith }
+    record { heard = λ h. ap (λ (xs : List Ear). heard_of xs h) q ∙ ap (λ (js : List Entry). heard_evdev js h) (sym j); enough = omega arith }
 
 pub core-new : (U : Setup) (m : Board) (x : Texts) → IsSetup U → m.journal.items ≡ [] → m.draft.trail ≡ [] → m.draft.ears ≡ [] → IsBegun m → 1 ≤ m.journal.entries → ((s : SessId) → copies_in x.closing.items s ≡ None) → ((s : SessId) → copies_in x.gone.items s ≡ None)
     → IsCore U m x None

@@ -7,7 +7,6 @@ use Rattle.login_model.specs.Full.{mark_count, taken_count}
 use Rattle.login_model.specs.Legal.{IsLegal, IsPlaced, answered, stepped, trail_of}
 use Rattle.login_laws.specs.Need.{IsDisconnect, need}
 use Rattle.login_model.specs.Policy.{verdict}
-use Rattle.login_laws.specs.Hearing.{heard_behind, heard_in}
 use Rattle.login_laws.specs.Sound.{IsSound}
 use Rattle.login_model.specs.Stopping.{is_stop, stop_from, stopped}
 use Rattle.login_model.specs.Trail.{Trail}
@@ -23,11 +22,10 @@ use Rattle.login_model.specs.declared.mark.Mark.{Mark}
 use Rattle.login_model.specs.declared.rule.Verdict.{Verdict}
 use Rattle.login_model.specs.declared.setup.Setup.{Setup}
 use Rattle.login_laws.proofs.Comings.{disconnect-connections}
-use Rattle.login_laws.proofs.Hearing.{hearing-goes-on}
 use Rattle.login_laws.proofs.RoomLaws.{room}
 use Rattle.login_core.specs.Fullness.{always_fits}
 use Rattle.login_core.specs.inner.Board.{IsBegun}
-use Rattle.login_core.specs.inner.Ears.{AreEars, ring_count}
+use Rattle.login_core.specs.inner.Ears.{AreEars, heard_evdev, ring_count, settled}
 use Rattle.login_core.specs.inner.Inside.{IsCore, stop_need}
 use Rattle.login_core.specs.Kept.{AreReady, HaveTexts}
 use Rattle.login_core.specs.inner.UnderWay.{entry_of}
@@ -36,6 +34,7 @@ use Rattle.login_core.specs.declared.board.Board.{Board}
 use Rattle.login_core.specs.declared.room.ready.Ready.{Ready}
 use Rattle.login_core.specs.declared.room.texts.Texts.{Texts}
 use Rattle.login_core.proofs.Entries.{Steps, legal-closed, legal-entry, length-closed, marks-counted, so_far-is, stop-closed, trail-closed}
+use Rattle.login_core.proofs.Evdev.{evdev-goes-on}
 use Rattle.login_core.proofs.Keeping.{StaysWithin, Made, kept-disconnect, kept-other, kept-stop, small}
 use Rattle.login_core.proofs.Listeners.{disconnect-takes, other-takes, stop-takes}
 
@@ -185,7 +184,7 @@ answered-next U m x a stop Stop v s = stop-answer U m.journal.items v
 
 -- what handles have heard goes on behind the entry that is closed
 pub record HearsOn (m n : Board) (e : Event) (v : Verdict) (ms : List Mark) (after : Trail) : Type 0 where
-  pub heard : (h : HandleNo) → heard_of n.draft.ears h ≡ heard_behind h e v ms after (heard_of m.draft.ears h)
+  pub heard : (h : HandleNo) → heard_of n.draft.ears h ≡ settled h e v ms after after (heard_of m.draft.ears h)
   pub rings : ring_count n.draft.ears n.draft.rings ≡ ring_count m.draft.ears m.draft.rings
 
 ears-closed : (U : Setup) (m n : Board) (x : Texts) (a : Ready) (b : Answer) (stop : Option ℕ) (e : Event) (v : Verdict) (ms : List Mark) → Stepping U m x a stop e v → Steps U m.journal.items e v b ms
@@ -193,16 +192,15 @@ ears-closed : (U : Setup) (m n : Board) (x : Texts) (a : Ready) (b : Answer) (st
 ears-closed U m n x a b stop e v ms s w j q =
     let es = m.journal.items in
     let d = entry_of e v b ms in
-    let after = sym (so_far-is es ms) ∙ w.marks_are in
+    let u = stepped U v e (trail_of es) in
     let count = ap (λ (js : List Entry). taken_count (trail_of js)) j ∙ ap taken_count (trail-closed U es e v b ms w) in
     let taken = taken-step U m x a stop e v s in
     let rings = q.rings in
     record {
       heard = λ h. q.heard h
-          ∙ ap (heard_behind h e v ms (stepped U v e (trail_of es))) (s.core.ears.heard h)
-          ∙ sym (ap (λ (t : Trail). heard_behind h e v ms t (heard_in es h)) after)
-          ∙ sym (hearing-goes-on U es d h s.core.legal (legal-entry U es e v b ms w))
-          ∙ ap (λ (js : List Entry). heard_in js h) (sym j);
+          ∙ ap (settled h e v ms u u) (s.core.ears.heard h)
+          ∙ sym (evdev-goes-on U es e v b ms h s.core.legal w)
+          ∙ ap (λ (js : List Entry). heard_evdev js h) (sym j);
       enough = omega arith;
     }
 

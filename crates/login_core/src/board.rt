@@ -19,9 +19,8 @@ ghost use Rattle.login_model.specs.Trail.{after, put};
 ghost use Rattle.login_model.specs.Fresh.{next_lock, next_session};
 ghost use Rattle.login_core.specs.inner.Counts.{AreCounted};
 ghost use Rattle.device_model.specs.Ears.{heard_of};
-ghost use Rattle.login_laws.specs.Hearing.{heard_behind};
 ghost use Rattle.login_core.specs.inner.Draft.{marked_by, reaching, tell, with_ears, with_rings, Fits};
-ghost use Rattle.login_core.specs.inner.Ears.{AreEnough, ListenLive, ring_count};
+ghost use Rattle.login_core.specs.inner.Ears.{AreEnough, ListenLive, ring_count, settled};
 
 use crate::board::facts::Facts;
 use crate::board::seating::Seating;
@@ -139,7 +138,7 @@ impl Draft {
     pub fn settle_ears(&mut self, event: &Event, verdict: Verdict, read: &mut Inputs)
         requires live { ListenLive self.old.ears self.old.before }
         requires enough { AreEnough (ring_count self.old.ears self.old.rings) self.old.trail }
-        ensures heard { (ms : List AnyMark) → after self.old.before ms ≡ self.old.trail → (h : AnyHandle) → heard_of self.new.ears h ≡ heard_behind h event.now verdict ms self.old.trail (heard_of self.old.ears h) }
+        ensures heard { (ms : List AnyMark) → after self.old.before ms ≡ self.old.trail → (h : AnyHandle) → heard_of self.new.ears h ≡ settled h event.now verdict ms self.old.trail self.old.trail (heard_of self.old.ears h) }
         ensures rings { ring_count self.new.ears self.new.rings ≡ ring_count self.old.ears self.old.rings }
         ensures rest { self.new ≡ with_ears self.new.ears self.new.rings self.old }
     {

@@ -1,5 +1,5 @@
 -- What handles hear: how it is settled behind the marks of an entry, and what a core keeps of it.
-use Rattle.std.specs.Prelude.{ℕ, ◌≡◌, ◌+◌, ◌≤◌, true, false, if◌then◌else◌, Option, Some, None, IsSome, List, length}
+use Rattle.std.specs.Prelude.{ℕ, ◌≡◌, ◌+◌, ◌≤◌, Bool, true, false, if◌then◌else◌, Option, Some, None, IsSome, List, length}
 use Rattle.std.specs.List.{AllByRecursion, IsDistinct}
 use Rattle.login_base.specs.declared.ids.DevNo.{DevNo}
 use Rattle.login_base.specs.declared.ids.HandleNo.{HandleNo}
@@ -7,12 +7,13 @@ use Rattle.login_model.specs.Devices.{is_live}
 use Rattle.login_model.specs.Full.{taken_count}
 use Rattle.login_model.specs.Marks.{trail_of}
 use Rattle.login_model.specs.Reading.{is_granted}
-use Rattle.login_model.specs.Trail.{Trail}
+use Rattle.login_model.specs.Trail.{Trail, value}
 use Rattle.login_model.specs.declared.event.Event.{Event}
 use Rattle.login_model.specs.declared.fact.Fact.{Fact}
-use Rattle.login_model.specs.declared.fact.Fact.TheVariants.{Owned}
-use Rattle.login_model.specs.declared.fact.Key.TheVariants.{Live}
-use Rattle.login_model.specs.declared.fact.Owner.TheVariants.{Device}
+use Rattle.login_model.specs.declared.fact.Fact.TheVariants as fact
+use Rattle.login_model.specs.declared.fact.Key.TheVariants.{Dev, Live}
+use Rattle.login_model.specs.declared.fact.Owner.TheVariants as owner
+use Rattle.login_model.specs.declared.hardware.DevKind.TheVariants.{Evdev}
 use Rattle.login_model.specs.declared.mark.Entry.{Entry}
 use Rattle.login_model.specs.declared.mark.Mark.{Mark}
 use Rattle.login_model.specs.declared.mark.Mark.TheVariants.{Set}
@@ -27,10 +28,26 @@ abbrev pub turned_by : Mark → Option HandleNo
 turned_by (Set (Live h) x) = Some h
 turned_by _ = None
 
--- the device to which a handle with this owner listens
-abbrev pub listened_to : Fact → Option DevNo
-listened_to (Owned (Device c s d)) = Some d
-listened_to _ = None
+-- whether a fact is that of an input device, which alone can be read
+abbrev pub is_evdev : Fact → Bool
+is_evdev (fact.Device Evdev seat) = true
+is_evdev _ = false
+
+-- the device to which a handle with this owner listens, if by these facts it is an input device
+abbrev pub listened_to : Trail → Fact → Option DevNo
+listened_to t (fact.Owned (owner.Device c s d)) = if is_evdev (value t (Dev d)) then Some d else None
+listened_to t _ = None
+
+-- what is heard of an input device, and nothing of another
+abbrev pub of_evdev : Trail → Option Heard → Option Heard
+of_evdev t (Some p) = if is_evdev (value t (Dev p.0)) then Some p else None
+of_evdev t None = None
+
+-- behind these entries, the device of a live handle of an input device, and what the handle reads of it
+abbrev pub heard_evdev : List Entry → HandleNo → Option Heard
+heard_evdev before h = of_evdev (trail_of before) (heard_in before h)
+
+-- ---- how it is settled, by who is live and whose by some facts, and by the kinds of devices by others
 
 -- a handle hears what a granted event brings
 abbrev pub heard_with : HandleNo → Event → Verdict → Option Heard → Option Heard
@@ -40,9 +57,15 @@ heard_with h e v o = if is_granted v then heard_event h e o else o
 abbrev pub deafened : HandleNo → List Mark → Option Heard → Option Heard
 deafened h ms o = if is_turned h ms then None else o
 
--- and where it is live after them, it begins anew
-abbrev pub begun_anew : HandleNo → List Mark → Trail → Option Heard → Option Heard
-begun_anew h ms t o = if is_turned h ms then begins t h else o
+-- and where it is live after them, and of an input device, it begins anew
+abbrev pub begun_anew : HandleNo → List Mark → Trail → Trail → Option Heard → Option Heard
+begun_anew h ms takes devices o = if is_turned h ms then of_evdev devices (begins takes h) else o
+
+-- what a handle has heard behind an event with its verdict and its marks
+abbrev pub settled : HandleNo → Event → Verdict → List Mark → Trail → Trail → Option Heard → Option Heard
+settled h e v ms takes devices o = begun_anew h ms takes devices (heard_with h e v o)
+
+-- ---- who listens, and rings for them
 
 -- only live handles listen
 abbrev pub ListenLive : List Ear → Trail → Type 0
@@ -66,7 +89,8 @@ pub record KeepsRings (old new : DeviceList) : Type 0 where
   pub spare : new.spare ≡ old.spare
   pub rings : ring_count new.ears new.rings ≡ ring_count old.ears old.rings
 
--- behind these entries each handle has heard what it reads, and there is a ring for each device that is taken
+-- behind these entries each live handle of an input device has heard what it reads, and no other handle listens;
+-- there is a ring for each device that is taken
 pub record AreEars (journal : List Entry) (ears : List Ear) (rings : ℕ) : Type 0 where
-  pub heard : (h : HandleNo) → heard_of ears h ≡ heard_in journal h
+  pub heard : (h : HandleNo) → heard_of ears h ≡ heard_evdev journal h
   pub enough : taken_count (trail_of journal) ≤ ring_count ears rings

@@ -9,11 +9,10 @@ ghost use Rattle.login_model.specs.Devices.{is_taken};
 ghost use Rattle.login_model.specs.declared.mark.Mark.TheVariants.{Set};
 ghost use Rattle.login_core.specs.inner.Counts.{AreCounted};
 ghost use Rattle.device_model.specs.Ears.{heard_of};
-ghost use Rattle.login_laws.specs.Hearing.{heard_behind};
 ghost use Rattle.login_base.specs.declared.ids.DevNo.{DevNo as AnyDevice};
 ghost use Rattle.login_base.specs.declared.ids.HandleNo.{HandleNo as AnyHandle};
 ghost use Rattle.login_model.specs.declared.answer.Input.{Input as AnyInput};
-ghost use Rattle.login_core.specs.inner.Ears.{AreEnough, ListenOn, ring_count};
+ghost use Rattle.login_core.specs.inner.Ears.{AreEnough, ListenOn, ring_count, settled};
 ghost use Rattle.login_core.specs.inner.Facts.{StandFor, StandForFew, table, gives};
 
 use crate::board::hearing::settle;
@@ -292,7 +291,7 @@ impl Facts {
     }
 
     /// What handles hear is settled behind the marks of an entry: each hears what a granted event brings, and
-    /// those that the marks make live begin anew. What is read goes to `read`. It takes no memory.
+    /// those of input devices that the marks make live begin anew. What is read goes to `read`. It takes no memory.
     pub fn settle_ears(
         &mut self,
         event: &Event,
@@ -302,7 +301,7 @@ impl Facts {
     )
         requires listen { ListenOn self.old.ears marks.now self.old.takes }
         requires enough { AreEnough (ring_count self.old.ears self.old.rings) self.old.takes }
-        ensures heard { (h : AnyHandle) → heard_of self.new.ears h ≡ heard_behind h event.now verdict marks.now self.old.takes (heard_of self.old.ears h) }
+        ensures heard { (h : AnyHandle) → heard_of self.new.ears h ≡ settled h event.now verdict marks.now self.old.takes self.old.devices (heard_of self.old.ears h) }
         ensures rings { ring_count self.new.ears self.new.rings ≡ ring_count self.old.ears self.old.rings }
         ensures stands { (t : Trail) → StandFor self.old t → StandFor self.new t }
         ensures spare { self.new.spare ≡ self.old.spare }

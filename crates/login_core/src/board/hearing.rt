@@ -3,13 +3,13 @@
 ghost use Rattle.std.specs.Prelude.{◌≡◌, ◌==◌, false, true, IsSome, None, option_map};
 ghost use Rattle.login_base.specs.declared.ids.HandleNo.{HandleNo as AnyHandle};
 ghost use Rattle.device_model.specs.Ears.{heard_of};
-ghost use Rattle.login_laws.specs.Hearing.{begins, drained, heard_behind, heard_event, is_turned};
-ghost use Rattle.login_core.specs.inner.Ears.{AreEnough, KeepsRings, ListenLive, ListenOn, begun_anew, deafened, heard_with, listened_to, ring_count, turned_by};
+ghost use Rattle.login_laws.specs.Hearing.{begins, drained, heard_event, is_turned};
+ghost use Rattle.login_core.specs.inner.Ears.{AreEnough, KeepsRings, ListenLive, ListenOn, begun_anew, deafened, heard_with, is_evdev, listened_to, of_evdev, ring_count, settled, turned_by};
 
 use device_model::DeviceModel;
 use device_revoke::DeviceRevoke;
 use login_base::{DevNo, HandleNo};
-use login_model::{Call, Event, Fact, Hardware, Inputs, Key, Mark, Owner, Verdict};
+use login_model::{Call, DevKind, Event, Fact, Hardware, Inputs, Key, Mark, Owner, Verdict};
 use login_table::Table;
 
 /// The handle that a mark makes live or dead.
@@ -85,21 +85,34 @@ fn deafen(devices: &mut DeviceModel, marks: &[Mark])
     }
 }
 
-/// The device to which a handle with this owner listens.
-fn listened_to(owner: &Fact) -> Option<DevNo>
-    ensures { result ≡ listened_to owner.now }
+/// Whether a fact is that of an input device, which alone can be read.
+fn is_evdev(fact: &Fact) -> bool
+    ensures { result ≡ is_evdev fact.now }
+{
+    matches!(fact, Fact::Device(DevKind::Evdev, _))
+}
+
+/// The device to which a handle with this owner listens, if it is an input device.
+fn listened_to(devices: &DeviceModel, owner: &Fact) -> Option<DevNo>
+    ensures { result ≡ listened_to devices.now.trail owner.now }
 {
     match owner {
-        Fact::Owned(Owner::Device(_, _, device)) => Some(*device),
+        Fact::Owned(Owner::Device(_, _, device)) => {
+            if is_evdev(devices.fact(&Key::Dev(*device))) {
+                Some(*device)
+            } else {
+                None
+            }
+        }
         _ => None,
     }
 }
 
-/// A live handle begins to listen to its device, unless it listens.
+/// A live handle of an input device begins to listen to it, unless it listens.
 fn begin_hearing(takes: &DeviceRevoke, devices: &mut DeviceModel, handle: HandleNo)
     requires live { ListenLive devices.old.ears takes.now.trail }
     requires enough { AreEnough (ring_count devices.old.ears devices.old.rings) takes.now.trail }
-    ensures own { heard_of devices.old.ears handle ≡ None → heard_of devices.new.ears handle ≡ begins takes.now.trail handle }
+    ensures own { heard_of devices.old.ears handle ≡ None → heard_of devices.new.ears handle ≡ of_evdev devices.old.trail (begins takes.now.trail handle) }
     ensures kept { IsSome (heard_of devices.old.ears handle) → heard_of devices.new.ears handle ≡ heard_of devices.old.ears handle }
     ensures others { (g : AnyHandle) → (g.0 == handle.0) ≡ false → heard_of devices.new.ears g ≡ heard_of devices.old.ears g }
     ensures keeps { KeepsRings devices.old devices.new }
@@ -107,17 +120,18 @@ fn begin_hearing(takes: &DeviceRevoke, devices: &mut DeviceModel, handle: Handle
     if devices.listens(handle) || !takes.fact(&Key::Live(handle)).is_set() {
         return;
     }
-    if let Some(device) = listened_to(takes.fact(&Key::Owner(handle))) {
+    if let Some(device) = listened_to(devices, takes.fact(&Key::Owner(handle))) {
         devices.listen(handle, device);
     }
 }
 
-/// Those of the handles that these marks make live or dead which are live now begin to listen anew.
+/// Those of the handles that these marks make live or dead which are live now, and of input devices, begin to listen
+/// anew.
 fn begin_anew(takes: &DeviceRevoke, devices: &mut DeviceModel, marks: &[Mark])
     requires deaf { (h : AnyHandle) → is_turned h marks.now ≡ true → heard_of devices.old.ears h ≡ None }
     requires live { ListenLive devices.old.ears takes.now.trail }
     requires enough { AreEnough (ring_count devices.old.ears devices.old.rings) takes.now.trail }
-    ensures heard { (h : AnyHandle) → heard_of devices.new.ears h ≡ begun_anew h marks.now takes.now.trail (heard_of devices.old.ears h) }
+    ensures heard { (h : AnyHandle) → heard_of devices.new.ears h ≡ begun_anew h marks.now takes.now.trail devices.old.trail (heard_of devices.old.ears h) }
     ensures keeps { KeepsRings devices.old devices.new }
 {
     for mark in marks {
@@ -128,7 +142,7 @@ fn begin_anew(takes: &DeviceRevoke, devices: &mut DeviceModel, marks: &[Mark])
 }
 
 /// What handles hear is settled behind the marks of an entry: each hears what a granted event brings, and those
-/// that the marks make live begin anew. What is read goes to `read`.
+/// of input devices that the marks make live begin anew. What is read goes to `read`.
 pub fn settle(
     takes: &DeviceRevoke,
     devices: &mut DeviceModel,
@@ -139,7 +153,7 @@ pub fn settle(
 )
     requires listen { ListenOn devices.old.ears marks.now takes.now.trail }
     requires enough { AreEnough (ring_count devices.old.ears devices.old.rings) takes.now.trail }
-    ensures heard { (h : AnyHandle) → heard_of devices.new.ears h ≡ heard_behind h event.now verdict marks.now takes.now.trail (heard_of devices.old.ears h) }
+    ensures heard { (h : AnyHandle) → heard_of devices.new.ears h ≡ settled h event.now verdict marks.now takes.now.trail devices.old.trail (heard_of devices.old.ears h) }
     ensures keeps { KeepsRings devices.old devices.new }
 {
     bring_granted(devices, event, verdict, read);

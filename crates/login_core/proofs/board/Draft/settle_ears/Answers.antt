@@ -2,9 +2,8 @@ use Rattle.std.proofs.Common.{◌≡◌, ◌∙◌, ap, sym, subst, List, arith}
 use Rattle.login_base.specs.declared.ids.HandleNo.{HandleNo}
 use Rattle.login_model.specs.declared.mark.Mark.{Mark}
 use Rattle.device_model.specs.Ears.{heard_of}
-use Rattle.login_laws.specs.Hearing.{heard_behind}
 use Rattle.login_core.specs.inner.Draft.{DraftState, with_ears}
-use Rattle.login_core.specs.inner.Ears.{AreEnough, ListenOn, ring_count}
+use Rattle.login_core.specs.inner.Ears.{AreEnough, ListenOn, ring_count, settled}
 use Rattle.login_core.specs.inner.UnderWay.{so_far}
 use Rattle.login_core.proofs.EarLaws.{enough-there, hear-there, listen-there}
 use Rattle.login_core.proofs.board.Draft.settle_ears.Goals as goal
@@ -42,7 +41,7 @@ pub returns-clause-heard : goal.returns-clause-heard
 returns-clause-heard c =
     let f = c.self.inside in
     let ears = c.settle_ears.new.self.ears in
-    let P : List Mark → Type 0 = λ ms. (h : HandleNo) → heard_of ears h ≡ heard_behind h c.args.event.now c.args.verdict ms f.facts.takes (heard_of f.facts.ears h) in
+    let P : List Mark → Type 0 = λ ms. (h : HandleNo) → heard_of ears h ≡ settled h c.args.event.now c.args.verdict ms f.facts.takes f.facts.devices (heard_of f.facts.ears h) in
     hear-there f.journal.value.items f.marks.items f.facts f.reach c.args.self.now ears c.args.event.now c.args.verdict c.self.view_is c.self.invariant.stands (subst P c.as_slice.ensures c.settle_ears.ensures.heard)
 
 pub returns-clause-rings : goal.returns-clause-rings

@@ -15,10 +15,9 @@ use Rattle.login_laws.proofs.SoundLaws.{sound-journal}
 use Rattle.login_laws.proofs.LawfulLaws.{granted-awaits, legal-is-lawful}
 use Rattle.device_model.specs.Ears.{heard_of}
 use Rattle.device_model.specs.declared.ears.Ear.{Ear}
-use Rattle.login_laws.specs.Hearing.{heard_behind}
 use Rattle.login_core.specs.inner.Board.{IsBegun}
 use Rattle.login_core.specs.inner.Draft.{DraftState, marked_by, with_ears}
-use Rattle.login_core.specs.inner.Ears.{AreEnough, ListenLive, ring_count}
+use Rattle.login_core.specs.inner.Ears.{AreEnough, ListenLive, ring_count, settled}
 use Rattle.login_core.specs.inner.Inside.{IsCore}
 use Rattle.login_core.specs.Kept.{HaveTexts}
 use Rattle.login_core.specs.inner.UnderWay.{so_far, entry_of}
@@ -134,7 +133,7 @@ steps U m d x ready a stop e v ms s h k made = record {
 
 -- what handles have heard behind it, after its marks were made and what is heard was settled
 hears-on : (U : Setup) (m n : Board) (p d : DraftState) (e : Event) (v : Verdict) (ms : List Mark) → IsBegun m → m.draft.trail ≡ trail_of m.journal.items → p ≡ marked_by (stepped U v e) m.draft → d ≡ with_ears d.ears d.rings p
-    → so_far m.journal.items ms ≡ d.trail → ((xs : List Mark) → after p.before xs ≡ p.trail → (h : HandleNo) → heard_of d.ears h ≡ heard_behind h e v xs p.trail (heard_of p.ears h))
+    → so_far m.journal.items ms ≡ d.trail → ((xs : List Mark) → after p.before xs ≡ p.trail → (h : HandleNo) → heard_of d.ears h ≡ settled h e v xs p.trail p.trail (heard_of p.ears h))
     → ring_count d.ears d.rings ≡ ring_count p.ears p.rings → n.draft.ears ≡ d.ears → n.draft.rings ≡ d.rings → HearsOn m n e v ms (stepped U v e (trail_of m.journal.items))
 hears-on U m n p d e v ms b none marked rest made heard rings ears_are rings_are =
     let before : p.before ≡ trail_of m.journal.items = ap (λ (x : DraftState). x.before) marked ∙ b.before in
@@ -143,8 +142,8 @@ hears-on U m n p d e v ms b none marked rest made heard rings ears_are rings_are
     record {
       heard = λ h. ap (λ (xs : List Ear). heard_of xs h) ears_are
           ∙ heard ms all h
-          ∙ ap (λ (t : Trail). heard_behind h e v ms t (heard_of p.ears h)) trail
-          ∙ ap (λ (x : DraftState). heard_behind h e v ms (stepped U v e (trail_of m.journal.items)) (heard_of x.ears h)) marked;
+          ∙ ap (λ (t : Trail). settled h e v ms t t (heard_of p.ears h)) trail
+          ∙ ap (λ (x : DraftState). let u = stepped U v e (trail_of m.journal.items) in settled h e v ms u u (heard_of x.ears h)) marked;
       rings = (λ i. ring_count (ears_are i) (rings_are i)) ∙ rings ∙ ap (λ (x : DraftState). ring_count x.ears x.rings) marked;
     }
 
