@@ -6,5 +6,6 @@ mod fronts;
 mod keys;
 mod kinds;
 mod locks;
+mod set_keys;
 mod shutdown;
 mod waiting;

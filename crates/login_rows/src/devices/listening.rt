@@ -353,23 +353,34 @@ fn the_last_inputs_are_kept(rt: HostRuntime) -> Result<(), Fail> {
     Ok(())
 }
 
-/// Two sessions have taken the device, which reports 65 inputs; then both read.
+/// Two sessions have taken the device, which reports 65 inputs and 70 more; the active one reads behind each, and
+/// then the other one.
 fn heard_by_one(alloc: Global) -> Result<Vec<u8>, NoMemory> {
     let front = [SESSIONS.lines.as_bytes(), TAKES.lines.as_bytes()];
     let mut text = joined(alloc, &front)?;
     input_lines(alloc, &mut text, 1, 65)?;
-    text.extend_from_slice(b"call 2 4 read 4\ncall 3 4 read 6\nend\n")?;
+    text.extend_from_slice(b"call 2 4 read 4\n")?;
+    input_lines(alloc, &mut text, 66, 135)?;
+    text.extend_from_slice(b"call 2 5 read 4\ncall 3 4 read 6\nend\n")?;
     Ok(text)
 }
 
-/// Its transcript: the active session reads the last 64, and the other one nothing.
+/// Adds the blocks of 65 inputs and of a read, and of 70 more and of another.
+fn read_twice(alloc: Global, text: &mut Vec<u8>) -> Result<(), NoMemory> {
+    input_blocks(alloc, text, 1, 65, 13)?;
+    text.extend_from_slice(b"79 call 2 4 read 4\n")?;
+    heard(alloc, text, 2, 65)?;
+    input_blocks(alloc, text, 66, 135, 14)?;
+    text.extend_from_slice(b"150 call 2 5 read 4\n")?;
+    heard(alloc, text, 72, 135)
+}
+
+/// Its transcript: the active session reads the last 64 each time, and the other one nothing.
 fn told_to_one(alloc: Global) -> Result<Vec<u8>, NoMemory> {
     let front = [SESSIONS.blocks.as_bytes(), TAKES.blocks.as_bytes()];
     let mut text = joined(alloc, &front)?;
-    input_blocks(alloc, &mut text, 1, 65, 13)?;
-    text.extend_from_slice(b"79 call 2 4 read 4\n")?;
-    heard(alloc, &mut text, 2, 65)?;
-    text.extend_from_slice(b"80 call 3 4 read 6\n denied P27 not-live\nend 80\n")?;
+    read_twice(alloc, &mut text)?;
+    text.extend_from_slice(b"151 call 3 4 read 6\n denied P27 not-live\nend 151\n")?;
     Ok(text)
 }
 

@@ -2,18 +2,24 @@
 
 use crate::running::{Front, Piece};
 
-/// Alice has the session that is active on seat0, of which handle 1 is the fifo.
-pub const ALICE: Piece = Piece {
+/// The setup with Alice, who is a user of the machine.
+pub const ALONE: Piece = Piece {
     lines: "\
 login-recording 1
 user 1000 1000 alice
 go
+",
+    blocks: "login-transcript 1\n",
+};
+
+/// Alice has the session that is active on seat0, of which handle 1 is the fifo.
+pub const ALICE: Piece = Piece {
+    lines: "\
 connect 1 0
 connect 2 1000
 call 1 1 create 1000 2 login tty user % seat0 1 tty1 % false % %
 ",
     blocks: "\
-login-transcript 1
 1 connect 1 0
  granted
  set conn 1 0
@@ -31,7 +37,7 @@ login-transcript 1
 ",
 };
 
-/// The same, and Bob's connection, which has no session.
+/// The setup with Alice and Bob; Alice has that session, and Bob a connection and no session.
 pub const ALICE_AND_BOB: Piece = Piece {
     lines: "\
 login-recording 1

@@ -1,6 +1,6 @@
 // Keys and the lid, with the default configuration.
 
-use super::fronts::ALICE;
+use super::fronts::{ALICE, ALONE};
 use crate::running::{Piece, accept_pieces};
 use std::test::Fail;
 
@@ -322,25 +322,25 @@ fn keys_bring_about_operations(rt: HostRuntime) -> Result<(), Fail> {
 
 #[test]
 fn a_lock_holds_the_power_key(rt: HostRuntime) -> Result<(), Fail> {
-    accept_pieces(&rt, rt.alloc(), &[ALICE, POWER_KEY_HELD])
+    accept_pieces(&rt, rt.alloc(), &[ALONE, ALICE, POWER_KEY_HELD])
 }
 
 #[test]
 fn a_lock_holds_each_key(rt: HostRuntime) -> Result<(), Fail> {
-    accept_pieces(&rt, rt.alloc(), &[ALICE, KEYS_HELD])
+    accept_pieces(&rt, rt.alloc(), &[ALONE, ALICE, KEYS_HELD])
 }
 
 #[test]
 fn a_lock_holds_its_own_key(rt: HostRuntime) -> Result<(), Fail> {
-    accept_pieces(&rt, rt.alloc(), &[ALICE, OWN_KEY])
+    accept_pieces(&rt, rt.alloc(), &[ALONE, ALICE, OWN_KEY])
 }
 
 #[test]
 fn the_lid_passes_locks(rt: HostRuntime) -> Result<(), Fail> {
-    accept_pieces(&rt, rt.alloc(), &[ALICE, KEYS_BLOCKED])
+    accept_pieces(&rt, rt.alloc(), &[ALONE, ALICE, KEYS_BLOCKED])
 }
 
 #[test]
 fn a_lock_delays_the_lid(rt: HostRuntime) -> Result<(), Fail> {
-    accept_pieces(&rt, rt.alloc(), &[ALICE, KEYS_WAIT])
+    accept_pieces(&rt, rt.alloc(), &[ALONE, ALICE, KEYS_WAIT])
 }

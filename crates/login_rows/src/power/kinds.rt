@@ -1,6 +1,6 @@
 // Each kind of operation, and the locks that delay or block it.
 
-use super::fronts::ALICE;
+use super::fronts::{ALICE, ALONE};
 use crate::running::{Piece, accept_pieces};
 use std::test::Fail;
 
@@ -349,25 +349,25 @@ end 8
 
 #[test]
 fn a_lock_on_shutdown_delays(rt: HostRuntime) -> Result<(), Fail> {
-    accept_pieces(&rt, rt.alloc(), &[ALICE, SHUTDOWN_DELAYED])
+    accept_pieces(&rt, rt.alloc(), &[ALONE, ALICE, SHUTDOWN_DELAYED])
 }
 
 #[test]
 fn a_lock_on_sleep_delays(rt: HostRuntime) -> Result<(), Fail> {
-    accept_pieces(&rt, rt.alloc(), &[ALICE, SLEEP_DELAYED])
+    accept_pieces(&rt, rt.alloc(), &[ALONE, ALICE, SLEEP_DELAYED])
 }
 
 #[test]
 fn locks_block(rt: HostRuntime) -> Result<(), Fail> {
-    accept_pieces(&rt, rt.alloc(), &[ALICE, BLOCKED])
+    accept_pieces(&rt, rt.alloc(), &[ALONE, ALICE, BLOCKED])
 }
 
 #[test]
 fn root_passes_a_lock(rt: HostRuntime) -> Result<(), Fail> {
-    accept_pieces(&rt, rt.alloc(), &[ALICE, PASSED])
+    accept_pieces(&rt, rt.alloc(), &[ALONE, ALICE, PASSED])
 }
 
 #[test]
 fn a_lock_delays_root(rt: HostRuntime) -> Result<(), Fail> {
-    accept_pieces(&rt, rt.alloc(), &[ALICE, PASSED_AND_DELAYED])
+    accept_pieces(&rt, rt.alloc(), &[ALONE, ALICE, PASSED_AND_DELAYED])
 }

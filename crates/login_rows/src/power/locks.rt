@@ -1,6 +1,6 @@
 // Inhibitor locks: what they can be asked for, by whom, when, and how they are listed.
 
-use super::fronts::{ALICE, ALICE_AND_BOB, with_bob};
+use super::fronts::{ALICE, ALICE_AND_BOB, ALONE, with_bob};
 use crate::running::{Piece, accept_pieces, answer};
 use std::test::Fail;
 
@@ -328,12 +328,12 @@ const ACTIONS: [(&str, &str); 12] = [
 
 #[test]
 fn locks_are_offered(rt: HostRuntime) -> Result<(), Fail> {
-    accept_pieces(&rt, rt.alloc(), &[ALICE, OFFERED])
+    accept_pieces(&rt, rt.alloc(), &[ALONE, ALICE, OFFERED])
 }
 
 #[test]
 fn locks_are_listed(rt: HostRuntime) -> Result<(), Fail> {
-    accept_pieces(&rt, rt.alloc(), &[ALICE, WORDS])
+    accept_pieces(&rt, rt.alloc(), &[ALONE, ALICE, WORDS])
 }
 
 #[test]

@@ -1,6 +1,6 @@
 // Operations that locks delay: how long they wait, and what ends the delay.
 
-use super::fronts::ALICE;
+use super::fronts::{ALICE, ALONE};
 use crate::devices::fronts::{ASKS, SESSIONS, TAKES};
 use crate::running::{Piece, accept_pieces};
 use std::test::Fail;
@@ -330,37 +330,37 @@ end 17
 
 #[test]
 fn a_delay_ends_at_its_limit(rt: HostRuntime) -> Result<(), Fail> {
-    accept_pieces(&rt, rt.alloc(), &[ALICE, LIMIT])
+    accept_pieces(&rt, rt.alloc(), &[ALONE, ALICE, LIMIT])
 }
 
 #[test]
 fn a_delay_ends_as_its_lock_is_closed(rt: HostRuntime) -> Result<(), Fail> {
-    accept_pieces(&rt, rt.alloc(), &[ALICE, CLOSED])
+    accept_pieces(&rt, rt.alloc(), &[ALONE, ALICE, CLOSED])
 }
 
 #[test]
 fn a_delay_counts_from_when_it_was_asked_for(rt: HostRuntime) -> Result<(), Fail> {
-    accept_pieces(&rt, rt.alloc(), &[ALICE, LATER])
+    accept_pieces(&rt, rt.alloc(), &[ALONE, ALICE, LATER])
 }
 
 #[test]
 fn a_delay_ends_as_its_link_ends(rt: HostRuntime) -> Result<(), Fail> {
-    accept_pieces(&rt, rt.alloc(), &[ALICE, LINK_ENDED])
+    accept_pieces(&rt, rt.alloc(), &[ALONE, ALICE, LINK_ENDED])
 }
 
 #[test]
 fn a_delay_lasts_while_a_lock_is_left(rt: HostRuntime) -> Result<(), Fail> {
-    accept_pieces(&rt, rt.alloc(), &[ALICE, TWO_LOCKS])
+    accept_pieces(&rt, rt.alloc(), &[ALONE, ALICE, TWO_LOCKS])
 }
 
 #[test]
 fn a_delay_ends_behind_the_stop(rt: HostRuntime) -> Result<(), Fail> {
-    accept_pieces(&rt, rt.alloc(), &[ALICE, STOPPED])
+    accept_pieces(&rt, rt.alloc(), &[ALONE, ALICE, STOPPED])
 }
 
 #[test]
 fn only_what_runs_is_done(rt: HostRuntime) -> Result<(), Fail> {
-    accept_pieces(&rt, rt.alloc(), &[ALICE, DONE])
+    accept_pieces(&rt, rt.alloc(), &[ALONE, ALICE, DONE])
 }
 
 #[test]
