@@ -78,7 +78,19 @@ const DISTRIBUTED: [&str; 2] = [
     "login-recording 1\n\
      conf #  This file is part of systemd.\n\
      conf #\n\
-     conf #  Entries in this file show the compile time defaults.\n\
+     conf #  systemd is free software; you can redistribute it and/or modify it under the\n\
+     conf #  terms of the GNU Lesser General Public License as published by the Free\n\
+     conf #  Software Foundation; either version 2.1 of the License, or (at your option)\n\
+     conf #  any later version.\n\
+     conf #\n\
+     conf # Entries in this file show the compile time defaults. Local configuration\n\
+     conf # should be created by either modifying this file, or by creating \"drop-ins\" in\n\
+     conf # the logind.conf.d/ subdirectory. The latter is generally recommended.\n\
+     conf # Defaults can be restored by simply deleting this file and all drop-ins.\n\
+     conf #\n\
+     conf # Use 'systemd-analyze cat-config systemd/logind.conf' to display the full config.\n\
+     conf #\n\
+     conf # See logind.conf(5) for details.\n\
      conf\n\
      conf [Login]\n\
      conf #NAutoVTs=6\n\
@@ -118,7 +130,19 @@ const DISTRIBUTED: [&str; 2] = [
     "login-recording 1\n\
      conf #  This file is part of systemd.\n\
      conf #\n\
-     conf #  Entries in this file show the compile time defaults.\n\
+     conf #  systemd is free software; you can redistribute it and/or modify it under the\n\
+     conf #  terms of the GNU Lesser General Public License as published by the Free\n\
+     conf #  Software Foundation; either version 2.1 of the License, or (at your option)\n\
+     conf #  any later version.\n\
+     conf #\n\
+     conf # Entries in this file show the compile time defaults. Local configuration\n\
+     conf # should be created by either modifying this file, or by creating \"drop-ins\" in\n\
+     conf # the logind.conf.d/ subdirectory. The latter is generally recommended.\n\
+     conf # Defaults can be restored by simply deleting this file and all drop-ins.\n\
+     conf #\n\
+     conf # Use 'systemd-analyze cat-config systemd/logind.conf' to display the full config.\n\
+     conf #\n\
+     conf # See logind.conf(5) for details.\n\
      conf\n\
      conf [Login]\n\
      conf NAutoVTs=6\n\
