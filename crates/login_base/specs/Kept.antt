@@ -1,11 +1,13 @@
--- A text in an array of 255 bytes, with zeros behind it.
-use Rattle.std.specs.Prelude.{ℕ, ◌≡◌, ◌≤◌, ◌-◌, ◌++◌, List, length, drop, take, replicate}
+-- A seat's name in an array of 255 bytes, with zeros behind it.
+use Rattle.std.specs.Prelude.{ℕ, ◌≡◌, ◌≤◌, ◌-◌, ◌++◌, true, List, length, drop, take, replicate}
 use Rattle.std.proofs.Common.{arith, ap, sym, ◌∙◌, length-take-le, take-append-drop}
+use Rattle.login_base.specs.Seat.{is_seat_name}
 
 pub record Kept (size : ℕ) (bytes : List ℕ) : Type 0 where
   pub fits : size ≤ 255
   pub full : length bytes ≡ 255
   pub zeros : drop size bytes ≡ replicate (255 - size) 0
+  pub named : is_seat_name (take size bytes) ≡ true
 
 pub length_of_kept : (size : ℕ) (bytes : List ℕ) → Kept size bytes → length (take size bytes) ≡ size
 length_of_kept size bytes h = length-take-le size bytes (omega (arith, h.fits, h.full))

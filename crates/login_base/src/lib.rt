@@ -23,6 +23,3 @@ pub use number::read_number;
 pub use reserved::Reserved;
 pub use seat_name::{SeatFault, SeatName};
 pub use word::Word;
-
-#[cfg(test)]
-mod tests;

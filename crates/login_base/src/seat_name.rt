@@ -1,6 +1,6 @@
 // Names of seats, kept in place.
 
-ghost use Rattle.std.specs.Prelude.{◌≡◌, ◌↔◌, ◌≤◌, length, IsTrue, IsOk, IfOk, codes, replicate, ◌++◌, ◌-◌};
+ghost use Rattle.std.specs.Prelude.{◌≡◌, ◌↔◌, ◌≤◌, true, length, IsTrue, IsOk, IfOk, codes, replicate, ◌++◌, ◌-◌};
 ghost use Rattle.login_base.specs.Seat.{seat0, is_seat_name, is_seat_byte};
 ghost use Rattle.std.specs.List.{list_all};
 ghost use Rattle.std.specs.Str.{bytes_eq};
@@ -115,6 +115,13 @@ impl SeatName {
             size: text.len(),
             bytes: padded(text),
         })
+    }
+
+    /// Tells that it is a seat's name, as each is. It does nothing.
+    pub fn tell_name(&self)
+        ensures { is_seat_name self.now ≡ true }
+    {
+        let _ = &self.size;
     }
 
     /// The name as one element of an object path.

@@ -6,4 +6,5 @@ pub mod Keys
 pub mod Settings
 pub mod Sayings
 pub mod Reading
+pub mod Allowed
 pub mod inner

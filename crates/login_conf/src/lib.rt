@@ -4,6 +4,7 @@
 mod cut;
 mod diagnostic;
 mod key;
+mod law;
 mod reader;
 mod saying;
 mod setting;
@@ -11,6 +12,7 @@ mod span;
 mod value;
 
 pub use diagnostic::{Cause, Diagnostic};
+pub use law::confs_are_allowed;
 pub use reader::read_conf;
 
 #[cfg(test)]

@@ -22,7 +22,7 @@ front-after : (U : Setup) (past before later : List Entry) → IsLegalAfter U pa
 front-after U past [] later l = tt
 front-after U past (x ∷ xs) later l = (l.0, front-after U (past ++ x ∷ []) xs later l.1)
 
-front : (U : Setup) (journal before later : List Entry) → journal ≡ before ++ later → IsLegal U journal → IsLegal U before
+pub front : (U : Setup) (journal before later : List Entry) → journal ≡ before ++ later → IsLegal U journal → IsLegal U before
 front U journal before later e l = (let P : List Entry → Type 0 = IsLegal U in front-after U [] before later (subst P e l))
 
 -- and so is each entry, behind those before it

@@ -52,3 +52,8 @@ pub mod PayingMoves
 pub mod NeedLaws
 pub mod ProcedureMarks
 pub mod EventMarks
+pub mod NamedMarks
+pub mod NamedCounts
+pub mod NamedLimits
+pub mod NamedSessions
+pub mod NamedLaws

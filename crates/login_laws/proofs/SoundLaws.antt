@@ -93,7 +93,7 @@ at-some (Some s) f rules t n d g = d s n
 there-given : (s : SessId) (t : Trail) → is_session_fact (value t (key.Sess s)) ≡ true → Good none_out t → s.0 < fresh_session t
 there-given s t e g = session-given (key.Sess s) s t g.unused refl (λ z. (let c : is_session_fact fact.Absent ≡ true = ap is_session_fact (sym z) ∙ e in cc))
 
-none-behind : (rs qs : List (Option Rule)) → NoneBroken (rs ++ qs) → NoneBroken qs
+pub none-behind : (rs qs : List (Option Rule)) → NoneBroken (rs ++ qs) → NoneBroken qs
 none-behind [] qs n = n
 none-behind (r ∷ rs) qs n = none-behind rs qs n.1
 

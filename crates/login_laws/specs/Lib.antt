@@ -7,6 +7,7 @@ pub mod Guarded
 pub mod Switched
 pub mod Powered
 pub mod Lawful
+pub mod Named
 pub mod Need
 pub mod Few
 pub mod Left

@@ -5,6 +5,7 @@ ghost use Rattle.login_laws.specs.Handles.{NextHandleIsLeastFree};
 ghost use Rattle.login_laws.specs.Hearing.{HearingGoesOn, ReadsAreHeard};
 ghost use Rattle.login_laws.specs.Lawful.{LegalIsLawful};
 ghost use Rattle.login_laws.specs.Left.{HandlesAreLeft};
+ghost use Rattle.login_laws.specs.Named.{LegalIsNamed};
 ghost use Rattle.login_laws.specs.Need.{RoomIsKept};
 ghost use Rattle.login_laws.specs.OneJournal.{OneJournal};
 ghost use Rattle.login_laws.specs.Withdrawing.{WithdrawsEach};
@@ -60,4 +61,10 @@ pub fn handles_are_left()
 /// marks and takes none, and the stop makes none.
 pub fn room_is_kept()
     ensures { (U : Setup) → RoomIsKept U }
+{}
+
+/// In every legal journal seats have seats' names, users are those of the setup, and who asked for a lock and why
+/// are texts; and of sessions, locks, seats and users there are no more than may be.
+pub fn legal_is_named()
+    ensures { LegalIsNamed }
 {}

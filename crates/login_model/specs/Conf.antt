@@ -1,9 +1,10 @@
 -- The configuration (logind.conf(5)).
-use Rattle.std.specs.Prelude.{ℕ, ◌*◌, true, false}
+use Rattle.std.specs.Prelude.{ℕ, ◌*◌, ◌≤◌, true, false}
 use Rattle.login_base.specs.declared.ids.Millis.{Millis}
 use Rattle.login_model.specs.declared.operation.OpKind.TheVariants.{PowerOff, Suspend, Hibernate}
 use Rattle.login_model.specs.declared.conf.KeyAction.TheVariants.{Ignore, Operation}
 use Rattle.login_model.specs.declared.conf.Conf.{Conf}
+use Rattle.login_model.specs.Limits.{allowed_limit}
 
 abbrev pub seconds : ℕ → Millis
 seconds n = record { 0 = n * 1000 }
@@ -28,3 +29,8 @@ default_conf = record {
   hibernate_key_ignore_inhibited = false;
   lid_switch_ignore_inhibited = true;
 }
+
+-- it lets there be no more sessions and no more locks than any may
+pub record IsAllowed (conf : Conf) : Type 0 where
+  pub sessions : conf.sessions_max ≤ allowed_limit
+  pub inhibitors : conf.inhibitors_max ≤ allowed_limit

@@ -12,7 +12,7 @@ use Rattle.login_model.specs.declared.answer.Answer.TheVariants.{Nothing}
 use Rattle.login_model.specs.declared.mark.Entry.{Entry}
 use Rattle.login_model.specs.Trail.{Trail, after}
 pub use Rattle.login_model.specs.Marks.{after_all, trail_of}
-use Rattle.login_model.specs.Texts.{IsText, texts, has_object, hardware_texts}
+use Rattle.login_model.specs.Texts.{IsText, texts, has_object, hardware_texts, has_seat_name}
 use Rattle.login_model.specs.Where.{is_connected}
 use Rattle.login_model.specs.Policy.{verdict}
 use Rattle.login_model.specs.Direct.{direct}
@@ -33,12 +33,13 @@ IsUnused c before = AllByRecursion (λ (e : Entry). connects c e.event → ⊥) 
 
 -- what an event names is as it must be: a connect of a number above 0 that no earlier connect had; a disconnect or
 -- a call, numbered from 1, of a connected client; each text of a call or an exit is UTF-8 without NUL of at
--- most 512 bytes, and the path of a property's call is that of an object with properties
+-- most 512 bytes, the path of a property's call is that of an object with properties, and the seat of a device that
+-- is added has a seat's name
 abbrev pub Fits : List Entry → Event → Type 0
 Fits before (Connect c u) = (0 < c.0) × IsUnused c before
 Fits before (Disconnect c) = is_connected (trail_of before) c ≡ true
 Fits before (Calls r) = (is_connected (trail_of before) r.who ≡ true) × (0 < r.serial) × AllByRecursion (IsText text_limit) (texts r.call) × (has_object r.call ≡ true)
-Fits before (Hardware x) = AllByRecursion (IsText text_limit) (hardware_texts x)
+Fits before (Hardware x) = AllByRecursion (IsText text_limit) (hardware_texts x) × (has_seat_name x ≡ true)
 Fits before (Tick m) = Unit {0}
 Fits before Stop = Unit {0}
 

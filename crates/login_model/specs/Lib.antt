@@ -11,6 +11,7 @@ pub mod Where
 pub mod Devices
 pub mod Action
 pub mod Words
+pub mod RuleWords
 pub mod Table
 pub mod Conf
 pub mod Standing

@@ -27,6 +27,10 @@ inputs_limit = 64
 abbrev pub users_limit : ℕ
 users_limit = 1024
 
+-- the sessions and the locks that a configuration lets there be
+abbrev pub allowed_limit : ℕ
+allowed_limit = 32768
+
 -- the bytes of a text of an event, and of a user's name
 abbrev pub text_limit : ℕ
 text_limit = 512

@@ -1,10 +1,11 @@
--- The texts of calls and of hardware events.
+-- The texts of calls and of hardware events, and the seat that one names.
 use Rattle.std.specs.Prelude.{ℕ, ◌≢◌, ◌≤◌, Bool, true, List, [], ◌∷◌, length, IsUtf8}
 use Rattle.std.specs.List.{AllByRecursion}
+use Rattle.login_base.specs.Seat.{is_seat_name}
 use Rattle.login_model.specs.declared.call.Call.{Call}
 use Rattle.login_model.specs.declared.call.Call.TheVariants as call
 use Rattle.login_model.specs.declared.hardware.Hardware.{Hardware}
-use Rattle.login_model.specs.declared.hardware.Hardware.TheVariants.{Exit}
+use Rattle.login_model.specs.declared.hardware.Hardware.TheVariants.{Add, Exit}
 use Rattle.login_model.specs.Objects.{is_object}
 
 -- UTF-8 without NUL, at most so long
@@ -48,6 +49,11 @@ texts _ = []
 abbrev pub hardware_texts : Hardware → List (List ℕ)
 hardware_texts (Exit id) = id ∷ []
 hardware_texts _ = []
+
+-- whether the seat of a device that is added has a seat's name; other hardware events name no seat
+abbrev pub has_seat_name : Hardware → Bool
+has_seat_name (Add d kind seat) = is_seat_name seat
+has_seat_name _ = true
 
 -- whether the path of a property's call is that of an object with properties; other calls have no path
 abbrev pub has_object : Call → Bool
