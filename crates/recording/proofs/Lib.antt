@@ -6,6 +6,7 @@ pub mod Causes
 pub mod Chains
 pub mod Grammar
 pub mod Hexes
+pub mod HexPieces
 pub mod Joins
 pub mod Kept
 pub mod Lengths

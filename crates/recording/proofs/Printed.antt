@@ -11,7 +11,7 @@ use Rattle.login_model.specs.declared.mark.Mark.TheVariants.{Set, Say}
 use Rattle.login_model.specs.declared.mark.Entry.{Entry}
 use Rattle.recording.specs.Lines.{event_words}
 use Rattle.recording.specs.MarkWords.{key_words, fact_words, notice_words, mark_words}
-use Rattle.recording.specs.RuleWords.{rule_words}
+use Rattle.login_model.specs.RuleWords.{rule_words}
 use Rattle.recording.specs.AnswerWords.{answer_words}
 use Rattle.recording.specs.Print.{verdict_words, indented, block}
 use Rattle.recording.specs.inner.Spaced.{spaced}

@@ -106,30 +106,32 @@ IsWorded (Conf text) = ⊥
 IsWorded (Action text) = ⊥
 IsWorded _ = Unit {0}
 
-line_AreWords : (line : Line) → IsLine line → IsWorded line → AreWords (fields line)
+line_AreWords : (line : Line) → IsWritten line → IsWorded line → AreWords (fields line)
 line_AreWords (Header version) h w = (search rules, (number_IsWord version (omega (arith, h)), tt))
 line_AreWords (Guid guid) h w = (search rules, (guid_IsWord guid h, tt))
 line_AreWords (User u) h w = (search rules, (number_IsWord u.uid.0 h.1, (number_IsWord u.gid h.2, (spell_text_IsWord u.name, tt))))
 line_AreWords Go h w = search rules
-line_AreWords (EventLine e) h w = event_AreWords e (event_written e h.fits)
+line_AreWords (EventLine e) h w = event_AreWords e h
+line_AreWords (Link c u) h w = (search rules, (number_IsWord c.0 h.1, (number_IsWord u.0 h.2, tt)))
+line_AreWords (In c bytes) h w = (search rules, (number_IsWord c.0 h.1, (hex_IsWord bytes, tt)))
+line_AreWords (Hangup c) h w = (search rules, (number_IsWord c.0 h.1, tt))
 line_AreWords End h w = search rules
 line_AreWords (Conf text) h w = absurd w
 line_AreWords (Action text) h w = absurd w
-line_AreWords _ h w = absurd h
 
 -- the text of a line is cut into its parts
 pub slice_split-fields : (line : Line) → IsWritten line → slice_split (λ b. eqb b 32) (join_with_byte 32 (fields line)) ≡ parts line
 slice_split-fields (Header version) h = split_words _ (omega arith) (line_AreWords (Header version) h tt)
-slice_split-fields (Guid guid) h = split_words (fields (Guid guid)) (omega arith) (search rules, (guid_IsWord guid h, tt))
+slice_split-fields (Guid guid) h = split_words _ (omega arith) (line_AreWords (Guid guid) h tt)
 slice_split-fields (User u) h = split_words _ (omega arith) (line_AreWords (User u) h tt)
 slice_split-fields (Conf []) h = split_words (fields (Conf [])) (omega arith) (search rules)
 slice_split-fields (Conf (b ∷ bs)) h = behind_conf (b ∷ bs)
 slice_split-fields (Action text) h = behind_action text
 slice_split-fields Go h = split_words _ (omega arith) (line_AreWords Go h tt)
 slice_split-fields (EventLine e) h = split_words (event_words e) (event_some e) (event_AreWords e h)
-slice_split-fields (Link c u) h = split_words (fields (Link c u)) (omega arith) (search rules, (number_IsWord c.0 h.1, (number_IsWord u.0 h.2, tt)))
-slice_split-fields (In c bytes) h = split_words (fields (In c bytes)) (omega arith) (search rules, (number_IsWord c.0 h.1, (hex_IsWord bytes, tt)))
-slice_split-fields (Hangup c) h = split_words (fields (Hangup c)) (omega arith) (search rules, (number_IsWord c.0 h.1, tt))
+slice_split-fields (Link c u) h = split_words _ (omega arith) (line_AreWords (Link c u) h tt)
+slice_split-fields (In c bytes) h = split_words _ (omega arith) (line_AreWords (In c bytes) h tt)
+slice_split-fields (Hangup c) h = split_words _ (omega arith) (line_AreWords (Hangup c) h tt)
 slice_split-fields End h = split_words _ (omega arith) (line_AreWords End h tt)
 
 -- a text before a line feed is spelled so only by the line that its words say
@@ -147,8 +149,10 @@ line_written (Conf text) h = h.0
 line_written (Action text) h = (h.0, h.1)
 line_written Go h = tt
 line_written (EventLine e) h = event_written e h.fits
+line_written (Link c u) h = h
+line_written (In c bytes) h = (h.0, h.1, h.2, h.3)
+line_written (Hangup c) h = h
 line_written End h = tt
-line_written _ h = absurd h
 
 no_feed_in : (w : List ℕ) (rest : List ℕ) → IsWord w → NoLineFeed rest → NoLineFeed (w ++ rest)
 no_feed_in [] rest h k = k
@@ -177,9 +181,9 @@ written_no_feed (Conf (b ∷ bs)) h = no_feed_in (codes "conf") (32 ∷ b ∷ bs
 written_no_feed (Action text) h = no_feed_in (codes "action") (32 ∷ text) (search rules) (λ e. omega (arith, e), raw_no_feed text h.0)
 written_no_feed Go h = no_feed_join (fields Go) (line_AreWords Go h tt)
 written_no_feed (EventLine e) h = no_feed_join (event_words e) (event_AreWords e h)
-written_no_feed (Link c u) h = no_feed_join (fields (Link c u)) (search rules, (number_IsWord c.0 h.1, (number_IsWord u.0 h.2, tt)))
-written_no_feed (In c bytes) h = no_feed_join (fields (In c bytes)) (search rules, (number_IsWord c.0 h.1, (hex_IsWord bytes, tt)))
-written_no_feed (Hangup c) h = no_feed_join (fields (Hangup c)) (search rules, (number_IsWord c.0 h.1, tt))
+written_no_feed (Link c u) h = no_feed_join (fields (Link c u)) (line_AreWords (Link c u) h tt)
+written_no_feed (In c bytes) h = no_feed_join (fields (In c bytes)) (line_AreWords (In c bytes) h tt)
+written_no_feed (Hangup c) h = no_feed_join (fields (Hangup c)) (line_AreWords (Hangup c) h tt)
 written_no_feed End h = no_feed_join (fields End) (line_AreWords End h tt)
 
 moment_short : (n : ℕ) → n < 2 ^ 64 → length (decimal n) ≤ 20
@@ -235,38 +239,49 @@ event_short Stop b f = omega arith
 guid_long : (guid : List ℕ) → eqb (length guid) 32 ≡ true → length guid ≡ 32
 guid_long guid e = grind (arith, nat_tests)
 
-fields_short : (line : Line) → IsLine line → IsWorded line → size (fields line) ≤ 16100
-fields_short (Header version) h w = let a = decimal_short version (omega (arith, h)) in omega arith
-fields_short (Guid guid) h w = let a = guid_long guid (both _ _ h).0 in omega arith
-fields_short (User u) h w =
+-- a line that is short since its values are: no other bound of its length is stated
+abbrev IsMeasured : Line → Type 0
+IsMeasured (Conf text) = ⊥
+IsMeasured (Action text) = ⊥
+IsMeasured (In c bytes) = ⊥
+IsMeasured _ = Unit {0}
+
+fields_short : (line : Line) → IsLine line → IsMeasured line → size (fields line) ≤ 16100
+fields_short (Header version) h m = let a = decimal_short version (omega (arith, h)) in omega arith
+fields_short (Guid guid) h m = let a = guid_long guid (both _ _ h).0 in omega arith
+fields_short (User u) h m =
     let a = decimal_short u.uid.0 h.1 in
     let b = decimal_short u.gid h.2 in
     let c = spell_text_short 255 u.name h.3 in
     omega arith
-fields_short Go h w = omega arith
-fields_short (EventLine e) h w = event_short e h.built h.fits
-fields_short End h w = omega arith
-fields_short (Conf text) h w = absurd w
-fields_short (Action text) h w = absurd w
-fields_short _ h w = absurd h
+fields_short Go h m = omega arith
+fields_short (EventLine e) h m = event_short e h.built h.fits
+fields_short (Link c u) h m = let a = decimal_short c.0 h.1 in let b = decimal_short u.0 h.2 in omega arith
+fields_short (Hangup c) h m = let a = decimal_short c.0 h.1 in omega arith
+fields_short End h m = omega arith
+fields_short (Conf text) h m = absurd m
+fields_short (Action text) h m = absurd m
+fields_short (In c bytes) h m = absurd m
 
-worded_short : (line : Line) → IsLine line → IsWorded line → length (spell line) ≤ 16385
-worded_short line h w =
+measured_short : (line : Line) → IsLine line → IsMeasured line → length (spell line) ≤ 16385
+measured_short line h m =
     let a = join_short (fields line) in
-    let b = fields_short line h w in
+    let b = fields_short line h m in
     simp length-append (omega arith)
 
 -- a line fits where 16385 bytes do
 pub spell_short : (line : Line) → IsLine line → length (spell line) ≤ 16385
 spell_short (Conf text) h = h.1
 spell_short (Action text) h = h.2
-spell_short (Header version) h = worded_short (Header version) h tt
-spell_short (Guid guid) h = worded_short (Guid guid) h tt
-spell_short (User u) h = worded_short (User u) h tt
-spell_short Go h = worded_short Go h tt
-spell_short (EventLine e) h = worded_short (EventLine e) h tt
-spell_short End h = worded_short End h tt
-spell_short _ h = absurd h
+spell_short (In c bytes) h = h.4
+spell_short (Header version) h = measured_short (Header version) h tt
+spell_short (Guid guid) h = measured_short (Guid guid) h tt
+spell_short (User u) h = measured_short (User u) h tt
+spell_short Go h = measured_short Go h tt
+spell_short (EventLine e) h = measured_short (EventLine e) h tt
+spell_short (Link c u) h = measured_short (Link c u) h tt
+spell_short (Hangup c) h = measured_short (Hangup c) h tt
+spell_short End h = measured_short End h tt
 
 -- so does one that is spelled
 pub spells_short : (line : Line) (bytes : List ℕ) → Spells line bytes → length (spell line) ≤ 16385
@@ -296,8 +311,10 @@ line_meant (Conf text) w b short = (w, short)
 line_meant (Action text) w b short = (w.0, w.1, short)
 line_meant Go w b short = tt
 line_meant (EventLine e) w b short = meant_line e w b
+line_meant (Link c u) w b short = w
+line_meant (In c bytes) w b short = (w.0, w.1, w.2, w.3, short)
+line_meant (Hangup c) w b short = w
 line_meant End w b short = tt
-line_meant _ w b short = cc
 
 -- a line of a recording means itself, and it is built
 pub line_means : (line : Line) → IsLine line → meant line ≡ line
@@ -307,14 +324,8 @@ line_means _ h = refl
 
 pub line_built : (line : Line) → IsLine line → is_built_line line ≡ true
 line_built (Header version) h = refl
-line_built (Guid guid) h = refl
-line_built (User u) h = refl
-line_built (Conf text) h = refl
-line_built (Action text) h = refl
-line_built Go h = refl
 line_built (EventLine e) h = h.built
-line_built End h = refl
-line_built _ h = absurd h
+line_built _ h = refl
 
 -- the spelling of a line of a recording is read as it
 pub line_reads : (line : Line) → IsLine line → IsReadAs (spell line) line

@@ -16,6 +16,5 @@ pub mod Causes
 pub mod inner
 pub mod Grammar
 pub mod MarkWords
-pub mod RuleWords
 pub mod AnswerWords
 pub mod Print

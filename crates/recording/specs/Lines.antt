@@ -44,8 +44,8 @@ pub record IsEventLine (e : Event) : Type 0 where
   pub fits : Fits e
   pub built : is_built e ≡ true
 
--- the values of a line that is built are within their types and bounds; what stands as it is written leaves
--- the line within its limit
+-- the values of a line that is built are within their types and bounds; what stands as it is written, or in
+-- hex, leaves the line within its limit
 abbrev pub IsLine : Line → Type 0
 IsLine (Header version) = version ≡ 1
 IsLine (Guid guid) = is_guid guid ≡ true
@@ -54,8 +54,10 @@ IsLine (Conf text) = AreRaw text × (length (spell (Conf text)) ≤ line_limit +
 IsLine (Action text) = AreRaw text × (length (slice_split (λ b. b == 32) text) ≡ 4) × (length (spell (Action text)) ≤ line_limit + 1)
 IsLine Go = Unit {0}
 IsLine (EventLine e) = IsEventLine e
+IsLine (Link c u) = (0 < c.0) × (c.0 < 2 ^ 32) × (u.0 < 2 ^ 32)
+IsLine (In c bytes) = (0 < c.0) × (c.0 < 2 ^ 32) × AreBytes bytes × (0 < length bytes) × (length (spell (In c bytes)) ≤ line_limit + 1)
+IsLine (Hangup c) = (0 < c.0) × (c.0 < 2 ^ 32)
 IsLine End = Unit {0}
-IsLine _ = ⊥
 
 -- the values of a line as it is written are within their types and bounds, whether it is built or not; a raw
 -- line has no line feed, and the words of an action are four, whatever they are

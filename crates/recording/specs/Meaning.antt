@@ -1,5 +1,5 @@
 -- What a written line means.
-use Rattle.std.specs.Prelude.{ℕ, ◌≡◌, not, nat_le, Bool, true, false, if◌then◌else◌, Result, Ok, Err, List, length}
+use Rattle.std.specs.Prelude.{ℕ, ◌≡◌, not, nat_le, Bool, true, if◌then◌else◌, Result, Ok, Err, List, length}
 use Rattle.std.specs.List.{list_all}
 use Rattle.login_model.specs.declared.call.Call.{Call}
 use Rattle.login_model.specs.declared.call.Call.TheVariants.{NoObject, BadArguments}
@@ -39,12 +39,9 @@ abbrev pub meant : Line → Line
 meant (line.Event e) = line.Event (meant_event e)
 meant l = l
 
--- whether a line is built, by its kind or as its event is
+-- whether a line is built: an event's as the event is, any other always
 abbrev pub is_built_line : Line → Bool
 is_built_line (line.Event e) = is_built e
-is_built_line (line.Link c u) = false
-is_built_line (line.In c bytes) = false
-is_built_line (line.Hangup c) = false
 is_built_line _ = true
 
 -- what a written line means, if it is built

@@ -1,15 +1,17 @@
--- How entries print in a transcript.
+-- How entries, and the bytes that links are due, print in a transcript.
 use Rattle.std.specs.Prelude.{ℕ, ◌+◌, List, [], ◌∷◌, ◌++◌, codes}
 use Rattle.std.specs.List.{join_with_byte, flat_map}
 use Rattle.std.specs.Fmt.{decimal}
+use Rattle.login_base.specs.declared.ids.ConnId.{ConnId}
 use Rattle.login_model.specs.declared.rule.Verdict.{Verdict}
 use Rattle.login_model.specs.declared.rule.Verdict.TheVariants.{Granted, Denied}
 use Rattle.login_model.specs.declared.answer.Answer.{Answer}
 use Rattle.login_model.specs.declared.mark.Mark.{Mark}
 use Rattle.login_model.specs.declared.mark.Entry.{Entry}
+use Rattle.recording.specs.Hex.{spell_hex}
 use Rattle.recording.specs.Lines.{event_words}
 pub use Rattle.recording.specs.MarkWords.{key_words, fact_words, notice_words, mark_words}
-pub use Rattle.recording.specs.RuleWords.{rule_words}
+pub use Rattle.login_model.specs.RuleWords.{rule_words}
 pub use Rattle.recording.specs.AnswerWords.{answer_words}
 
 -- whether an event is granted, and with which answer, or which rule it breaks
@@ -35,3 +37,7 @@ block number e =
 unfoldable pub blocks : ℕ → List Entry → List ℕ
 blocks number [] = []
 blocks number (e ∷ es) = block number e ++ blocks (number + 1) es
+
+-- the bytes that a link is due
+unfoldable pub out_line : ConnId → List ℕ → List ℕ
+out_line who bytes = line_text (codes "out" ∷ decimal who.0 ∷ spell_hex bytes ∷ [])

@@ -2,6 +2,7 @@
 pub mod CallWords
 pub mod Filling
 pub mod Spaced
+pub mod Pieces
 pub mod Arguments
 pub mod CallReadings
 pub mod LineReadings

@@ -5,6 +5,7 @@ mod answer_text;
 mod argument;
 mod call;
 mod decimal;
+mod due;
 mod entry;
 mod event;
 mod event_text;
@@ -21,7 +22,9 @@ mod verdict_text;
 mod word;
 
 pub use decimal::push_decimal;
+pub use due::write_out;
 pub use entry::{WriteEnd, entry_text, write_entry};
 pub use law::{one_grammar, spelled_again};
 pub use line::{Line, LineFault, read_line};
 pub use line_reader::{LineReader, Next};
+pub use line_text::LineText;

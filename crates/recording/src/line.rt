@@ -64,7 +64,7 @@ pub enum LineFault {
     BadName,
     /// There is no line feed.
     Ended,
-    /// The line is one of the grammar, but its word is not built: an event's, a preamble's or a call's.
+    /// The line is one of the grammar, but its call is not built.
     NotBuilt,
     NoMemory,
 }
@@ -163,15 +163,8 @@ fn built(line: Line) -> Result<Line, LineFault>
     ensures { result ≡ built line }
 {
     match line {
-        Line::Header(version) => Ok(Line::Header(version)),
-        Line::Guid(guid) => Ok(Line::Guid(guid)),
-        Line::User(user) => Ok(Line::User(user)),
-        Line::Conf(text) => Ok(Line::Conf(text)),
-        Line::Action(text) => Ok(Line::Action(text)),
-        Line::Go => Ok(Line::Go),
-        Line::End => Ok(Line::End),
         Line::Event(event) => built_event(event),
-        _ => Err(LineFault::NotBuilt),
+        other => Ok(other),
     }
 }
 

@@ -1,6 +1,6 @@
 // The text of lines while it is printed.
 
-ghost use Rattle.std.specs.Prelude.{◌≡◌, ◌++◌, ◌∷◌, [], OnOk};
+ghost use Rattle.std.specs.Prelude.{◌≡◌, ◌+◌, ◌≤◌, ◌++◌, ◌∷◌, [], OnOk, IfOk, vec_len, vec_capacity};
 ghost use Rattle.std.specs.Fmt.{decimal, signed_decimal};
 ghost use Rattle.std.specs.List.{flat_map};
 ghost use Rattle.login_base.specs.SessionId.{session_text};
@@ -15,9 +15,9 @@ use std::marker::Model;
 /// A number of 64 bits has at most so many digits in decimal.
 const MOST_DIGITS: usize = 20;
 
-/// The bytes so far. After want of memory it may hold a part of what was to be added.
+/// The text of lines while it is printed. After want of memory it may hold a part of what was to be added.
 #[derive(Debug, Drop)]
-pub(crate) struct LineText {
+pub struct LineText {
     alloc: Global,
     bytes: Vec<u8>,
 }
@@ -31,7 +31,8 @@ impl Model for LineText {
 }
 
 impl LineText {
-    pub(crate) fn new(alloc: Global) -> LineText
+    /// The empty text. It takes no memory.
+    pub fn new(alloc: Global) -> LineText
         ensures { result ≡ [] }
     {
         LineText {
@@ -45,15 +46,26 @@ impl LineText {
         self.alloc
     }
 
-    pub(crate) fn into_word(self) -> Word
+    /// The bytes so far. It takes no memory.
+    pub fn into_word(self) -> Word
         ensures { result ≡ self }
     {
         let LineText { bytes, .. } = self;
         Word::from_vec(bytes)
     }
 
+    /// The bytes so far, with room for so many more.
+    pub(crate) fn with_room(self, count: usize) -> Result<Vec<u8>, NoMemory>
+        ensures items { IfOk result (λ bytes. bytes.items ≡ self) }
+        ensures room { IfOk result (λ bytes. vec_len bytes + count ≤ vec_capacity bytes) }
+    {
+        let LineText { mut bytes, .. } = self;
+        bytes.reserve(count)?;
+        Ok(bytes)
+    }
+
     /// Adds bytes as they are.
-    pub(crate) fn push(&mut self, bytes: &[u8]) -> Result<(), NoMemory>
+    pub fn push(&mut self, bytes: &[u8]) -> Result<(), NoMemory>
         ensures { OnOk result (self.new ≡ self.old ++ bytes.now) }
     {
         self.bytes.extend_from_slice(bytes)?;
@@ -61,7 +73,7 @@ impl LineText {
     }
 
     /// Adds a space and a word as it is.
-    pub(crate) fn word(&mut self, word: &[u8]) -> Result<(), NoMemory>
+    pub fn word(&mut self, word: &[u8]) -> Result<(), NoMemory>
         ensures { OnOk result (self.new ≡ self.old ++ 32 ∷ word.now) }
     {
         self.push(b" ")?;
@@ -85,7 +97,7 @@ impl LineText {
     }
 
     /// Adds a space and a number in decimal.
-    pub(crate) fn number(&mut self, n: u32) -> Result<(), NoMemory>
+    pub fn number(&mut self, n: u32) -> Result<(), NoMemory>
         ensures { OnOk result (self.new ≡ self.old ++ 32 ∷ decimal n) }
     {
         self.push(b" ")?;
@@ -93,7 +105,7 @@ impl LineText {
     }
 
     /// Adds a space and a number of 64 bits in decimal.
-    pub(crate) fn moment(&mut self, n: u64) -> Result<(), NoMemory>
+    pub fn moment(&mut self, n: u64) -> Result<(), NoMemory>
         ensures { OnOk result (self.new ≡ self.old ++ 32 ∷ decimal n) }
     {
         self.push(b" ")?;

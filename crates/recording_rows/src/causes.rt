@@ -6,7 +6,7 @@ use std::alloc::Global;
 use std::test::Fail;
 
 /// Lines, which slashes part, and the cause with which each of them is refused.
-const LINES: [(Option<LineFault>, &str); 8] = [
+const LINES: [(Option<LineFault>, &str); 7] = [
     (
         Some(LineFault::UnknownWord),
         " go/GO/call 1 1 can Poweroff/call 1 1 power %/call 1 1 power power-off/key reboot/key lid-switch/\
@@ -21,12 +21,14 @@ const LINES: [(Option<LineFault>, &str); 8] = [
          input 1 1 0 0 -2147483649/input 1 1 0 0 -0/input 1 1 0 0 +1/call 0 1 ping/call 1 0 ping/\
          call 1 1 kill c1 all 01/call 1 1 get-user c1/link 0 1/hangup 0/in 0 00/call 1 1 create x/\
          vtkey /vtkey 01/call 1 1 switch seat0 -1/user 01000 1000 a/user +1 1 a/\
-         user 4294967296 0 a/connect  1 1000",
+         user 4294967296 0 a/connect  1 1000/link 01 0/link 1 -1/link 1 4294967296/link x/\
+         in 0 0/in 4294967296/in  00/hangup 01/hangup /hangup x y",
     ),
     (
         Some(LineFault::BadHex),
         "user 1 1 /user 1 1 %41/user 1 1 %2F/user 1 1 %C3%A9/user 1 1 %c3/user 1 1 %00/\
-         user 1 1 %4/user 1 1 %ff/user 1 1 é/in 1 /in 1 0/in 1 0g/guid 0123/\
+         user 1 1 %4/user 1 1 %ff/user 1 1 é/guid 0123/\
+         in 1 /in 1 0/in 1 000/in 1 0g/in 1 0A/in 1 FF/in 1 %/in 1 0x00/in 1  00/in 1 0 00/\
          guid 0123456789ABCDEF0123456789abcdef/call 1 1 get-session %zz/\
          call 1 1 inhibit a %ff c d/\
          call 1 1 create 1 1 login tty user % seat0 1 tty1 % false % %00",
@@ -34,7 +36,7 @@ const LINES: [(Option<LineFault>, &str); 8] = [
     (
         Some(LineFault::MissingWord),
         "user 1/user 1 1/action/action a b c/connect/connect 1/call/call 1/send 1 1/add 1 1/\
-         add 1 1 drm/input 1 1 0 0/key/dock/link 1/hangup/\
+         add 1 1 drm/input 1 1 0 0/key/dock/link/link 1/in/in 1/hangup/\
          call 1 1 create 1 1 login tty user % seat0 1 tty1 % false %/call 1 1 take c1 1/\
          call 1 1 kill c1 all/call 1 1 get-user/\
          call 1 1 power/call 1 1 can/call 1 1 inhibit sleep a b",
@@ -44,6 +46,7 @@ const LINES: [(Option<LineFault>, &str); 8] = [
         "go x/end end/user 1 1 a b/action a b c d e/connect 1 1 1/call 1 1 ping 1/\
          call 1 1 uncontrol c1 c2/exit c1 /tick 1 1/call 1 1 list-users 1/\
          key lid closed/dock true 1/jobdone poweroff/call 1 1 list-inhibitors 1/\
+         link 1 0 x/in 1 00 ff/in 1 00 /hangup 1 1/\
          call 1 1 power halt false/call 1 1 inhibit sleep a b delay now/\
          call 3 1 create 1000 1 login tty user % seat0 1 tty1 % false % % %/go\n/go\ngo/conf a\nb",
     ),
@@ -51,7 +54,6 @@ const LINES: [(Option<LineFault>, &str); 8] = [
         Some(LineFault::BadName),
         "add 1 1 drm desk/add 1 1 evdev %zz/add 1 1 drm /add 1 1 drm sea",
     ),
-    (Some(LineFault::NotBuilt), "link 1 0/in 1 00ff/hangup 1"),
     (
         None,
         "login-recording 1/guid 0123456789abcdef0123456789abcdef/user 4294967295 0 %/\
@@ -59,7 +61,8 @@ const LINES: [(Option<LineFault>, &str); 8] = [
          connect 3 4294967295/disconnect 1/vtkey 4294967295/exit c1/exit %/\
          tick 18446744073709551615/stop/add 226 0 drm seat0/add 13 4294967295 evdev seat-x/\
          remove 1 1/input 13 64 1 30 -2147483648/input 0 0 65535 65535 2147483647/\
-         key power/key suspend/key hibernate/key lid/dock true/dock false/jobdone",
+         key power/key suspend/key hibernate/key lid/dock true/dock false/jobdone/\
+         link 1 0/link 4294967295 4294967295/in 1 00/in 4294967295 0123456789abcdef/hangup 1",
     ),
 ];
 
@@ -85,7 +88,7 @@ const CALLS: [(Option<LineFault>, &str); 2] = [
 ];
 
 /// A front of a line, how many bytes `x` stand behind it, its end, and its cause.
-const EDGES: [(&[u8], usize, &[u8], Option<LineFault>); 16] = [
+const EDGES: [(&[u8], usize, &[u8], Option<LineFault>); 18] = [
     (b"user 1 1 ", 255, b"\n", None),
     (b"user 1 1 ", 256, b"\n", Some(LineFault::BadName)),
     (b"exit ", 512, b"\n", None),
@@ -96,6 +99,8 @@ const EDGES: [(&[u8], usize, &[u8], Option<LineFault>); 16] = [
     (b"conf ", 16379, b"\n", None),
     (b"conf ", 16380, b"\n", Some(LineFault::TooLong)),
     (b"frob ", 16380, b"\n", Some(LineFault::TooLong)),
+    (b"in 0 ", 16379, b"\n", Some(LineFault::BadNumber)),
+    (b"in 0 ", 16380, b"\n", Some(LineFault::TooLong)),
     (b"go", 0, b"", Some(LineFault::Ended)),
     (b"frob", 0, b"", Some(LineFault::Ended)),
     (b"connect 1 01", 0, b"", Some(LineFault::Ended)),

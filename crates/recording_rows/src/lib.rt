@@ -13,6 +13,8 @@ mod cutting;
 #[cfg(test)]
 mod entries;
 #[cfg(test)]
+mod links;
+#[cfg(test)]
 mod reading;
 #[cfg(test)]
 mod rules;
