@@ -1,6 +1,7 @@
 -- What is kept of a handshake between two pieces.
-use Rattle.std.specs.Prelude.{ℕ, ◌≡◌, List, []}
+use Rattle.std.specs.Prelude.{ℕ, ◌≡◌, List, [], Option, Some, None}
 use Rattle.login_base.specs.declared.ids.Uid.{Uid}
+use Rattle.bus_auth.specs.declared.table.Ending.{Ending}
 use Rattle.bus_auth.specs.declared.hearing.Progress.{Progress}
 use Rattle.bus_auth.specs.declared.hearing.Progress.TheVariants.{WaitingForNul as waiting, Talking as talking, Begun as begun, Ended as ended}
 use Rattle.bus_auth.specs.Cutting.{Open, cut}
@@ -16,6 +17,11 @@ pub record Handshake : Type 0 where
 abbrev pub kept : State → State
 kept (Begun rest) = Begun []
 kept state = state
+
+-- how it ended with no connection
+abbrev pub ending_of : State → Option Ending
+ending_of (Ended ending) = Some ending
+ending_of state = None
 
 -- how far it is, with the line that is open
 abbrev pub state_of : Progress → List ℕ → State

@@ -2,7 +2,7 @@
 
 ghost use Rattle.std.specs.Prelude.{◌≡◌, ◌≢◌, ◌↔◌, ◌++◌, List, ℕ, [], IsTrue, IsOk, IfOk, OnOk, OnErr, ◌<◌};
 ghost use Rattle.bus_auth.specs.Greeting.{WaitingForNul, Begun, Ended, greet, run, resume};
-ghost use Rattle.bus_auth.specs.Standing.{kept, state_of, open_line, IsKept};
+ghost use Rattle.bus_auth.specs.Standing.{ending_of, kept, state_of, open_line, IsKept};
 ghost use Rattle.bus_auth.specs.Hearing.{HasHeard, Hears, told, Tells, Gives, IsEnded};
 ghost use Rattle.bus_auth.specs.Cutting.{cut};
 ghost use Rattle.bus_auth.specs.inner.Outcomes.{state_in, IsOpenIn};
@@ -102,6 +102,30 @@ impl Auth {
         ensures { IsTrue result ↔ (self.now.state ≡ Begun []) }
     {
         self.progress == Progress::Begun
+    }
+
+    /// How it ended with no connection, where it has.
+    pub fn ending(&self) -> Option<Ending>
+        ensures value { result ≡ ending_of self.now.state }
+        // Of the bytes behind BEGIN none are kept.
+        ensures kept { self.now.state ≡ kept self.now.state }
+    {
+        match self.progress {
+            Progress::Ended(ending) => Some(ending),
+            Progress::WaitingForNul | Progress::Talking(_) | Progress::Begun => None,
+        }
+    }
+
+    /// A copy, which goes on by itself.
+    pub fn copied(&self) -> Result<Auth, NoMemory>
+        ensures { IfOk result (λ auth. auth ≡ self.now) }
+    {
+        Ok(Auth {
+            uid: self.uid,
+            guid: self.guid.copied()?,
+            progress: self.progress,
+            line: self.line.clone()?,
+        })
     }
 
     /// Hears what the client sent next. A handshake that has ended takes no memory.

@@ -1,11 +1,14 @@
 -- What is cut from a stream is what stands at its front.
-use Rattle.std.proofs.Common.{◌≡◌, ℕ, zero, suc, ◌+◌, ◌-◌, ◌≤◌, List, length, length-drop, take, drop, refl, sym, subst, arith}
+use Rattle.std.proofs.Common.{◌≡◌, ℕ, zero, suc, ◌+◌, ◌-◌, ◌≤◌, List, [], ◌∷◌, ◌++◌, length, length-drop, take, drop, append-nil, Option, Some, None, refl, ap, sym, subst, ◌∙◌, arith}
 use Rattle.std.proofs.lemmas.List.{take-append-drop}
+use Rattle.bus_message.specs.declared.cutting.Pieces.{Pieces}
+use Rattle.bus_message.specs.declared.fault.Fault.{Fault}
 use Rattle.bus_message.specs.declared.message.Message.{Message}
 use Rattle.bus_message.specs.Cutting.{Front, Open, Bad, Whole, front, Cutting, open_at, bad_at, behind, cut}
 use Rattle.bus_message.specs.Grammar.{AreBytes}
 use Rattle.bus_message.specs.Stream.{Begins, Leaves, IsCut}
-use Rattle.bus_message.specs.Outcomes.{cut_at}
+use Rattle.bus_message.specs.Feeding.{AreMessages}
+use Rattle.bus_message.specs.Outcomes.{IsCutFrom, cut_at, ended}
 use Rattle.bus_message.proofs.Cuts.{cut_open, cut_bad, cut_whole, count_least}
 use Rattle.bus_message.proofs.Sound.{are_dropped, whole_message}
 
@@ -51,3 +54,21 @@ unfolding cut
 stream_cut text are =
     let w = cut_is (length text) 0 text (omega arith) are in
     record { rest = w.rest; begins = w.begins; reached = omega (arith, w.reached); leaves = w.leaves }
+
+messages_begin : (text : List ℕ) (ms : List Message) (rest : List ℕ) → Begins text ms rest → AreMessages ms
+messages_begin text [] rest h = tt
+messages_begin text (m ∷ ms) rest (bytes, (more, (is, (same, others)))) = ((bytes, is), messages_begin more ms rest others)
+
+none_behind : (place : ℕ) (rest : List ℕ) (f : Option Fault) → (ended place rest f).messages ≡ []
+none_behind place rest None = refl
+none_behind place rest (Some x) = refl
+
+-- the messages that are cut from bytes are messages
+pub are_messages : (text : List ℕ) (pieces : Pieces) → AreBytes text → IsCutFrom text pieces → AreMessages pieces.messages
+are_messages text pieces are is =
+    let w = cut_is (length text) 0 text (omega arith) are in
+    let same : (cut_at 0 text).messages ≡ pieces.messages =
+    ap (λ (c : Cutting). c.messages) (is.same 0)
+    ∙ ap (λ (ms : List Message). pieces.messages ++ ms) (none_behind (0 + pieces.taken) (drop pieces.taken text) pieces.fault)
+    ∙ append-nil pieces.messages in
+    subst AreMessages same (messages_begin text (cut_at 0 text).messages w.rest w.begins)

@@ -1,7 +1,6 @@
 -- A stream that is fed in pieces.
-use Rattle.std.proofs.Common.{◌≡◌, ℕ, ◌+◌, ◌^◌, ◌-◌, ◌<◌, ◌≤◌, min, List, [], ◌∷◌, ◌++◌, length, length-drop, take, drop, Option, Some, None, Result, Ok, Err, IfOk, refl, ap, sym, ◌∙◌, subst, append_assoc, append-nil, arith}
+use Rattle.std.proofs.Common.{◌≡◌, ℕ, ◌+◌, ◌^◌, ◌-◌, ◌<◌, ◌≤◌, min, List, [], ◌∷◌, ◌++◌, length, length-drop, take, drop, Option, Some, None, refl, ap, sym, ◌∙◌, subst, append_assoc, append-nil, arith}
 use Rattle.std.proofs.lemmas.List.{drop-drop, take_all}
-use Rattle.login_base.specs.declared.memory.NoMemory.{NoMemory}
 use Rattle.bus_value.specs.Faults.{told}
 use Rattle.bus_message.specs.declared.fault.Fault.{Fault}
 use Rattle.bus_message.specs.declared.fault.Malformed.{Malformed}
@@ -201,11 +200,8 @@ pub bad_shown : (text : List ℕ) (messages : List Message) (taken : ℕ) (x : F
 bad_shown text messages taken x n w h is =
     last_way text (record { messages = messages; taken = taken; fault = Some x }) messages taken (Some x) w refl refl refl (rest_shown text taken n (next.Malformed x) h is)
 
--- the answer of a stream that is not malformed, unless there was no memory
-abbrev pub GivesMore : Stream → Stream → List ℕ → Result Cut NoMemory → Type 0
-GivesMore old new piece r = IfOk r (λ answer. (place : ℕ) → old.place ≡ told place → Gives (cut_at place (old.rest ++ piece)) new answer)
-
-pub now_fed : (old new : Stream) (piece : List ℕ) (r : Result Cut NoMemory) → old.malformed ≡ None → GivesMore old new piece r
-    → IfOk r (λ answer. Feeds old piece new answer)
-now_fed old new piece (Ok answer) running gives = fed_open old new piece answer running gives
-now_fed old new piece (Err e) running gives = tt
+-- the same, of what is kept with the piece behind it
+pub fed_behind : (old new : Stream) (piece buffer : List ℕ) (answer : Cut) → old.malformed ≡ None → buffer ≡ old.rest ++ piece
+    → ((place : ℕ) → old.place ≡ told place → Gives (cut_at place buffer) new answer) → Feeds old piece new answer
+fed_behind old new piece buffer answer running whole gives =
+    fed_open old new piece answer running (λ place from. subst (λ (x : List ℕ). Gives (cut_at place x) new answer) whole (gives place from))

@@ -1,5 +1,6 @@
 -- A stream that is fed in pieces.
 use Rattle.std.specs.Prelude.{ℕ, ◌≡◌, ◌≤◌, List, [], ◌∷◌, ◌++◌, Option, Some, None, Result, Ok, Err, ⊤}
+use Rattle.std.specs.List.{AllByRecursion}
 use Rattle.login_base.specs.declared.memory.NoMemory.{NoMemory}
 use Rattle.bus_value.specs.Faults.{told}
 use Rattle.bus_message.specs.declared.fault.Malformed.{Malformed}
@@ -9,6 +10,7 @@ use Rattle.bus_message.specs.declared.message.Message.{Message}
 use Rattle.bus_message.specs.declared.cutter.Cut.{Cut}
 use Rattle.bus_message.specs.declared.cutting.Next.{Next}
 use Rattle.bus_message.specs.declared.cutting.Next.TheVariants as next
+use Rattle.bus_message.specs.Grammar.{IsMessage}
 use Rattle.bus_message.specs.Cutting.{Front, Open, Bad, Whole, front, Cutting, cut}
 
 -- what is kept between two pieces: the place behind the messages, as it is told; the bytes from there on, of a
@@ -30,6 +32,10 @@ pub record Feeds (old : Stream) (piece : List ℕ) (new : Stream) (answer : Cut)
   pub fed : (text : List ℕ) → HasFed old text → HasFed new (text ++ piece)
   pub messages : (text : List ℕ) → HasFed old text → (cut (text ++ piece)).messages ≡ (cut text).messages ++ answer.messages
   pub malformed : (text : List ℕ) → HasFed old text → answer.malformed ≡ (cut (text ++ piece)).malformed
+
+-- each message is one that some bytes are
+abbrev pub AreMessages : List Message → Type 0
+AreMessages ms = AllByRecursion (λ (m : Message). (bytes : List ℕ) × IsMessage bytes m) ms
 
 -- a stream that is new or was fed these pieces, all messages that it gave, and what the last answer said is malformed
 pub data WasFed : Stream → List (List ℕ) → List Message → Option Malformed → Type 0 where

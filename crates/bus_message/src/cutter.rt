@@ -1,8 +1,9 @@
 // A stream of messages, fed in pieces.
 
-ghost use Rattle.std.specs.Prelude.{◌≡◌, ◌++◌, ◌≤◌, ℕ, [], length, drop, None, Some, OnErr, IfOk};
+ghost use Rattle.std.specs.Prelude.{◌≡◌, ◌++◌, ◌≤◌, ℕ, [], length, drop, None, Some, Ok, OnErr, IfOk};
+ghost use Rattle.std.specs.Fn.{FnOnceReturnsAt};
 ghost use Rattle.bus_value.specs.Faults.{told};
-ghost use Rattle.bus_message.specs.Feeding.{Feeds, HasFed, IsEnded, IsKept};
+ghost use Rattle.bus_message.specs.Feeding.{AreMessages, Feeds, HasFed, IsEnded, IsKept};
 ghost use Rattle.bus_message.specs.Outcomes.{IsCutFrom, Gives, before, ended, cut_at};
 
 use crate::cutting::{Pieces, cut_messages};
@@ -77,6 +78,7 @@ fn settle(
 ) -> Cut
     requires running { malformed.old ≡ None }
     requires cut { IsCutFrom buffer.old.items pieces }
+    ensures messages { result.messages ≡ pieces.messages }
     ensures gives { (at : ℕ) → place.old ≡ told at → Gives (cut_at at buffer.old.items)
         (record { place = place.new; rest = buffer.new.items; malformed = malformed.new }) result }
     ensures kept { IsKept malformed.new buffer.new.items }
@@ -95,6 +97,22 @@ fn settle(
     }
 }
 
+/// Cuts the messages from the front of a text, and reads them.
+fn read_messages<T, F: FnOnce(&[Message]) -> Result<T, NoMemory>>(
+    alloc: Global,
+    text: &[u8],
+    read: F,
+) -> Result<(T, Pieces), NoMemory>
+    requires { F.IsAlwaysCallable read }
+    ensures cut { IfOk result (λ found. IsCutFrom text.now found.1) }
+    ensures messages { IfOk result (λ found. AreMessages found.1.messages) }
+    ensures read { IfOk result (λ found. FnOnceReturnsAt F.FnOnce read found.1.messages (Ok found.0)) }
+{
+    let pieces = cut_messages(alloc, text)?;
+    let value = read(pieces.messages.as_slice())?;
+    Ok((value, pieces))
+}
+
 impl Cutter {
     /// A stream of which nothing was fed. It takes no memory.
     pub fn new(alloc: Global) -> Cutter
@@ -105,6 +123,13 @@ impl Cutter {
             buffer: Vec::new(alloc),
             malformed: None,
         }
+    }
+
+    /// Where the stream is malformed.
+    pub fn malformed(&self) -> Option<Malformed>
+        ensures { result ≡ self.now.malformed }
+    {
+        self.malformed
     }
 
     /// Cuts the messages that are whole with the piece. A stream that is malformed takes no memory.
@@ -122,27 +147,39 @@ impl Cutter {
                 malformed: Some(malformed),
             });
         }
-        self.more(alloc, piece)
+        let ((), cut) = self.feed_as(alloc, piece, |_messages| Ok(()))?;
+        Ok(cut)
     }
 
-    /// Cuts more messages from a stream that is not malformed.
-    fn more(&mut self, alloc: Global, piece: &[u8]) -> Result<Cut, NoMemory>
-        requires { self.old.malformed ≡ None }
-        ensures cut { IfOk result (λ answer. (place : ℕ) → self.old.place ≡ told place
-            → Gives (cut_at place (self.old.rest ++ piece.now)) self.new answer) }
-        ensures shown { IfOk result (λ answer. answer.malformed ≡ self.new.malformed) }
+    /// Cuts the messages that are whole with the piece, and reads them as something else. Where that lacks memory,
+    /// nothing was fed.
+    pub fn feed_as<T, F: FnOnce(&[Message]) -> Result<T, NoMemory>>(
+        &mut self,
+        alloc: Global,
+        piece: &[u8],
+        read: F,
+    ) -> Result<(T, Cut), NoMemory>
+        requires running { self.old.malformed ≡ None }
+        requires callable { F.IsAlwaysCallable read }
+        ensures fed { IfOk result (λ answer. Feeds self.old piece.now self.new answer.1) }
+        ensures shown { IfOk result (λ answer. answer.1.malformed ≡ self.new.malformed) }
+        ensures messages { IfOk result (λ answer. AreMessages answer.1.messages) }
+        ensures read { IfOk result (λ answer. FnOnceReturnsAt F.FnOnce read answer.1.messages (Ok answer.0)) }
         ensures err { OnErr result (self.new ≡ self.old) }
     {
         let kept = self.buffer.len();
         self.buffer.extend_from_slice(piece)?;
-        match cut_messages(alloc, self.buffer.as_slice()) {
-            Ok(pieces) => Ok(settle(
-                alloc,
-                &mut self.place,
-                &mut self.buffer,
-                &mut self.malformed,
-                pieces,
-            )),
+        match read_messages(alloc, self.buffer.as_slice(), read) {
+            Ok((value, pieces)) => {
+                let cut = settle(
+                    alloc,
+                    &mut self.place,
+                    &mut self.buffer,
+                    &mut self.malformed,
+                    pieces,
+                );
+                Ok((value, cut))
+            }
             Err(NoMemory) => {
                 self.buffer.truncate(kept);
                 Err(NoMemory)
