@@ -1,0 +1,16 @@
+pub mod Joined
+pub mod Connected
+pub mod Growing
+pub mod Delivering
+pub mod Placing
+pub mod Texts
+pub mod Parts
+pub mod Writable
+pub mod Words
+pub mod Bodies
+pub mod Signalled
+pub mod Journals
+pub mod Named
+pub mod Reasons
+pub mod Replied
+pub mod Sending

@@ -1,0 +1,121 @@
+-- Values that can be written, and how long they are at most.
+use Rattle.std.proofs.Common.{◌≡◌, ℕ, ◌+◌, ◌-◌, ◌*◌, ◌%◌, ◌^◌, ◌<◌, ◌≤◌, List, [], ◌∷◌, length, replicate, Bool, true, refl, ap, sym, subst, arith, FitsSigned, w32}
+use Rattle.std.proofs.Math.Nat.{suc-mul}
+use Rattle.login_base.specs.Names.{IsPath}
+use Rattle.bus_names.specs.Types.{Shape, fields_of, listed, struct_of}
+use Rattle.bus_value.specs.declared.basic_value.BasicValue.TheVariants.{U16, I32}
+use Rattle.bus_value.specs.declared.order.Order.TheVariants.{Little}
+use Rattle.bus_value.specs.Grammar as rules_of
+use Rattle.bus_value.specs.Lengths.{value_end, values_end}
+use Rattle.bus_value.specs.Limits.{AllFit}
+use Rattle.bus_value.specs.Spelling.{first_element, spelling, spellings}
+use Rattle.bus_value.specs.Texts.{is_text}
+use Rattle.bus_value.specs.Typed.{AreTyped, IsTyped}
+use Rattle.bus_value.specs.Typed as typed
+use Rattle.bus_value.specs.Values.{Val, basic, array, count, shape, shapes, vals}
+use Rattle.bus_value.proofs.LengthLaws.{spelled_length}
+use Rattle.wire_out.specs.Messages.{flag, number, path, structure, text}
+use Rattle.wire_out.specs.inner.Parts.{AreParts, AreRows, IsPart}
+
+-- ---- basic values
+
+pub text_part : (t : List ℕ) → is_text t ≡ true → length t < 2 ^ 32 → IsPart (length t + 8) (text t)
+text_part t is small = record {
+  typed = λ depth. typed.basic Little _ (rules_of.string is small);
+  fits = λ at. small;
+  short = λ at. omega arith;
+}
+
+pub path_part : (t : List ℕ) → IsPath t → length t < 2 ^ 32 → IsPart (length t + 8) (path t)
+path_part t is small = record {
+  typed = λ depth. typed.basic Little _ (rules_of.path is small);
+  fits = λ at. small;
+  short = λ at. omega arith;
+}
+
+pub number_part : (n : ℕ) → n < 2 ^ 32 → IsPart 8 (number n)
+number_part n small = record {
+  typed = λ depth. typed.basic Little _ (rules_of.uint32 small);
+  fits = λ at. omega arith;
+  short = λ at. omega arith;
+}
+
+pub flag_part : (b : Bool) → IsPart 8 (flag b)
+flag_part b = record {
+  typed = λ depth. typed.basic Little _ rules_of.boolean;
+  fits = λ at. omega arith;
+  short = λ at. omega arith;
+}
+
+pub half_part : (n : ℕ) → n < 2 ^ 16 → IsPart 8 (basic (U16 n))
+half_part n small = record {
+  typed = λ depth. typed.basic Little _ (rules_of.uint16 small);
+  fits = λ at. omega arith;
+  short = λ at. omega arith;
+}
+
+pub signed_part : (n : _) → FitsSigned w32 n → IsPart 8 (basic (I32 n))
+signed_part n small = record {
+  typed = λ depth. typed.basic Little _ (rules_of.int32 small);
+  fits = λ at. omega arith;
+  short = λ at. omega arith;
+}
+
+-- ---- values in a row
+
+pub weaker : (m n : ℕ) (v : Val) → m ≤ n → IsPart m v → IsPart n v
+weaker m n v h p = record { typed = p.typed; fits = p.fits; short = λ at. omega (arith, h, p.short at) }
+
+pub no_parts : AreParts 0 []
+no_parts = record { typed = λ depth. typed.none; fits = λ at. tt; short = λ at. omega arith }
+
+pub more_parts : (m n : ℕ) (v : Val) (vs : List Val) → IsPart m v → AreParts n vs → AreParts (m + n) (v ∷ vs)
+more_parts m n v vs p q = record {
+  typed = λ depth. typed.more (p.typed depth) (q.typed depth);
+  fits = λ at. (p.fits at, q.fits (at + length (spelling Little at v)));
+  short = λ at. let a = p.short at in let b = q.short (value_end at v) in omega (arith, a, b);
+}
+
+-- ---- structs
+
+listed_again : (ts : List Shape) → listed (fields_of ts) ≡ ts
+listed_again [] = refl
+listed_again (t ∷ ts) = ap (λ (xs : List Shape). t ∷ xs) (listed_again ts)
+
+pub struct_part : (n : ℕ) (v : Val) (vs : List Val) → AreParts n (v ∷ vs) → IsPart (n + 8) (structure (v ∷ vs))
+struct_part n v vs p = record {
+  typed = λ depth. typed.struct (subst (λ (ts : List Shape). AreTyped (depth + 1) (shape v ∷ ts) (vals (v ∷ vs))) (sym (listed_again (shapes (vals vs)))) (p.typed (depth + 1)));
+  fits = λ at. p.fits _;
+  short = λ at. let a = p.short (at + (8 - at % 8) % 8) in omega (arith, a);
+}
+
+-- ---- arrays of structs
+
+rows_typed : (n : ℕ) (t : Shape) (vs : List Val) → AreRows n t vs → (depth : ℕ) → AreTyped depth (replicate (count (vals vs)) t) (vals vs)
+rows_typed n t [] h depth = typed.none
+rows_typed n t (v ∷ vs) h depth = typed.more (subst (λ (s : Shape). IsTyped depth s v) h.0.1 (h.0.0.typed depth)) (rows_typed n t vs h.1 depth)
+
+rows_fit : (n : ℕ) (t : Shape) (vs : List Val) → AreRows n t vs → (at : ℕ) → AllFit Little at (vals vs)
+rows_fit n t [] h at = tt
+rows_fit n t (v ∷ vs) h at = (h.0.0.fits at, rows_fit n t vs h.1 (at + length (spelling Little at v)))
+
+rows_short : (n : ℕ) (t : Shape) (vs : List Val) → AreRows n t vs → (at : ℕ) → values_end at (vals vs) ≤ at + length vs * n
+rows_short n t [] h at = omega arith
+rows_short n t (v ∷ vs) h at =
+    let a = h.0.0.short at in
+    let b = rows_short n t vs h.1 (value_end at v) in
+    let c = suc-mul (length vs) n in
+    omega (arith, a, b, c)
+
+-- an array of structs
+pub array_part : (n : ℕ) (t : Shape) (ts : List Shape) (vs : List Val) → AreRows n (struct_of (t ∷ ts)) vs → length vs * n ≤ 2 ^ 26
+    → IsPart (length vs * n + 16) (array (struct_of (t ∷ ts)) (vals vs))
+array_part n t ts vs h small = record {
+  typed = λ depth. typed.array (rows_typed n (struct_of (t ∷ ts)) vs h (depth + 1));
+  fits = λ at.
+      let start : ℕ = first_element at 8 in
+      let e = spelled_length Little start vs (spellings Little start (vals vs)) refl in
+      let s = rows_short n (struct_of (t ∷ ts)) vs h start in
+      (omega (arith, e, s, small), rows_fit n (struct_of (t ∷ ts)) vs h start);
+  short = λ at. let s = rows_short n (struct_of (t ∷ ts)) vs h (first_element at 8) in omega (arith, s);
+}

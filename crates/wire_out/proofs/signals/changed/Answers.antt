@@ -1,0 +1,12 @@
+use Rattle.std.proofs.Common.{refl}
+use Rattle.bus_names.specs.Grammar.{fault_from}
+use Rattle.bus_names.specs.Reading.{interface_fault, member_fault}
+use Rattle.wire_out.proofs.signals.changed.Goals as goal
+
+pub signal_message-requires-clause-interface : goal.signal_message-requires-clause-interface
+unfolding interface_fault fault_from
+signal_message-requires-clause-interface c = refl
+
+pub signal_message-requires-clause-member : goal.signal_message-requires-clause-member
+unfolding member_fault fault_from
+signal_message-requires-clause-member c = refl

@@ -1,0 +1,9 @@
+pub mod Messages
+pub mod Replies
+pub mod Errors
+pub mod Signals
+pub mod Mail
+pub mod Places
+pub mod Conditions
+pub mod Laws
+pub mod inner

@@ -1,0 +1,81 @@
+-- The signals that a notice is sent as (org.freedesktop.login1(5); PropertiesChanged: D-Bus Specification, "Standard
+-- Interfaces").
+use Rattle.std.specs.Prelude.{ℕ, Bool, true, false, Option, Some, None, List, [], ◌∷◌, ◌++◌, codes}
+use Rattle.login_base.specs.declared.ids.SessId.{SessId}
+use Rattle.login_base.specs.SessionId.{session_text}
+use Rattle.login_model.specs.Paths.{session_path, seat_path, user_path}
+use Rattle.login_model.specs.declared.mark.PauseKind.{PauseKind}
+use Rattle.login_model.specs.declared.mark.PauseKind.TheVariants as pause
+use Rattle.login_model.specs.declared.mark.Notice.{Notice}
+use Rattle.login_model.specs.declared.mark.Notice.TheVariants as notice
+use Rattle.bus_names.specs.declared.basic.Basic.TheVariants as types
+use Rattle.bus_names.specs.Types.{basic as basic_type, variant as variant_type}
+use Rattle.bus_value.specs.declared.basic_value.BasicValue.TheVariants.{Str}
+use Rattle.bus_value.specs.Values.{Val, array, dict, variant, none, no_entries, entry}
+use Rattle.bus_message.specs.declared.message.Message.{Message}
+use Rattle.wire_out.specs.Messages.{text, path, number, flag, structure, signal_message}
+
+abbrev pub manager_path : List ℕ
+manager_path = codes "/org/freedesktop/login1"
+
+-- the interfaces of the manager, of sessions and of seats
+abbrev pub manager_interface : List ℕ
+manager_interface = codes "org.freedesktop.login1.Manager"
+
+abbrev pub session_interface : List ℕ
+session_interface = codes "org.freedesktop.login1.Session"
+
+abbrev pub seat_interface : List ℕ
+seat_interface = codes "org.freedesktop.login1.Seat"
+
+-- a signal of a session, and one of the manager
+abbrev pub session_signal : SessId → List ℕ → List Val → Message
+session_signal s member vs = signal_message (session_path s) session_interface member vs
+
+abbrev pub manager_signal : List ℕ → List Val → Message
+manager_signal member vs = signal_message manager_path manager_interface member vs
+
+abbrev pub pause_word : PauseKind → List ℕ
+pause_word pause.Pause = codes "pause"
+pause_word pause.Force = codes "force"
+pause_word pause.Gone = codes "gone"
+
+abbrev pub session_reference : SessId → List Val
+session_reference s = text (session_text s) ∷ path (session_path s) ∷ []
+
+-- a session's id and path, or the empty id and the root path for none
+abbrev pub reference_or_none : Option SessId → List Val
+reference_or_none (Some s) = session_reference s
+reference_or_none None = text [] ∷ path (codes "/") ∷ []
+
+-- a property of an object has changed to this value, and no other has
+abbrev pub changed : List ℕ → List ℕ → List ℕ → Val → Message
+changed object interface property value =
+    signal_message object (codes "org.freedesktop.DBus.Properties") (codes "PropertiesChanged")
+    (text interface ∷ dict types.Str variant_type (entry (Str property) (variant value) no_entries) ∷ array (basic_type types.Str) none ∷ [])
+
+-- whether a session is active has changed, if it is one
+abbrev pub active_changed : Option SessId → Bool → List Message
+active_changed (Some s) active = changed (session_path s) session_interface (codes "Active") (flag active) ∷ []
+active_changed None active = []
+
+-- which session a seat has active has changed
+abbrev pub seat_changed : List ℕ → Option SessId → Message
+seat_changed seat now = changed (seat_path seat) seat_interface (codes "ActiveSession") (structure (reference_or_none now))
+
+-- a change of a seat's active session is told of the session before, of the one now, and of the seat
+unfoldable pub signals : Notice → List Message
+signals (notice.Pause s d kind) = session_signal s (codes "PauseDevice") (number d.major ∷ number d.minor ∷ text (pause_word kind) ∷ []) ∷ []
+signals (notice.Resume s d h) = session_signal s (codes "ResumeDevice") (number d.major ∷ number d.minor ∷ number h.0 ∷ []) ∷ []
+signals (notice.Lock s) = session_signal s (codes "Lock") [] ∷ []
+signals (notice.Unlock s) = session_signal s (codes "Unlock") [] ∷ []
+signals (notice.SessionNew s) = manager_signal (codes "SessionNew") (session_reference s) ∷ []
+signals (notice.SessionRemoved s) = manager_signal (codes "SessionRemoved") (session_reference s) ∷ []
+signals (notice.UserNew u) = manager_signal (codes "UserNew") (number u.0 ∷ path (user_path u) ∷ []) ∷ []
+signals (notice.UserRemoved u) = manager_signal (codes "UserRemoved") (number u.0 ∷ path (user_path u) ∷ []) ∷ []
+signals (notice.SeatNew seat) = manager_signal (codes "SeatNew") (text seat ∷ path (seat_path seat) ∷ []) ∷ []
+signals (notice.SeatRemoved seat) = manager_signal (codes "SeatRemoved") (text seat ∷ path (seat_path seat) ∷ []) ∷ []
+signals (notice.PrepareShutdown begins) = manager_signal (codes "PrepareForShutdown") (flag begins ∷ []) ∷ []
+signals (notice.PrepareSleep begins) = manager_signal (codes "PrepareForSleep") (flag begins ∷ []) ∷ []
+signals (notice.Active seat before now) =
+    active_changed before false ++ (active_changed now true ++ seat_changed seat now ∷ [])

@@ -1,0 +1,6 @@
+-- What serves private functions.
+pub mod Prefixed
+pub mod Parts
+pub mod Numbers
+pub mod Delivered
+pub mod Sendable

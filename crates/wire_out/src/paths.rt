@@ -1,0 +1,105 @@
+// The paths of objects (org.freedesktop.login1(5)).
+
+ghost use Rattle.std.specs.Prelude.{◌≡◌, ◌++◌, IfOk, None, OnOk, true};
+ghost use Rattle.std.specs.Fmt.{decimal};
+ghost use Rattle.login_base.specs.Labels.{escape};
+ghost use Rattle.login_base.specs.Seat.{is_seat_name};
+ghost use Rattle.login_model.specs.Paths.{runtime_path, seat_path, session_path, user_path};
+ghost use Rattle.bus_names.specs.Reading.{path_fault};
+ghost use Rattle.wire_out.specs.inner.Numbers.{IsNumber};
+
+use bus_names::{NameFault, ObjectPath};
+use login_base::{NoMemory, SeatName, SessId, Uid, Word, escape};
+use std::alloc::Global;
+
+/// The bytes of a text behind a front.
+fn joined(alloc: Global, front: &[u8], text: &[u8]) -> Result<Vec<u8>, NoMemory>
+    ensures { IfOk result (λ bytes. bytes.items ≡ front.now ++ text.now) }
+{
+    let mut bytes = Vec::from_slice(alloc, front)?;
+    bytes.extend_from_slice(text)?;
+    Ok(bytes)
+}
+
+/// A number in decimal behind a front.
+fn numbered(alloc: Global, front: &[u8], number: u32) -> Result<Vec<u8>, NoMemory>
+    ensures { IfOk result (λ bytes. bytes.items ≡ front.now ++ decimal number) }
+{
+    let digits = format!(in alloc; "{number}")?;
+    joined(alloc, front, digits.as_bytes())
+}
+
+/// A text that is an object path.
+pub(crate) fn object_path(alloc: Global, text: &[u8]) -> Result<ObjectPath, NoMemory>
+    requires { path_fault text.now ≡ None }
+    ensures { IfOk result (λ path. path ≡ text.now) }
+{
+    match ObjectPath::read(alloc, text) {
+        Ok(path) => Ok(path),
+        Err(NameFault::NoMemory) => Err(NoMemory),
+        Err(_) => unreachable!(),
+    }
+}
+
+/// The bytes of the path of a session's object.
+#[tactic(auto, unfolding(login_model::specs::Paths::session_path))]
+fn session_bytes(alloc: Global, session: SessId) -> Result<Vec<u8>, NoMemory>
+    ensures { IfOk result (λ path. path.items ≡ session_path session) }
+{
+    let id = session.text(alloc)?;
+    let label = escape(alloc, id.as_slice())?;
+    joined(alloc, b"/org/freedesktop/login1/session/", label.as_slice())
+}
+
+/// The path of a session's object.
+pub(crate) fn session_path(alloc: Global, session: SessId) -> Result<ObjectPath, NoMemory>
+    ensures path { IfOk result (λ path. path ≡ session_path session) }
+    ensures ranged { OnOk result (IsNumber session.0) }
+{
+    let path = session_bytes(alloc, session)?;
+    object_path(alloc, path.as_slice())
+}
+
+/// The bytes of the path of a seat's object.
+#[tactic(auto, unfolding(login_model::specs::Paths::seat_path))]
+fn seat_bytes(alloc: Global, seat: &SeatName) -> Result<Vec<u8>, NoMemory>
+    ensures { IfOk result (λ path. path.items ≡ seat_path seat.now) }
+{
+    let label = seat.label(alloc)?;
+    joined(alloc, b"/org/freedesktop/login1/seat/", label.as_slice())
+}
+
+/// The path of a seat's object.
+pub(crate) fn seat_path(alloc: Global, seat: &SeatName) -> Result<ObjectPath, NoMemory>
+    requires { is_seat_name seat.now ≡ true }
+    ensures { IfOk result (λ path. path ≡ seat_path seat.now) }
+{
+    let path = seat_bytes(alloc, seat)?;
+    object_path(alloc, path.as_slice())
+}
+
+/// The bytes of the path of a user's object.
+#[tactic(auto, unfolding(login_model::specs::Paths::user_path))]
+fn user_bytes(alloc: Global, uid: Uid) -> Result<Vec<u8>, NoMemory>
+    ensures { IfOk result (λ path. path.items ≡ user_path uid) }
+{
+    numbered(alloc, b"/org/freedesktop/login1/user/_", uid.0)
+}
+
+/// The path of a user's object.
+pub(crate) fn user_path(alloc: Global, uid: Uid) -> Result<ObjectPath, NoMemory>
+    ensures path { IfOk result (λ path. path ≡ user_path uid) }
+    ensures ranged { OnOk result (IsNumber uid.0) }
+{
+    let path = user_bytes(alloc, uid)?;
+    object_path(alloc, path.as_slice())
+}
+
+/// The path of a user's runtime directory.
+#[tactic(auto, unfolding(login_model::specs::Paths::runtime_path))]
+pub(crate) fn runtime_path(alloc: Global, uid: Uid) -> Result<Word, NoMemory>
+    ensures { IfOk result (λ path. path ≡ runtime_path uid) }
+{
+    let path = numbered(alloc, b"/run/user/", uid.0)?;
+    Ok(Word::from_vec(path))
+}

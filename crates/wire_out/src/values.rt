@@ -1,0 +1,116 @@
+// Values of replies and signals.
+
+ghost use Rattle.std.specs.Prelude.{◌≡◌, ◌++◌, ◌∷◌, [], IfOk, OnOk, true};
+ghost use Rattle.login_base.specs.Seat.{is_seat_name};
+ghost use Rattle.login_base.specs.SessionId.{session_text};
+ghost use Rattle.login_model.specs.Paths.{seat_path, session_path, user_path};
+ghost use Rattle.wire_out.specs.Messages.{flag, number, path, text};
+ghost use Rattle.wire_out.specs.Replies.{seat_text};
+ghost use Rattle.wire_out.specs.inner.Numbers.{IsNumber};
+
+use crate::paths::{seat_path, session_path, user_path};
+use bus_value::{BasicValue, Value};
+use login_base::{NoMemory, SeatName, SessId, Uid, Word};
+use std::alloc::Global;
+
+/// A text.
+pub(crate) fn text(alloc: Global, bytes: &[u8]) -> Result<Value, NoMemory>
+    ensures { IfOk result (λ value. value ≡ text bytes.now) }
+{
+    Ok(Value::basic(BasicValue::Str(Word::from_slice(alloc, bytes)?)))
+}
+
+/// A number of 32 bits.
+pub(crate) fn number(value: u32) -> Value
+    ensures { result ≡ number value }
+{
+    Value::basic(BasicValue::U32(value))
+}
+
+pub(crate) fn flag(value: bool) -> Value
+    ensures { result ≡ flag value }
+{
+    Value::basic(BasicValue::Bool(value))
+}
+
+/// A session's id.
+pub(crate) fn session_id(alloc: Global, session: SessId) -> Result<Value, NoMemory>
+    ensures value { IfOk result (λ value. value ≡ text (session_text session)) }
+    ensures ranged { OnOk result (IsNumber session.0) }
+{
+    Ok(Value::basic(BasicValue::Str(session.text(alloc)?)))
+}
+
+/// The path of a session's object.
+pub(crate) fn session_object(alloc: Global, session: SessId) -> Result<Value, NoMemory>
+    ensures value { IfOk result (λ value. value ≡ path (session_path session)) }
+    ensures ranged { OnOk result (IsNumber session.0) }
+{
+    Ok(Value::basic(BasicValue::Path(session_path(alloc, session)?)))
+}
+
+/// The path of a user's object.
+pub(crate) fn user_object(alloc: Global, uid: Uid) -> Result<Value, NoMemory>
+    ensures value { IfOk result (λ value. value ≡ path (user_path uid)) }
+    ensures ranged { OnOk result (IsNumber uid.0) }
+{
+    Ok(Value::basic(BasicValue::Path(user_path(alloc, uid)?)))
+}
+
+/// The path of a seat's object.
+pub(crate) fn seat_object(alloc: Global, seat: &SeatName) -> Result<Value, NoMemory>
+    requires { is_seat_name seat.now ≡ true }
+    ensures { IfOk result (λ value. value ≡ path (seat_path seat.now)) }
+{
+    Ok(Value::basic(BasicValue::Path(seat_path(alloc, seat)?)))
+}
+
+/// A seat's name, or the empty text for none.
+pub(crate) fn seat_name(alloc: Global, seat: Option<SeatName>) -> Result<Value, NoMemory>
+    ensures { IfOk result (λ value. value ≡ text (seat_text seat)) }
+{
+    match seat {
+        Some(name) => text(alloc, name.as_slice()),
+        None => text(alloc, b""),
+    }
+}
+
+/// One value alone.
+pub(crate) fn alone(alloc: Global, value: Value) -> Result<Vec<Value>, NoMemory>
+    ensures { IfOk result (λ values. values.items ≡ value ∷ []) }
+{
+    Ok(Vec::from_array(alloc, [value])?)
+}
+
+/// Two values.
+pub(crate) fn pair(alloc: Global, first: Value, second: Value) -> Result<Vec<Value>, NoMemory>
+    ensures { IfOk result (λ values. values.items ≡ first ∷ second ∷ []) }
+{
+    Ok(Vec::from_array(alloc, [first, second])?)
+}
+
+/// A session's id and the path of its object.
+pub(crate) fn session_reference(alloc: Global, session: SessId) -> Result<Vec<Value>, NoMemory>
+    ensures values { IfOk result (λ values. values.items ≡ text (session_text session) ∷ path (session_path session) ∷ []) }
+    ensures ranged { OnOk result (IsNumber session.0) }
+{
+    let id = session_id(alloc, session)?;
+    pair(alloc, id, session_object(alloc, session)?)
+}
+
+/// A seat's name and the path of its object.
+pub(crate) fn seat_reference(alloc: Global, seat: &SeatName) -> Result<Vec<Value>, NoMemory>
+    requires { is_seat_name seat.now ≡ true }
+    ensures { IfOk result (λ values. values.items ≡ text seat.now ∷ path (seat_path seat.now) ∷ []) }
+{
+    let name = text(alloc, seat.as_slice())?;
+    pair(alloc, name, seat_object(alloc, seat)?)
+}
+
+/// Adds a value at the end.
+pub(crate) fn push(out: &mut Vec<Value>, value: Value) -> Result<(), NoMemory>
+    ensures { OnOk result (out.new.items ≡ out.old.items ++ value ∷ []) }
+{
+    out.push(value)?;
+    Ok(())
+}
