@@ -1,0 +1,6 @@
+pub mod Begun
+pub mod Requests
+pub mod Pieces
+pub mod Histories
+pub mod Tellers
+pub mod Mails

@@ -1,0 +1,3 @@
+-- What serves invariants and private functions.
+pub mod Inside
+pub mod Reading
