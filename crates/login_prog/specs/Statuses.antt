@@ -13,8 +13,8 @@ pub record RefusedSo (all before after old new : Option (List ℕ)) (fault now :
   pub said : Reported old new fault now (refusal number cause)
   pub line : IfSome all (λ text. RefusedAt number cause text before after)
 
--- the event of a line finds the journal full, and the errors say by which count; the transcript of the lines
--- before it was written, which has the block of each entry that was made
+-- an event of a line finds the journal full, and the errors say by which count; the transcript of the lines
+-- before it was written, and the blocks of the entries that the line made
 pub record FullSo (all before after old new : Option (List ℕ)) (fault now : ℕ) : Type 0 where
   pub count : Count
   pub said : Reported old new fault now (full_line count)

@@ -3,7 +3,7 @@ use Rattle.std.proofs.Common.{◌≡◌, ◌≢◌, ◌≤◌, ◌<◌, ◌+◌,
 use Rattle.std.proofs.lemmas.Bool.Decides.{nat_tests}
 use Rattle.std.specs.List.{AllByRecursion, list_all, last_or}
 use Rattle.login_base.specs.Hex.{is_hex_digit}
-use Rattle.login_conf.specs.Reading.{conf_of, diagnostics_of}
+use Rattle.login_conf.specs.Reading.{diagnostics_of}
 use Rattle.login_conf.specs.declared.diagnostic.Diagnostic.{Diagnostic}
 use Rattle.login_model.specs.declared.table.Row.{Row}
 use Rattle.login_policy.specs.Reading.{table_of}

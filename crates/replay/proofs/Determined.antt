@@ -1,17 +1,15 @@
 -- What a text is a recording of.
-use Rattle.std.proofs.Common.{◌≡◌, ℕ, List, [], ◌∷◌, ◌++◌, map, refl, ap, subst}
+use Rattle.std.proofs.Common.{◌≡◌, ℕ, List, [], ◌∷◌, ◌++◌, refl}
 use Rattle.std.proofs.lemmas.List.{append_cancel_right}
-use Rattle.login_model.specs.declared.mark.Entry.{Entry}
-use Rattle.login_model.specs.Legal.{IsLegal, events_of}
-use Rattle.login_laws.proofs.JournalLaws.{one-after}
 use Rattle.recording.specs.declared.line.Line.{Line}
 use Rattle.recording.specs.declared.line.Line.TheVariants.{Go, End}
 use Rattle.recording.specs.Cut.{cut}
 use Rattle.recording.proofs.Grammar.{reads_one}
+use Rattle.replay.specs.Played.{Played, played_lines}
 use Rattle.replay.specs.Written.{AreReadAs}
-use Rattle.replay.specs.PreambleLines.{setup_of}
-use Rattle.replay.specs.Recording.{recording, event_line, IsPlay}
+use Rattle.replay.specs.Recording.{recording, IsPlay}
 use Rattle.replay.specs.Spelled.{OneRecording}
+use Rattle.replay.proofs.PlayedLines.{one_played}
 use Rattle.replay.proofs.Preambles.{apart}
 
 -- written lines are read as one list of lines
@@ -26,39 +24,22 @@ lines_one (x ∷ more) (l ∷ ls) (m ∷ ms) h k =
     let rest : ls ≡ ms = lines_one more ls ms h.1 k.1 in
     λ i. one i ∷ rest i
 
--- the lines of events say the events
-events_one : (es ds : List Entry) → map event_line es ≡ map event_line ds → events_of es ≡ events_of ds
-events_one [] [] h = refl
-events_one [] (d ∷ ds) h = cc
-events_one (e ∷ es) [] h = cc
-events_one (e ∷ es) (d ∷ ds) h =
-    let one : e.event ≡ d.event = cc in
-    let tail : map event_line es ≡ map event_line ds = cc in
-    let rest : events_of es ≡ events_of ds = events_one es ds tail in
-    λ i. one i ∷ rest i
-
--- behind one preamble, they play one journal
-pub journal_one : (ls ms : List Line) (es ds : List Entry) → IsPlay ls es → IsPlay ms ds → ls ≡ ms → map event_line es ≡ map event_line ds → es ≡ ds
-journal_one ls ms es ds p q same h =
-    let legal : IsLegal (setup_of ms) es = subst (λ (v : List Line). IsLegal (setup_of v) es) same p.legal in
-    one-after (setup_of ms) [] es ds legal q.legal (events_one es ds h)
-
 -- two recordings of the same lines
-pub record OnePlay (ls ms : List Line) (es ds : List Entry) : Type 0 where
+pub record OnePlay (ls ms : List Line) (ps qs : List Played) : Type 0 where
   pub preambles : ls ≡ ms
-  pub journals : es ≡ ds
+  pub played : ps ≡ qs
 
-pub one_play : (ls ms : List Line) (es ds : List Entry) → IsPlay ls es → IsPlay ms ds → recording ls es ≡ recording ms ds → OnePlay ls ms es ds
-one_play ls ms es ds p q e =
-    let x = map event_line es ++ (End ∷ []) in
-    let y = map event_line ds ++ (End ∷ []) in
+pub one_play : (ls ms : List Line) (ps qs : List Played) → IsPlay ls ps → IsPlay ms qs → recording ls ps ≡ recording ms qs → OnePlay ls ms ps qs
+one_play ls ms ps qs p q e =
+    let x = played_lines ps ++ (End ∷ []) in
+    let y = played_lines qs ++ (End ∷ []) in
     let behind : ls ++ (Go ∷ x) ≡ ms ++ (Go ∷ y) = cc in
     let a = apart ls ms x y p.preamble_is q.preamble_is behind in
-    let events : map event_line es ≡ map event_line ds = append_cancel_right (map event_line es) (map event_line ds) (End ∷ []) a.behind in
-    record { preambles = a.preambles; journals = journal_one ls ms es ds p q a.preambles events }
+    let lines : played_lines ps ≡ played_lines qs = append_cancel_right (played_lines ps) (played_lines qs) (End ∷ []) a.behind in
+    record { preambles = a.preambles; played = one_played ls ms ps qs p q a.preambles lines }
 
 pub one_recording : OneRecording
 one_recording text a b =
-    let lines = lines_one (cut text) (recording a.preamble a.journal) (recording b.preamble b.journal) a.read b.read in
-    let one = one_play a.preamble b.preamble a.journal b.journal a.play b.play lines in
-    (ap setup_of one.preambles, one.journals)
+    let lines = lines_one (cut text) (recording a.preamble a.played) (recording b.preamble b.played) a.read b.read in
+    let one = one_play a.preamble b.preamble a.played b.played a.play b.play lines in
+    (one.preambles, one.played)

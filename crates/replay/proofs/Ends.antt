@@ -5,7 +5,9 @@ use Rattle.std.proofs.lemmas.Bool.{cases_lt}
 use Rattle.login_edge.specs.Texts.{Gains, GainsFront}
 use Rattle.login_edge.proofs.Gained.{Gains-nothing, Gains-whole, Gains-front-more}
 use Rattle.login_model.specs.declared.count.Count.{Count}
+use Rattle.login_model.specs.declared.event.Event.{Event as AnEvent}
 use Rattle.login_model.specs.declared.mark.Entry.{Entry}
+use Rattle.login_model.specs.Full.{full}
 use Rattle.recording.specs.declared.line.Line.{Line}
 use Rattle.recording.specs.declared.line.Line.TheVariants.{Go}
 use Rattle.recording.specs.Cut.{first_line}
@@ -13,8 +15,9 @@ use Rattle.recording.specs.Reading.{Reading, left_to}
 use Rattle.recording.specs.Causes.{line_fault}
 use Rattle.recording.specs.declared.line.LineFault.TheVariants as fault
 use Rattle.recording.proofs.Grammar.{reads_one}
-use Rattle.replay.specs.Written.{Splits, WereRead}
-use Rattle.replay.specs.PreambleLines.{IsPreamble, HasTable, line_at_fault}
+use Rattle.replay.specs.Played.{Played, journal_of}
+use Rattle.replay.specs.Written.{Splits, WereRead, joined}
+use Rattle.replay.specs.PreambleLines.{setup_of, IsPreamble, HasTable, line_at_fault}
 use Rattle.replay.specs.Recording.{most_lines}
 use Rattle.replay.specs.Front.{Front, fresh, headed, going, ended, lines_of, text_of, Takes, IsFront}
 use Rattle.replay.specs.inner.Ahead.{IsNoLine, Torn, Partly, BreaksOff, EndsBehind, EndsPast}
@@ -23,7 +26,8 @@ use Rattle.replay.specs.inner.Writing.{Writes}
 use Rattle.replay.specs.declared.early.Early.{Early}
 use Rattle.replay.specs.declared.early.Early.TheVariants as early
 use Rattle.replay.specs.Causes.{IsOwnCause, IsCause, refused_line}
-use Rattle.replay.specs.Outcome.{RefusedAt, FullAt, Broken, Fronted, IsPast, IsRefusal, IsFull}
+use Rattle.replay.specs.Transcript.{entries_text}
+use Rattle.replay.specs.Outcome.{RefusedAt, FullAt, Broken, Fronted, IsPast, IsRefusal, IsUnderWay}
 use Rattle.replay.specs.declared.cause.Cause.{Cause}
 use Rattle.replay.specs.declared.cause.Cause.TheVariants.{UnknownWord, BadNumber, BadHex, MissingWord, ExtraWord, TooLong, WrongPlace, BadName, BadAction, Ended, NotBuilt}
 use Rattle.replay.proofs.Written.{told_split, one_line, first_is_read, text_is_some, read_some}
@@ -82,21 +86,43 @@ ends_front f (Some text) (Some rest) now before after h a part w = record {
   is_front = h;
   read = subst (Splits text (lines_of f)) part.split (told_split text (lines_of f) rest a);
   left_is = part.left_is;
-  wrote = w;
+  wrote = inl w;
 }
 
--- an event finds the journal full
-pub ends_filled : (f : Front) (all left before after : Option (List ℕ)) (count : Count) → IsFront f → Reached all f left → length (lines_of f) < most_lines
-    → IfSome left (IsFull count f) → Gains before after (text_of f) → IfSome all (λ text. FullAt count text before after)
-ends_filled f None left before after count h a within is w = tt
-ends_filled f (Some text) None before after count h a within is w = absurd (nothing_left text a.split)
-ends_filled f (Some text) (Some rest) before after count h a within is w = record {
+-- a line behind it is under way
+pub ends_under_way : (f : Front) (all left after now held written : Option (List ℕ)) (line : Line) (made : List Entry) (more : List AnEvent) → IsFront f → Reached all f left → WereRead left (line ∷ []) after
+    → IfSome after (λ text. Partly text now) → IsUnderWay f line made more → GainsFront held written (text_of f ++ entries_text f.played made) → IfSome all (λ text. Fronted text now held written)
+ends_under_way f None left after now held written line made more h a r part way w = tt
+ends_under_way f (Some text) None after now held written line made more h a r part way w = absurd (nothing_left text a.split)
+ends_under_way f (Some text) (Some rest) None now held written line made more h a r part way w = absurd (nothing_left rest r.split)
+ends_under_way f (Some text) (Some rest) (Some behind) now held written line made more h a r part way w =
+    let s = told_split rest (line ∷ []) behind r in
+    let split : rest ≡ (joined s.written ++ part.part) ++ part.rest =
+    s.split ∙ (ap (λ (t : List ℕ). joined s.written ++ t) part.split ∙ sym (append_assoc (joined s.written) part.part part.rest)) in
+    record {
+      front = f;
+      part = joined s.written ++ part.part;
+      rest = part.rest;
+      is_front = h;
+      read = subst (Splits text (lines_of f)) split (told_split text (lines_of f) rest a);
+      left_is = part.left_is;
+      wrote = inr (record { line = line; made = made; more = more; rest = part.part; next = record { written = s.written; are = s.are; split = refl }; under_way = way; wrote = w });
+    }
+
+-- an event of the line behind it finds the journal full
+pub ends_filled : (f : Front) (all left after held written : Option (List ℕ)) (count : Count) (line : Line) (made : List Entry) (event : AnEvent) (more : List AnEvent) → IsFront f → Reached all f left
+    → length (lines_of f) < most_lines → WereRead left (line ∷ []) after → IsUnderWay f line made (event ∷ more) → full (setup_of f.preamble) (journal_of f.played ++ made) event ≡ Some count
+    → Gains held written (text_of f ++ entries_text f.played made) → IfSome all (λ text. FullAt count text held written)
+ends_filled f None left after held written count line made event more h a within r way is w = tt
+ends_filled f (Some text) None after held written count line made event more h a within r way is w = absurd (nothing_left text a.split)
+ends_filled f (Some text) (Some rest) None held written count line made event more h a within r way is w = absurd (nothing_left rest r.split)
+ends_filled f (Some text) (Some rest) (Some behind) held written count line made event more h a within r way is w = record {
   front = f;
   rest = rest;
   is_front = h;
   read = told_split text (lines_of f) rest a;
   within = within;
-  is_full = is;
+  is_full = record { line = line; made = made; event = event; more = more; behind = behind; next = told_split rest (line ∷ []) behind r; under_way = way; full = is };
   wrote = w;
 }
 
@@ -292,21 +318,21 @@ cause_past f (Some rest) cause full h = record { own = λ k. absurd (omega (arit
 
 -- the front before the first line
 abbrev pub fresh_front : Front
-fresh_front = record { stage = fresh; preamble = []; journal = [] }
+fresh_front = record { stage = fresh; preamble = []; played = [] }
 
 pub fresh_is_front : IsFront fresh_front
 fresh_is_front = record { play = nothing_played [] tt; stage_fits = (refl, refl); room = tt }
 
 -- the front in the preamble
 abbrev pub headed_front : List Line → Front
-headed_front ls = record { stage = headed; preamble = ls; journal = [] }
+headed_front ls = record { stage = headed; preamble = ls; played = [] }
 
 pub headed_is_front : (ls : List Line) → IsPreamble ls → IsFront (headed_front ls)
 headed_is_front ls h = record { play = nothing_played ls h; stage_fits = refl; room = tt }
 
 -- the front behind it
-abbrev pub going_front : List Line → List Entry → Front
-going_front ls es = record { stage = going; preamble = ls; journal = es }
+abbrev pub going_front : List Line → List Played → Front
+going_front ls ps = record { stage = going; preamble = ls; played = ps }
 
 -- a text was read to this front and its transcript written: so it ends where the source fails or memory lacks
 pub breaks_here : (f : Front) (all left now start held : Option (List ℕ)) (e : Early) → IsFront f → Reached all f left → Gains start held (text_of f) → BreaksOff left now e

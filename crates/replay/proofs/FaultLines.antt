@@ -1,5 +1,5 @@
 -- A table that is refused is refused at a line of an action.
-use Rattle.std.proofs.Common.{◌≡◌, ◌<◌, ◌+◌, ◌-◌, eqb, ℕ, zero, suc, Bool, true, false, cond, List, [], ◌∷◌, ◌++◌, length, length-append, slice_index_or, Option, Some, None, Result, Ok, Err, refl, arith, ap, sym, ◌∙◌}
+use Rattle.std.proofs.Common.{◌≡◌, ◌<◌, ◌+◌, ◌-◌, eqb, ℕ, zero, suc, Bool, true, false, cond, List, [], ◌∷◌, ◌++◌, length, length-append, slice_index_or, Option, Some, None, Err, refl, arith, ap, sym, ◌∙◌}
 use Rattle.std.specs.List.{slice_split, onto_first, count_by}
 use Rattle.std.specs.Option.{option_and_then, option_or, unwrap_or}
 use Rattle.std.proofs.lemmas.Bool.Decides.{nat_tests}
@@ -7,7 +7,7 @@ use Rattle.std.proofs.lemmas.List.Splits.{slice_split-cons_no, length-slice_spli
 use Rattle.login_model.specs.declared.action.Action.{Action as AnAction}
 use Rattle.login_policy.specs.declared.fault.TableFault.{TableFault}
 use Rattle.login_policy.specs.declared.fault.TableFault.TheVariants.{Repeated}
-use Rattle.login_policy.specs.Reading.{Line as TableLine, Saying, lines_of, lines_of_parts, saying, action_named, actions_in, is_among, name_fault, fault_of, first_fault, line_of_fault, table_unless, table_of}
+use Rattle.login_policy.specs.Reading.{Line as TableLine, Saying, lines_of, lines_of_parts, saying, action_named, actions_in, is_among, name_fault, fault_of, first_fault, line_of_fault, table_of}
 use Rattle.recording.specs.Bytes.{AreRaw}
 use Rattle.recording.specs.declared.line.Line.{Line}
 use Rattle.recording.specs.declared.line.Line.TheVariants.{Action}

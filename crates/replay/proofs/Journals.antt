@@ -1,13 +1,13 @@
 -- How legal journals go on.
-use Rattle.std.proofs.Common.{◌≡◌, List, [], ◌∷◌, ◌++◌, map, refl, ap, sym, subst, ◌∙◌, append_assoc, append-nil, None}
+use Rattle.std.proofs.Common.{◌≡◌, List, [], ◌∷◌, ◌++◌, refl, ap, sym, subst, ◌∙◌, append_assoc, append-nil, None}
 use Rattle.login_model.specs.declared.setup.Setup.{Setup}
 use Rattle.login_model.specs.declared.event.Event.{Event}
 use Rattle.login_model.specs.declared.mark.Entry.{Entry}
 use Rattle.login_model.specs.Full.{full}
-use Rattle.login_model.specs.Legal.{IsLegalEntry, IsLegalAfter, answered, stepped, trail_of}
+use Rattle.login_model.specs.Legal.{IsLegalEntry, IsLegalAfter, answered, events_of, stepped, trail_of}
 use Rattle.login_model.specs.Policy.{verdict}
 use Rattle.login_laws.proofs.JournalLaws.{one-marks}
-use Rattle.replay.specs.Recording.{HasRoomAfter, HasRoom}
+use Rattle.replay.specs.Recording.{HasRoomAfter}
 
 -- an event makes one entry
 pub one_entry : (U : Setup) (before : List Entry) (e f : Entry) → IsLegalEntry U before e → IsLegalEntry U before f → e.event ≡ f.event → e ≡ f
@@ -23,38 +23,37 @@ one_entry U before e f h k same =
 pub record GoesOn (all es : List Entry) (more : List Event) : Type 0 where
   pub rest : List Entry
   pub is : all ≡ es ++ rest
-  pub events : map (λ (e : Entry). e.event) rest ≡ more
+  pub events : events_of rest ≡ more
 
 -- a legal journal whose events begin with those of another begins with that one
 pub journal_goes_on : (U : Setup) (before all es : List Entry) (more : List Event) → IsLegalAfter U before all → IsLegalAfter U before es
-    → map (λ (e : Entry). e.event) all ≡ map (λ (e : Entry). e.event) es ++ more → GoesOn all es more
+    → events_of all ≡ events_of es ++ more → GoesOn all es more
 journal_goes_on U before all [] more h k e = record { rest = all; is = refl; events = e }
 journal_goes_on U before [] (e ∷ es) more h k same = cc
 journal_goes_on U before (a ∷ all) (e ∷ es) more h k same =
     let heads : a.event ≡ e.event = cc in
-    let tails : map (λ (x : Entry). x.event) all ≡ map (λ (x : Entry). x.event) es ++ more = cc in
+    let tails : events_of all ≡ events_of es ++ more = cc in
     let one : a ≡ e = one_entry U before a e h.0 k.0 heads in
     let theirs : IsLegalAfter U (before ++ e ∷ []) all = subst (λ (x : Entry). IsLegalAfter U (before ++ x ∷ []) all) one h.1 in
     let g = journal_goes_on U (before ++ e ∷ []) all es more theirs k.1 tails in
     let whole : a ∷ all ≡ e ∷ (es ++ g.rest) = ap (λ (x : Entry). x ∷ all) one ∙ ap (λ (t : List Entry). e ∷ t) g.is in
     record { rest = g.rest; is = whole; events = g.events }
 
--- the entry that comes after some entries of a legal journal is legal after them
-pub legal_at : (U : Setup) (before es : List Entry) (e : Entry) (rest : List Entry) → IsLegalAfter U before (es ++ (e ∷ rest)) → IsLegalEntry U (before ++ es) e
-legal_at U before [] e rest h = rw append-nil h.0
-legal_at U before (x ∷ es) e rest h = subst (λ (b : List Entry). IsLegalEntry U b e) (append_assoc before (x ∷ []) es) (legal_at U (before ++ x ∷ []) es e rest h.1)
+-- the first entries of a legal journal, and those behind them
+pub legal_front : (U : Setup) (before es rest : List Entry) → IsLegalAfter U before (es ++ rest) → IsLegalAfter U before es
+legal_front U before [] rest h = tt
+legal_front U before (e ∷ es) rest h = (h.0, legal_front U (before ++ e ∷ []) es rest h.1)
 
--- and its event found room
+pub legal_behind : (U : Setup) (before es rest : List Entry) → IsLegalAfter U before (es ++ rest) → IsLegalAfter U (before ++ es) rest
+legal_behind U before [] rest h = subst (λ (b : List Entry). IsLegalAfter U b rest) (sym (append-nil before)) h
+legal_behind U before (e ∷ es) rest h = subst (λ (b : List Entry). IsLegalAfter U b rest) (append_assoc before (e ∷ []) es) (legal_behind U (before ++ e ∷ []) es rest h.1)
+
+-- the event of an entry found room
 pub room_at : (U : Setup) (before es : List Entry) (e : Entry) (rest : List Entry) → HasRoomAfter U before (es ++ (e ∷ rest)) → full U (before ++ es) e.event ≡ None
 room_at U before [] e rest h = rw append-nil h.0
 room_at U before (x ∷ es) e rest h = subst (λ (b : List Entry). full U b e.event ≡ None) (append_assoc before (x ∷ []) es) (room_at U (before ++ x ∷ []) es e rest h.1)
 
-room_more_after : (U : Setup) (before es : List Entry) (e : Entry) → HasRoomAfter U before es → full U (before ++ es) e.event ≡ None → HasRoomAfter U before (es ++ e ∷ [])
-room_more_after U before [] e h r = (subst (λ (b : List Entry). full U b e.event ≡ None) (append-nil before) r, tt)
-room_more_after U before (x ∷ es) e h r =
-    let there : full U ((before ++ x ∷ []) ++ es) e.event ≡ None = rw append_assoc r in
-    (h.0, room_more_after U (before ++ x ∷ []) es e h.1 there)
-
--- one more entry, whose event found room
-pub room_more : (U : Setup) (es : List Entry) (e : Entry) (event : Event) → HasRoom U es → e.event ≡ event → full U es event ≡ None → HasRoom U (es ++ e ∷ [])
-room_more U es e event h same r = room_more_after U [] es e h (rw same r)
+-- and so did those behind it
+pub room_behind : (U : Setup) (before es rest : List Entry) → HasRoomAfter U before (es ++ rest) → HasRoomAfter U (before ++ es) rest
+room_behind U before [] rest h = subst (λ (b : List Entry). HasRoomAfter U b rest) (sym (append-nil before)) h
+room_behind U before (e ∷ es) rest h = subst (λ (b : List Entry). HasRoomAfter U b rest) (append_assoc before (e ∷ []) es) (room_behind U (before ++ e ∷ []) es rest h.1)

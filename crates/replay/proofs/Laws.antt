@@ -1,5 +1,5 @@
 -- Laws of refusals.
-use Rattle.std.proofs.Common.{◌≡◌, ℕ, ◌+◌, ◌<◌, ◌≤◌, List, length, take, refl, arith, subst, length-take, Option, Some, None, ◌⊎◌, inl, inr}
+use Rattle.std.proofs.Common.{◌≡◌, ℕ, ◌+◌, ◌<◌, ◌≤◌, List, length, take, refl, arith, subst, length-take, Option, Some, None, inl, inr}
 use Rattle.std.specs.Option.{IfSome}
 use Rattle.std.proofs.lemmas.List.{take-take}
 use Rattle.recording.specs.declared.line.Line.{Line}
@@ -37,10 +37,10 @@ one_refusal text m n a b =
 -- a recording is refused nowhere
 pub recording_begins : (text : List ℕ) (n : ℕ) → IsRecordingText text → Begins text n
 recording_begins text n r =
-    let lines = recording r.preamble r.journal in
+    let lines = recording r.preamble r.played in
     record {
       lines = lines;
-      recorded = inr (record { preamble = r.preamble; journal = r.journal; play = r.play; table = r.table; is = refl });
+      recorded = inr (record { preamble = r.preamble; played = r.played; play = r.play; table = r.table; is = refl });
       read = read_take n (cut text) lines r.read;
       within = omega (arith, length-take n (cut text), read_length (cut text) lines r.read, r.within);
     }

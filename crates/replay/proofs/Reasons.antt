@@ -40,13 +40,13 @@ named_own Ended f e = refl
 named_own NotBuilt f e = refl
 
 -- a fault of the line itself, a wrong place, or a line that is not built
-data Reason : Front → List ℕ → Cause → Type 0 where
+pub data Reason : Front → List ℕ → Cause → Type 0 where
   own : (front : Front) (rest : List ℕ) (c : Cause) (f : LineFault) → line_fault (first_line rest) ≡ Some f → own_fault c ≡ Some f → Reason front rest c
   misplaced : (front : Front) (rest : List ℕ) → IsMisplaced front rest → Reason front rest WrongPlace
   untabled : (front : Front) (rest : List ℕ) → IsBadTable front rest → Reason front rest BadAction
   unbuilt : (front : Front) (rest : List ℕ) → IsUnbuilt (first_line rest) → Reason front rest NotBuilt
 
-reason : (front : Front) (rest : List ℕ) (c : Cause) → IsCause c front rest → Reason front rest c
+pub reason : (front : Front) (rest : List ℕ) (c : Cause) → IsCause c front rest → Reason front rest c
 reason front rest UnknownWord h = Reason.own front rest UnknownWord fault.UnknownWord h refl
 reason front rest BadNumber h = Reason.own front rest BadNumber fault.BadNumber h refl
 reason front rest BadHex h = Reason.own front rest BadHex fault.BadHex h refl
@@ -70,7 +70,7 @@ not_unbuilt rest f e u = unbuilt_faultless (first_line rest) f e u
 go_misplaced : (front : Front) (rest : List ℕ) → IsBadTable front rest → IsMisplaced front rest → ⊥
 go_misplaced front rest t m =
     let go : m.line ≡ Go = reads_one (first_line rest) m.line Go m.read t.go in
-    m.misplaced (subst (Takes front) (sym go) (subst (λ (st : Stage). takes_at st front.preamble front.journal Go) (sym t.in_preamble) tt))
+    m.misplaced (subst (Takes front) (sym go) (subst (λ (st : Stage). takes_at st front.preamble front.played Go) (sym t.in_preamble) tt))
 
 same_own : (c d : Cause) (f g : LineFault) (o : Option LineFault) → o ≡ Some f → o ≡ Some g → own_fault c ≡ Some f → own_fault d ≡ Some g → c ≡ d
 same_own c d f g o e h a b = sym (named_own c f a) ∙ (ap named (a ∙ (sym e ∙ (h ∙ sym b))) ∙ named_own d g b)

@@ -1,5 +1,5 @@
 -- Which line is refused.
-use Rattle.std.proofs.Common.{◌≤◌, length-append, ◌≡◌, ℕ, suc, ◌+◌, List, [], ◌∷◌, ◌++◌, length, take, refl, arith, ap, sym, ◌∙◌, subst, append-nil, ◌⊎◌, inl, inr}
+use Rattle.std.proofs.Common.{◌≤◌, length-append, ◌≡◌, ℕ, suc, ◌+◌, List, [], ◌∷◌, ◌++◌, length, take, refl, arith, ap, sym, ◌∙◌, subst, append-nil, inl, inr}
 use Rattle.std.proofs.Math.Seq.{take-append-add}
 use Rattle.std.proofs.lemmas.List.{take_at}
 use Rattle.recording.specs.declared.line.Line.{Line}
@@ -28,10 +28,10 @@ take_more text ls rest s =
     ∙ (ap (λ (n : ℕ). take (n + 1) (s.written ++ cut rest)) (sym (read_length s.written ls s.are)) ∙ take-append-add s.written (cut rest) 1)
 
 -- as many lines as were taken begin a recording
-pub begins_played : (f : Front) (text rest : List ℕ) → IsPlay f.preamble f.journal → StageFits f.stage f.preamble f.journal → Splits text (lines_of f) rest → length (lines_of f) ≤ most_lines → Begins text (length (lines_of f))
+pub begins_played : (f : Front) (text rest : List ℕ) → IsPlay f.preamble f.played → StageFits f.stage f.preamble f.played → Splits text (lines_of f) rest → length (lines_of f) ≤ most_lines → Begins text (length (lines_of f))
 begins_played f text rest play fits s within =
     let ls = lines_of f in
-    let on = continues f.stage f.preamble f.journal play fits in
+    let on = continues f.stage f.preamble f.played play fits in
     let left : s.written ≡ take (length ls) (cut text) = sym (take_split text ls rest s) in
     let right : ls ≡ take (length ls) on.lines = sym (ap (take (length ls)) on.split ∙ take_at ls on.more (length ls) refl) in
     record {
@@ -62,14 +62,14 @@ stops_after : (f : Front) (rest : List ℕ) (more : List Line) → IsFront f →
     → MayBegin (length (lines_of f) + 1) (lines_of f ++ more) → AreReadAs (take 1 (cut rest)) (take 1 more) → ⊥
 stops_after f rest [] h stop (inl o) e = omega (arith, o.1, length-append (lines_of f) [])
 stops_after f rest (line ∷ more) h stop (inl o) e =
-    stop.none line (next_is rest line e) (takes_opening f.stage f.preamble o.0.preamble f.journal line more o.0.is_preamble h.stage_fits (sym o.0.is))
-    (λ go headed. absurd (opening_no_go f.stage f.preamble o.0.preamble f.journal line more o.0.is_preamble (sym o.0.is) go headed))
+    stop.none line (next_is rest line e) (takes_opening f.stage f.preamble o.0.preamble f.played line more o.0.is_preamble h.stage_fits (sym o.0.is))
+    (λ go headed. absurd (opening_no_go f.stage f.preamble o.0.preamble f.played line more o.0.is_preamble (sym o.0.is) go headed))
 stops_after f rest [] h stop (inr r) e =
-    let is : recording r.preamble r.journal ≡ lines_of f = sym r.is ∙ append-nil (lines_of f) in
-    stop.early (whole_at_end f.stage f.preamble r.preamble f.journal r.journal h.play r.play is) (nothing_is rest e)
+    let is : recording r.preamble r.played ≡ lines_of f = sym r.is ∙ append-nil (lines_of f) in
+    stop.early (whole_at_end f.stage f.preamble r.preamble f.played r.played h.play r.play is) (nothing_is rest e)
 stops_after f rest (line ∷ more) h stop (inr r) e =
-    stop.none line (next_is rest line e) (takes_next f.stage f.preamble r.preamble f.journal r.journal line more h.play r.play h.stage_fits (sym r.is))
-    (λ go headed. tabled_at_go f.stage f.preamble r.preamble f.journal r.journal line more h.play.preamble_is r.play.preamble_is r.table (sym r.is) go headed)
+    stop.none line (next_is rest line e) (takes_next f.stage f.preamble r.preamble f.played r.played line more h.play r.play h.stage_fits (sym r.is))
+    (λ go headed. tabled_at_go f.stage f.preamble r.preamble f.played r.played line more h.play.preamble_is r.play.preamble_is r.table (sym r.is) go headed)
 
 pub begins_more : (f : Front) (text rest : List ℕ) → IsFront f → Splits text (lines_of f) rest → Stops f rest → Begins text (length (lines_of f) + 1) → ⊥
 begins_more f text rest h s stop b =

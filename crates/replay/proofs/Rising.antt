@@ -1,12 +1,12 @@
 -- Which counts of faults stand still.
 use Rattle.std.proofs.Common.{◌≡◌, ℕ, Bool, true, false, List, Option, Result, Ok, refl, Err}
-use Rattle.login_core.specs.State.{CoreState}
-use Rattle.login_model.specs.declared.event.Event.{Event}
+use Rattle.recording.specs.declared.line.Line.{Line}
 use Rattle.replay.specs.Rising.{Rises}
 use Rattle.replay.specs.inner.Ahead.{BreaksOff, EndsBehind}
 use Rattle.replay.specs.inner.Early.{failed, of_reading, of_writing}
 use Rattle.replay.specs.inner.Opening.{OpensNot}
-use Rattle.replay.specs.inner.Playing.{MakesRoom, Plays}
+use Rattle.replay.specs.inner.Player.{PlayerState}
+use Rattle.replay.specs.inner.Playing.{ComesNext, PlaysLine}
 use Rattle.replay.specs.Replaying.{is_read_fault, is_write_fault}
 use Rattle.replay.specs.inner.Running.{end_of}
 use Rattle.replay.specs.inner.Writing.{Writes}
@@ -51,19 +51,12 @@ writes_unread old new text (Full count) h = refl
 writes_unread old new text WriteFault h = refl
 writes_unread old new text NoMemory h = refl
 
-pub plays_unread : (old new : CoreState) (x : Event) (before after : Told) (e : Early) → Plays old x new before after (Err e) → of_reading e ≡ false
-plays_unread old new x before after ReadFault h = absurd h
-plays_unread old new x before after (Script line cause) h = refl
-plays_unread old new x before after (Full count) h = refl
-plays_unread old new x before after WriteFault h = refl
-plays_unread old new x before after NoMemory h = refl
-
-pub room_unwritten : (old new : CoreState) (x : Event) (e : Early) → MakesRoom old new x (Err e) → of_writing e ≡ false
-room_unwritten old new x WriteFault h = absurd h
-room_unwritten old new x (Script line cause) h = refl
-room_unwritten old new x (Full count) h = refl
-room_unwritten old new x ReadFault h = refl
-room_unwritten old new x NoMemory h = refl
+pub plays_unread : (old new : PlayerState) (line : Line) (before after : Told) (e : Early) → ComesNext old line → PlaysLine old line new before after (Err e) → of_reading e ≡ false
+plays_unread old new line before after ReadFault n h = absurd (h n.played n.behind n.may_come)
+plays_unread old new line before after (Script number cause) n h = refl
+plays_unread old new line before after (Full count) n h = refl
+plays_unread old new line before after WriteFault n h = refl
+plays_unread old new line before after NoMemory n h = refl
 
 -- the end that is answered tells the same fault
 pub read_end : (r : Result (Unit {0}) Early) (before now : ℕ) → Rises (failed of_reading r) before now → Rises (is_read_fault (end_of r)) before now

@@ -18,7 +18,7 @@ use Rattle.recording.specs.declared.line.Line.{Line}
 use Rattle.recording.specs.declared.line.Line.TheVariants.{Header, Guid, User, Conf, Action, Go, Event, Link, In, Hangup, End}
 use Rattle.recording.specs.Lines.{IsLine}
 use Rattle.replay.specs.Written.{WereRead}
-use Rattle.replay.specs.PreambleLines.{guid_in, users_in, conf_in, table_in, action_lines, guid_or_default, table_or_default, IsRead, HasTable, number_at_fault, setup_of, MayFollow, IsPreamble}
+use Rattle.replay.specs.PreambleLines.{guid_in, users_in, conf_in, table_in, action_lines, guid_or_default, table_or_default, IsRead, number_at_fault, setup_of, MayFollow, IsPreamble}
 use Rattle.replay.specs.Recording.{most_lines}
 use Rattle.replay.specs.Front.{Front, fresh, headed, ended, lines_of, text_of, takes_at, IsFront}
 use Rattle.replay.specs.Outcome.{RefusedAt, Broken, Fronted}

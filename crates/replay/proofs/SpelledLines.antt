@@ -1,15 +1,24 @@
 -- Recordings that are spelled line by line are read as them.
-use Rattle.std.proofs.Common.{◌≡◌, ℕ, List, [], ◌∷◌, ◌++◌, map, refl, ap, sym, ◌∙◌, subst, append-nil}
+use Rattle.std.proofs.Common.{◌≡◌, ℕ, List, [], ◌∷◌, ◌++◌, map, refl, ap, sym, ◌∙◌, subst, append-nil, None}
 use Rattle.std.specs.List.{AllByRecursion}
+use Rattle.std.proofs.lemmas.List.{map-append}
+use Rattle.login_base.specs.declared.ids.ConnId.{ConnId}
+use Rattle.login_model.specs.declared.event.Event.{Event as AnEvent}
+use Rattle.login_model.specs.declared.event.Event.TheVariants as event
 use Rattle.login_model.specs.declared.mark.Entry.{Entry}
+use Rattle.login_model.specs.declared.setup.Setup.{Setup}
+use Rattle.login_model.specs.Legal.{IsLegal, IsLegalAfter, IsPlaced}
 use Rattle.recording.specs.declared.line.Line.{Line}
 use Rattle.recording.specs.Cut.{cut}
 use Rattle.recording.specs.Lines.{spell, IsLine, IsEventLine}
 use Rattle.recording.proofs.Spellings.{line_reads}
 use Rattle.replay.specs.Written.{AreReadAs, joined}
-use Rattle.replay.specs.PreambleLines.{IsPreambleAfter}
-use Rattle.replay.specs.Recording.{recording, event_line, IsPlay}
-use Rattle.replay.specs.Spelled.{spelling, SpelledIsRecording}
+use Rattle.replay.specs.Links.{link_user}
+use Rattle.replay.specs.Played.{Played, played_lines, journal_of}
+use Rattle.replay.specs.PreambleLines.{setup_of, IsPreambleAfter}
+use Rattle.replay.specs.Recording.{recording, typed, typed_entry, AreTurnsAfter, HasRoom, IsOfNoLink, IsPlay}
+use Rattle.replay.specs.Spelled.{spelling, IsTyped, SpelledIsRecording}
+use Rattle.replay.proofs.PlayedLines.{are_lines}
 use Rattle.replay.proofs.Written.{cut_joined}
 
 abbrev AreLines : List Line → Type 0
@@ -23,12 +32,9 @@ preamble_lines : (before ls : List Line) → IsPreambleAfter before ls → AreLi
 preamble_lines before [] h = tt
 preamble_lines before (l ∷ ls) h = (h.0, preamble_lines (before ++ l ∷ []) ls h.2)
 
-event_lines : (es : List Entry) → AllByRecursion (λ (e : Entry). IsEventLine e.event) es → AreLines (map event_line es)
-event_lines [] h = tt
-event_lines (e ∷ es) h = (h.0, event_lines es h.1)
-
-recording_lines : (ls : List Line) (es : List Entry) → IsPlay ls es → AreLines (recording ls es)
-recording_lines ls es p = (refl, lines_append ls _ (preamble_lines [] ls p.preamble_is) (tt, lines_append (map event_line es) _ (event_lines es p.events) (tt, tt)))
+recording_lines : (ls : List Line) (ps : List Played) → IsPlay ls ps → AreLines (recording ls ps)
+recording_lines ls ps p =
+    (refl, lines_append ls _ (preamble_lines [] ls p.preamble_is) (tt, lines_append (played_lines ps) _ (are_lines (setup_of ls) [] ps p.turns) (tt, tt)))
 
 spelled_read : (ls : List Line) → AreLines ls → AreReadAs (map spell ls) ls
 spelled_read [] h = tt
@@ -45,16 +51,51 @@ cut_spelling ls h =
     let pieces : cut (spelling ls) ≡ map spell ls = ap cut (sym whole) ∙ (cut_joined (map spell ls) ls [] read ∙ append-nil (map spell ls)) in
     subst (λ (a : List (List ℕ)). AreReadAs a ls) (sym pieces) read
 
-pub spelled_recording : SpelledIsRecording
-spelled_recording ls es p table room within = record {
-  recorded = record {
-    preamble = ls;
-    journal = es;
-    play = p;
-    table = table;
-    room = room;
-    read = cut_spelling (recording ls es) (recording_lines ls es p);
-    within = within;
-  };
-  plays = refl;
+-- events that have a line each
+typed_journal : (es : List Entry) → journal_of (typed es) ≡ es
+typed_journal [] = refl
+typed_journal (e ∷ es) = ap (λ (v : List Entry). e ∷ v) (typed_journal es)
+
+typed_no_link : (es : List Entry) (c : ConnId) → link_user (played_lines (typed es)) c ≡ None
+typed_no_link [] c = refl
+typed_no_link (e ∷ es) c = typed_no_link es c
+
+typed_of_no_link : (es : List Entry) (e : AnEvent) → IsOfNoLink (played_lines (typed es)) e
+typed_of_no_link es (event.Connect c u) = typed_no_link es c
+typed_of_no_link es (event.Disconnect c) = typed_no_link es c
+typed_of_no_link es (event.Call r) = tt
+typed_of_no_link es (event.Hardware x) = tt
+typed_of_no_link es (event.Tick m) = tt
+typed_of_no_link es event.Stop = tt
+
+typed_turns : (U : Setup) (before es : List Entry) → IsLegalAfter U before es → AllByRecursion (λ (e : Entry). IsEventLine e.event) es → AreTurnsAfter U (typed before) (typed es)
+typed_turns U before [] h l = tt
+typed_turns U before (e ∷ es) h l =
+    let placed : IsPlaced (journal_of (typed before)) e.event = subst (λ (v : List Entry). IsPlaced v e.event) (sym (typed_journal before)) h.0.placed in
+    let behind : AreTurnsAfter U (typed (before ++ e ∷ [])) (typed es) = typed_turns U (before ++ e ∷ []) es h.1 l.1 in (
+      record { line_is = l.0; may_come = (placed, typed_of_no_link before e.event); events = refl },
+      subst (λ (v : List Played). AreTurnsAfter U v (typed es)) (map-append typed_entry before (e ∷ [])) behind,
+    )
+
+typed_play : (ls : List Line) (es : List Entry) → IsTyped ls es → IsPlay ls (typed es)
+typed_play ls es t = record {
+  preamble_is = t.preamble_is;
+  turns = typed_turns (setup_of ls) [] es t.legal t.events;
+  legal = subst (IsLegal (setup_of ls)) (sym (typed_journal es)) t.legal;
 }
+
+pub spelled_recording : SpelledIsRecording
+spelled_recording ls es t table room within =
+    let play = typed_play ls es t in
+    record {
+      recorded = record {
+        preamble = ls;
+        played = typed es;
+        play = play;
+        table = table;
+        room = subst (HasRoom (setup_of ls)) (sym (typed_journal es)) room;
+        read = cut_spelling (recording ls (typed es)) (recording_lines ls (typed es) play);
+        within = within;
+      };
+      plays = typed_journal es;
+    }

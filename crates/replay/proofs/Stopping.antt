@@ -1,5 +1,5 @@
 -- A text stops a replay in one way.
-use Rattle.std.proofs.Common.{◌≡◌, ℕ, suc, ◌+◌, ◌<◌, ◌≤◌, List, [], ◌∷◌, ◌++◌, length, length-append, length-take, take, map, refl, arith, ap, sym, ◌∙◌, subst, append_assoc, append-nil, Option, Some, None, ◌⊎◌, inl, inr}
+use Rattle.std.proofs.Common.{◌≡◌, ℕ, suc, ◌+◌, ◌<◌, ◌≤◌, List, [], ◌∷◌, ◌++◌, length, length-append, length-take, take, refl, arith, ap, sym, ◌∙◌, subst, append_assoc, append-nil, Option, Some, None, ◌⊎◌, inl, inr}
 use Rattle.std.proofs.lemmas.Bool.{cases_lt}
 use Rattle.std.proofs.lemmas.List.{take-take, take_all}
 use Rattle.login_model.specs.declared.count.Count.{Count}
@@ -7,81 +7,77 @@ use Rattle.login_model.specs.declared.event.Event.{Event as AnEvent}
 use Rattle.login_model.specs.declared.mark.Entry.{Entry}
 use Rattle.login_model.specs.declared.setup.Setup.{Setup}
 use Rattle.login_model.specs.Full.{full}
-use Rattle.login_model.specs.Legal.{IsLegal, IsLegalAfter, IsPlaced, AreInPlace, events_of}
-use Rattle.login_laws.proofs.Continuing.{one-journal}
+use Rattle.login_model.specs.Legal.{IsLegal, IsLegalAfter, events_of}
 use Rattle.recording.specs.declared.line.Line.{Line}
-use Rattle.recording.specs.declared.line.Line.TheVariants.{Go, Event, End}
 use Rattle.recording.specs.Cut.{cut, first_line}
-use Rattle.recording.specs.Lines.{IsEventLine}
-use Rattle.recording.proofs.Grammar.{reads_one}
-use Rattle.recording.proofs.Spellings.{read_IsLine}
-use Rattle.replay.specs.Written.{AreReadAs, Splits, joined}
+use Rattle.recording.specs.Meaning.{IsReadAs}
+use Rattle.recording.proofs.Grammar.{built_faultless, built_or_not, reads_one}
+use Rattle.replay.specs.Links.{line_events}
+use Rattle.replay.specs.Played.{Played, journal_of}
+use Rattle.replay.specs.Written.{AreReadAs, Splits}
 use Rattle.replay.specs.PreambleLines.{setup_of}
-use Rattle.replay.specs.Recording.{event_line, IsPlay, HasRoom, most_lines}
-use Rattle.replay.specs.Front.{Front, Stage, fresh, headed, going, ended, lines_at, lines_of, StageFits, IsFront}
+use Rattle.replay.specs.Recording.{AreTurns, IsPlay, IsTurn, HasRoom, HasRoomAfter, most_lines}
+use Rattle.replay.specs.Front.{Front, Stage, headed, going, ended, lines_at, lines_of, takes_at, Takes, IsFront}
 use Rattle.replay.specs.Causes.{refused_line}
 use Rattle.replay.specs.Refused.{Begins}
 use Rattle.replay.specs.Outcome.{IsRecordingText, RefusedAt, FullAt, IsPast, IsRefusal, IsFull}
 use Rattle.replay.specs.Stopping.{OneRefusedAt, OneFullAt, OneStop}
 use Rattle.replay.specs.declared.cause.Cause.{Cause}
 use Rattle.replay.specs.declared.cause.Cause.TheVariants.{UnknownWord, BadNumber, BadHex, MissingWord, ExtraWord, TooLong, WrongPlace, BadName, BadAction, Ended, NotBuilt}
-use Rattle.replay.proofs.Written.{read_take, read_length, read_append, read_apart, first_is_read, text_is_some, joined_more}
-use Rattle.replay.proofs.Journals.{one_entry, journal_goes_on, room_at}
-use Rattle.replay.proofs.Preambles.{apart, no_go}
-use Rattle.replay.proofs.Recordings.{NextEvent, behind_go, all_push}
-use Rattle.replay.proofs.Events.{lines_more}
-use Rattle.replay.proofs.Refusals.{take_split, take_more, next_is, begins_played, one_line as one_piece}
-use Rattle.replay.proofs.Reasons.{one_cause}
+use Rattle.replay.proofs.Written.{read_take, read_length, read_apart, first_is_read, text_is_some}
+use Rattle.replay.proofs.Journals.{one_entry, journal_goes_on, legal_front, legal_behind, room_at, room_behind}
+use Rattle.replay.proofs.PlayedLines.{comes_no_end, turn_at}
+use Rattle.replay.proofs.Recordings.{WentOn, went_on, may_take}
+use Rattle.replay.proofs.Refusals.{take_split, take_more, next_is, begins_so_far, one_line as one_piece}
+use Rattle.replay.proofs.Reasons.{Reason, reason, one_cause}
 use Rattle.replay.proofs.Laws.{begins_less, one_refusal, recording_begins}
 use Rattle.replay.proofs.Fronts.{same_place}
+use Rattle.replay.proofs.LinkLines.{journal-append}
 
 -- an event of a journal that was never full found room
-found_room : (U : Setup) (es all rest : List Entry) (e : AnEvent) (more : List AnEvent) → HasRoom U all → all ≡ es ++ rest → map (λ (x : Entry). x.event) rest ≡ e ∷ more → full U es e ≡ None
-found_room U es all [] e more room is h = cc
-found_room U es all (x ∷ rest) e more room is h =
+made_found : (U : Setup) (before es behind : List Entry) (e : AnEvent) (more : List AnEvent) → HasRoom U (before ++ (es ++ behind)) → events_of es ≡ e ∷ more → full U before e ≡ None
+made_found U before [] behind e more room h = cc
+made_found U before (x ∷ es) behind e more room h =
     let same : x.event ≡ e = cc in
-    let found : full U es x.event ≡ None = room_at U [] es x rest (subst (HasRoom U) is room) in
-    subst (λ (y : AnEvent). full U es y ≡ None) same found
+    let found : full U before x.event ≡ None = room_at U [] before x (es ++ behind) room in
+    subst (λ (y : AnEvent). full U before y ≡ None) same found
 
-next_found : (ls : List Line) (es all : List Entry) (e : AnEvent) → IsPlay ls es → IsPlay ls all → HasRoom (setup_of ls) all → NextEvent all es (Event e) → full (setup_of ls) es e ≡ None
-next_found ls es all e p q room (NextEvent.ends h) = cc
-next_found ls es all e p q room (NextEvent.event x more h events) =
-    let same : x ≡ e = cc in
-    let g = journal_goes_on (setup_of ls) [] all es (x ∷ more) q.legal p.legal events in
-    subst (λ (y : AnEvent). full (setup_of ls) es y ≡ None) same (found_room (setup_of ls) es all g.rest x more room g.is g.events)
+-- where the line of a play was under way, its next event found room
+turn_found : (U : Setup) (ps : List Played) (p : Played) (rest : List Played) (made : List Entry) (e : AnEvent) (more : List AnEvent) → IsTurn U ps p → IsLegal U (journal_of (ps ++ (p ∷ rest)))
+    → HasRoom U (journal_of (ps ++ (p ∷ rest))) → IsLegal U (journal_of ps ++ made) → line_events U ps p.line ≡ events_of made ++ (e ∷ more) → full U (journal_of ps ++ made) e ≡ None
+turn_found U ps p rest made e more turn legal room so_far events =
+    let before = journal_of ps in
+    let behind = journal_of rest in
+    let whole : journal_of (ps ++ (p ∷ rest)) ≡ before ++ (p.made ++ behind) = journal-append ps (p ∷ rest) in
+    let theirs : IsLegalAfter U before p.made = legal_front U before p.made behind (legal_behind U [] before (p.made ++ behind) (subst (IsLegal U) whole legal)) in
+    let g = journal_goes_on U before p.made made (e ∷ more) theirs (legal_behind U [] before made so_far) (turn.events ∙ events) in
+    let split : journal_of (ps ++ (p ∷ rest)) ≡ (before ++ made) ++ (g.rest ++ behind) =
+    whole ∙ (ap (λ (v : List Entry). before ++ (v ++ behind)) g.is ∙ (ap (λ (v : List Entry). before ++ v) (append_assoc made g.rest behind) ∙ sym (append_assoc before made (g.rest ++ behind)))) in
+    made_found U (before ++ made) g.rest behind e more (subst (HasRoom U) split room) g.events
 
-behind_found : (ls ms : List Line) (es all : List Entry) (e : AnEvent) (more : List Line) → IsPlay ls es → IsPlay ms all → HasRoom (setup_of ms) all → ms ≡ ls
-    → map event_line all ++ (End ∷ []) ≡ map event_line es ++ (Event e ∷ more) → full (setup_of ls) es e ≡ None
-behind_found ls ms es all e more p q room same h =
-    let there : IsPlay ls all = subst (λ (v : List Line). IsPlay v all) same q in
-    let has : HasRoom (setup_of ls) all = subst (λ (v : List Line). HasRoom (setup_of v) all) same room in
-    next_found ls es all e p there has (behind_go all es more (Event e) h)
-
--- where lines go on with an event, it found room
-went_on : (st : Stage) (ls ms : List Line) (es all : List Entry) (e : AnEvent) (more : List Line) → IsPlay ls es → IsPlay ms all → HasRoom (setup_of ms) all
-    → lines_at st ms all ≡ lines_at going ls es ++ (Event e ∷ more) → full (setup_of ls) es e ≡ None
-went_on fresh ls ms es all e more p q room h = cc
-went_on headed ls ms es all e more p q room h =
-    let k : ms ≡ (ls ++ (Go ∷ map event_line es)) ++ (Event e ∷ more) = cc in
-    absurd (no_go ms ls (map event_line es ++ (Event e ∷ more)) q.preamble_is (sym (k ∙ append_assoc ls (Go ∷ map event_line es) (Event e ∷ more))))
-went_on going ls ms es all e more p q room h =
-    let k : ms ++ (Go ∷ map event_line all) ≡ (ls ++ (Go ∷ map event_line es)) ++ (Event e ∷ more) = cc in
-    let a = apart ms ls (map event_line all) (map event_line es ++ (Event e ∷ more)) q.preamble_is p.preamble_is (k ∙ append_assoc ls (Go ∷ map event_line es) (Event e ∷ more)) in
-    let there = ap (λ (v : List Line). v ++ (End ∷ [])) a.behind ∙ append_assoc (map event_line es) (Event e ∷ more) (End ∷ []) in
-    behind_found ls ms es all e (more ++ End ∷ []) p q room a.preambles there
-went_on ended ls ms es all e more p q room h =
-    let k : ms ++ (Go ∷ (map event_line all ++ (End ∷ []))) ≡ (ls ++ (Go ∷ map event_line es)) ++ (Event e ∷ more) = cc in
-    let a = apart ms ls (map event_line all ++ (End ∷ [])) (map event_line es ++ (Event e ∷ more)) q.preamble_is p.preamble_is (k ∙ append_assoc ls (Go ∷ map event_line es) (Event e ∷ more)) in
-    behind_found ls ms es all e more p q room a.preambles a.behind
+-- so where lines go on with this one
+line_found : (ls ms : List Line) (ps all : List Played) (line : Line) (made : List Entry) (e : AnEvent) (more : List AnEvent) → IsPlay ms all → HasRoom (setup_of ms) (journal_of all)
+    → (ms ≡ ls) × WentOn ps all line → IsLegal (setup_of ls) (journal_of ps ++ made) → line_events (setup_of ls) ps line ≡ events_of made ++ (e ∷ more) → full (setup_of ls) (journal_of ps ++ made) e ≡ None
+line_found ls ms ps all line made e more q room w so_far events =
+    let U = setup_of ls in
+    let on = w.1 in
+    let play : IsPlay ls all = subst (λ (v : List Line). IsPlay v all) w.0 q in
+    let has : HasRoom U (journal_of all) = subst (λ (v : List Line). HasRoom (setup_of v) (journal_of all)) w.0 room in
+    let turn : IsTurn U ps on.next = turn_at U [] ps on.next on.rest (subst (AreTurns U) on.is play.turns) in
+    turn_found U ps on.next on.rest made e more turn (subst (λ (v : List Played). IsLegal U (journal_of v)) on.is play.legal)
+    (subst (λ (v : List Played). HasRoom U (journal_of v)) on.is has) so_far (ap (line_events U ps) on.line_is ∙ events)
 
 full_next : (count : Count) (f g : Front) (x : List ℕ) (more : List Line) → IsFront f → IsFront g → IsFull count f x → lines_of g ≡ lines_of f ++ more
     → AreReadAs (take 1 (cut x)) (take 1 more) → length (lines_of f) < length (lines_of g) → ⊥
 full_next count f g x [] h k is e r less = omega (arith, less, ap length e, length-append (lines_of f) [])
 full_next count f g x (line ∷ more) h k is e r less =
-    let same : line ≡ Event is.event = reads_one (first_line x) line (Event is.event) (next_is x line r) (first_is_read x (Event is.event) is.behind is.next) in
-    let whole : lines_of g ≡ lines_of f ++ (Event is.event ∷ more) = e ∙ ap (λ (l : Line). lines_of f ++ (l ∷ more)) same in
-    let lines : lines_of g ≡ lines_at going f.preamble f.journal ++ (Event is.event ∷ more) = whole ∙ ap (λ (st : Stage). lines_at st f.preamble f.journal ++ (Event is.event ∷ more)) is.going_on in
-    let none : full (setup_of f.preamble) f.journal is.event ≡ None = went_on g.stage f.preamble g.preamble f.journal g.journal is.event more h.play k.play k.room lines in
+    let way = is.under_way in
+    let same : line ≡ is.line = reads_one (first_line x) line is.line (next_is x line r) (first_is_read x is.line is.behind is.next) in
+    let lines : lines_of g ≡ lines_at going f.preamble f.played ++ (is.line ∷ more) =
+    e ∙ (ap (λ (l : Line). lines_of f ++ (l ∷ more)) same ∙ ap (λ (st : Stage). lines_at st f.preamble f.played ++ (is.line ∷ more)) way.going_on) in
+    let on = went_on g.stage f.preamble g.preamble f.played g.played is.line more h.play k.play (comes_no_end f.played is.line way.may_come) lines in
+    let none : full (setup_of f.preamble) (journal_of f.played ++ is.made) is.event ≡ None =
+    line_found f.preamble g.preamble f.played g.played is.line is.made is.event is.more k.play k.room on way.legal way.events in
     let wrong : Some count ≡ None = sym is.full ∙ none in
     cc
 
@@ -104,20 +100,68 @@ full_stays text count f g x h k s is r less =
 split_read : (text : List ℕ) (ls : List Line) (x : List ℕ) → Splits text ls x → AreReadAs (take (length ls) (cut text)) ls
 split_read text ls x s = subst (λ (a : List (List ℕ)). AreReadAs a ls) (sym (take_split text ls x s)) s.are
 
-one_count : (f : Front) (x : List ℕ) (c d : Count) → IsFull c f x → IsFull d f x → c ≡ d
-one_count f x c d h k =
-    let lines : Event h.event ≡ Event k.event = reads_one (first_line x) (Event h.event) (Event k.event) (first_is_read x (Event h.event) h.behind h.next) (first_is_read x (Event k.event) k.behind k.next) in
-    let events : h.event ≡ k.event = cc in
-    let both : Some c ≡ Some d = sym h.full ∙ (ap (full (setup_of f.preamble) f.journal) events ∙ k.full) in
+-- of events that are made, each with room, one is the first that finds the journal full
+record OneFirst (es ds : List Entry) (e d : AnEvent) : Type 0 where
+  made : es ≡ ds
+  event : e ≡ d
+
+first_more : (x y : Entry) (es ds : List Entry) (e d : AnEvent) → x ≡ y → OneFirst es ds e d → OneFirst (x ∷ es) (y ∷ ds) e d
+first_more x y es ds e d same h = record { made = λ i. same i ∷ h.made i; event = h.event }
+
+one_first : (U : Setup) (before es ds : List Entry) (e d : AnEvent) (m n : List AnEvent) (a b : Count) → IsLegalAfter U before es → IsLegalAfter U before ds → HasRoomAfter U before es → HasRoomAfter U before ds
+    → events_of es ++ (e ∷ m) ≡ events_of ds ++ (d ∷ n) → full U (before ++ es) e ≡ Some a → full U (before ++ ds) d ≡ Some b → OneFirst es ds e d
+one_first U before [] [] e d m n a b h k r s same f g = record { made = refl; event = cc }
+one_first U before [] (y ∷ ds) e d m n a b h k r s same f g =
+    let first : y.event ≡ e = cc in
+    let none : full U before e ≡ None = subst (λ (v : AnEvent). full U before v ≡ None) first s.0 in
+    let some : full U before e ≡ Some a = subst (λ (v : List Entry). full U v e ≡ Some a) (append-nil before) f in
+    let wrong : Some a ≡ None = sym some ∙ none in
     cc
+one_first U before (x ∷ es) [] e d m n a b h k r s same f g =
+    let first : x.event ≡ d = cc in
+    let none : full U before d ≡ None = subst (λ (v : AnEvent). full U before v ≡ None) first r.0 in
+    let some : full U before d ≡ Some b = subst (λ (v : List Entry). full U v d ≡ Some b) (append-nil before) g in
+    let wrong : Some b ≡ None = sym some ∙ none in
+    cc
+one_first U before (x ∷ es) (y ∷ ds) e d m n a b h k r s same f g =
+    let heads : x.event ≡ y.event = cc in
+    let tails : events_of es ++ (e ∷ m) ≡ events_of ds ++ (d ∷ n) = cc in
+    let one : x ≡ y = one_entry U before x y h.0 k.0 heads in
+    let legal : IsLegalAfter U (before ++ x ∷ []) ds = subst (λ (v : Entry). IsLegalAfter U (before ++ v ∷ []) ds) (sym one) k.1 in
+    let room : HasRoomAfter U (before ++ x ∷ []) ds = subst (λ (v : Entry). HasRoomAfter U (before ++ v ∷ []) ds) (sym one) s.1 in
+    let left : full U ((before ++ x ∷ []) ++ es) e ≡ Some a = subst (λ (v : List Entry). full U v e ≡ Some a) (sym (append_assoc before (x ∷ []) es)) f in
+    let right : full U ((before ++ x ∷ []) ++ ds) d ≡ Some b =
+    subst (λ (v : List Entry). full U v d ≡ Some b) (ap (λ (v : Entry). before ++ (v ∷ ds)) (sym one) ∙ sym (append_assoc before (x ∷ []) ds)) g in
+    first_more x y es ds e d one (one_first U (before ++ x ∷ []) es ds e d m n a b h.1 legal r.1 room tails left right)
+
+-- behind one front, an event of one line finds the journal full, behind the same entries
+full_once : (f g : Front) (x y : List ℕ) (c d : Count) (h : IsFull c f x) (k : IsFull d g y) → f ≡ g → x ≡ y → (c ≡ d) × (h.made ≡ k.made)
+full_once f g x y c d h k fronts rests =
+    let U = setup_of f.preamble in
+    let before = journal_of f.played in
+    let read : IsReadAs (first_line x) k.line = subst (λ (v : List ℕ). IsReadAs (first_line v) k.line) (sym rests) (first_is_read y k.line k.behind k.next) in
+    let lines : h.line ≡ k.line = reads_one (first_line x) h.line k.line (first_is_read x h.line h.behind h.next) read in
+    let legal : IsLegal U (before ++ k.made) = subst (λ (v : Front). IsLegal (setup_of v.preamble) (journal_of v.played ++ k.made)) (sym fronts) k.under_way.legal in
+    let room : HasRoom U (before ++ k.made) = subst (λ (v : Front). HasRoom (setup_of v.preamble) (journal_of v.played ++ k.made)) (sym fronts) k.under_way.room in
+    let found : full U (before ++ k.made) k.event ≡ Some d = subst (λ (v : Front). full (setup_of v.preamble) (journal_of v.played ++ k.made) k.event ≡ Some d) (sym fronts) k.full in
+    let theirs : line_events U f.played k.line ≡ events_of k.made ++ (k.event ∷ k.more) =
+    subst (λ (v : Front). line_events (setup_of v.preamble) v.played k.line ≡ events_of k.made ++ (k.event ∷ k.more)) (sym fronts) k.under_way.events in
+    let events : events_of h.made ++ (h.event ∷ h.more) ≡ events_of k.made ++ (k.event ∷ k.more) = sym h.under_way.events ∙ (ap (line_events U f.played) lines ∙ theirs) in
+    let one = one_first U before h.made k.made h.event k.event h.more k.more c d (legal_behind U [] before h.made h.under_way.legal) (legal_behind U [] before k.made legal)
+    (room_behind U [] before h.made h.under_way.room) (room_behind U [] before k.made room) events h.full found in
+    let both : Some c ≡ Some d = sym h.full ∙ ((λ i. full U (before ++ one.made i) (one.event i)) ∙ found) in
+    (some_one c d both, one.made)
+  where
+    some_one : (a b : Count) → Some a ≡ Some b → a ≡ b
+    some_one a b e = cc
 
 one_full : OneFullAt
 one_full text c d p q r s a b =
     let above : length (lines_of a.front) < length (lines_of b.front) → ⊥ = λ h. full_stays text c a.front b.front a.rest a.is_front b.is_front a.read a.is_full (split_read text (lines_of b.front) b.rest b.read) h in
     let below : length (lines_of b.front) < length (lines_of a.front) → ⊥ = λ h. full_stays text d b.front a.front b.rest b.is_front a.is_front b.read b.is_full (split_read text (lines_of a.front) a.rest a.read) h in
     let same = same_place text a.front b.front a.rest b.rest a.is_front b.is_front a.read b.read (omega (arith, above, below)) in
-    let there : IsFull c b.front b.rest = subst (IsFull c b.front) same.rests (subst (λ (g : Front). IsFull c g a.rest) same.fronts a.is_full) in
-    (one_count b.front b.rest c d there b.is_full, same.fronts)
+    let once = full_once a.front b.front a.rest b.rest c d a.is_full b.is_full same.fronts same.rests in
+    (once.0, same.fronts, once.1)
 
 -- why a line is refused behind as many lines as there may be
 past : (c : Cause) (rest : List ℕ) → IsPast c rest → ((c ≡ TooLong) × (rest ≡ [] → ⊥)) ⊎ ((c ≡ Ended) × (rest ≡ []))
@@ -157,71 +201,33 @@ one_refused text m n c d p q r s a b =
     let causes : c ≡ d = one_why b.front b.rest c d there b.caused within (cases_lt (length (lines_of b.front)) most_lines) in
     (a.count ∙ ((λ i. refused_line (causes i) (same.fronts i)) ∙ sym b.count), causes, same.fronts)
 
--- the events of a legal journal, and one more in place, are in place
-in_place : (U : Setup) (before es : List Entry) (e : AnEvent) → IsLegalAfter U before es → IsPlaced (before ++ es) e → AreInPlace U before (events_of es ++ e ∷ [])
-in_place U before [] e h p = (subst (λ (b : List Entry). IsPlaced b e) (append-nil before) p, λ entry same legal. tt)
-in_place U before (x ∷ es) e h p =
-    let there : IsPlaced ((before ++ x ∷ []) ++ es) e = subst (λ (b : List Entry). IsPlaced b e) (sym (append_assoc before (x ∷ []) es)) p in
-    let more : AreInPlace U (before ++ x ∷ []) (events_of es ++ e ∷ []) = in_place U (before ++ x ∷ []) es e h.1 there in
-    (h.0.placed, λ entry same legal. subst (λ (v : Entry). AreInPlace U (before ++ v ∷ []) (events_of es ++ e ∷ [])) (one_entry U before x entry h.0 legal (sym same)) more)
+-- a line that may come is refused for no cause
+no_cause : (f : Front) (rest : List ℕ) (c : Cause) (line : Line) → f.stage ≡ going → IsReadAs (first_line rest) line → Takes f line → Reason f rest c → ⊥
+no_cause f rest c line stage read takes (Reason.own _ _ _ fault e a) = built_faultless (first_line rest) fault e line read
+no_cause f rest c line stage read takes (Reason.misplaced _ _ m) = m.misplaced (subst (Takes f) (reads_one (first_line rest) line m.line read m.read) takes)
+no_cause f rest c line stage read takes (Reason.untabled _ _ t) = let wrong : going ≡ headed = sym stage ∙ t.in_preamble in cc
+no_cause f rest c line stage read takes (Reason.unbuilt _ _ u) = built_or_not (first_line rest) line read u
 
-events_map : (es : List Entry) → events_of es ≡ map (λ (e : Entry). e.event) es
-events_map [] = refl
-events_map (e ∷ es) = ap (λ (v : List AnEvent). e.event ∷ v) (events_map es)
+full_takes : (f : Front) (d : Count) (x : List ℕ) → (is : IsFull d f x) → Takes f is.line
+full_takes f d x is = subst (λ (st : Stage). takes_at st f.preamble f.played is.line) (sym is.under_way.going_on) (may_take f.preamble f.played is.line is.under_way.may_come)
 
--- one more entry, of this event
-record Further (U : Setup) (es : List Entry) (e : AnEvent) : Type 0 where
-  entry : Entry
-  event_is : entry.event ≡ e
-  legal : IsLegal U (es ++ entry ∷ [])
-
-further_by : (U : Setup) (es rest : List Entry) (e : AnEvent) → IsLegal U (es ++ rest) → map (λ (x : Entry). x.event) rest ≡ e ∷ [] → Further U es e
-further_by U es [] e h k = cc
-further_by U es (x ∷ []) e h k = record { entry = x; event_is = cc; legal = h }
-further_by U es (x ∷ y ∷ rest) e h k = cc
-
-further : (U : Setup) (es : List Entry) (e : AnEvent) → IsLegal U es → IsPlaced es e → Further U es e
-further U es e h p =
-    let j = one-journal.some U (events_of es ++ e ∷ []) (in_place U [] es e h p) in
-    let events : map (λ (x : Entry). x.event) j.journal ≡ map (λ (x : Entry). x.event) es ++ e ∷ [] = sym (events_map j.journal) ∙ (j.events_are ∙ ap (λ (v : List AnEvent). v ++ e ∷ []) (events_map es)) in
-    let g = journal_goes_on U [] j.journal es (e ∷ []) j.legal h events in
-    further_by U es g.rest e (subst (IsLegal U) g.is j.legal) g.events
-
--- what is left behind one more line
-split_more : (text : List ℕ) (ls : List Line) (x : List ℕ) (line : Line) (y : List ℕ) → Splits text ls x → Splits x (line ∷ []) y → Splits text (ls ++ line ∷ []) y
-split_more text ls x line y s t = record {
-  written = s.written ++ t.written;
-  are = read_append s.written ls t.written (line ∷ []) s.are t.are;
-  split = s.split ∙ (ap (λ (v : List ℕ). joined s.written ++ v) t.split ∙ joined_more s.written t.written y);
-}
-
--- an event that finds the journal full begins a recording, as one that does not
-full_begins : (text : List ℕ) (count : Count) (f : Front) (x : List ℕ) → IsFront f → Splits text (lines_of f) x → length (lines_of f) < most_lines → IsFull count f x → Begins text (length (lines_of f) + 1)
-full_begins text count f x h s within is =
-    let U = setup_of f.preamble in
-    let line = Event is.event in
-    let m = further U f.journal is.event h.play.legal is.placed in
-    let all = f.journal ++ m.entry ∷ [] in
-    let g : Front = record { stage = going; preamble = f.preamble; journal = all } in
-    let fits : IsEventLine is.event = read_IsLine (first_line x) line (first_is_read x line is.behind is.next) in
-    let play : IsPlay f.preamble all = record {
-      preamble_is = h.play.preamble_is;
-      legal = m.legal;
-      events = all_push (λ (e : Entry). IsEventLine e.event) f.journal m.entry h.play.events (subst IsEventLine (sym m.event_is) fits);
-    } in
-    let lines : lines_of f ++ line ∷ [] ≡ lines_of g =
-    ap (λ (st : Stage). lines_at st f.preamble f.journal ++ line ∷ []) is.going_on
-    ∙ (ap (λ (e : AnEvent). lines_at going f.preamble f.journal ++ Event e ∷ []) (sym m.event_is) ∙ sym (lines_more f.preamble f.journal m.entry)) in
-    let t : Splits text (lines_of g) is.behind = subst (λ (v : List Line). Splits text v is.behind) lines (split_more text (lines_of f) x line is.behind s is.next) in
-    let count : length (lines_of g) ≡ length (lines_of f) + 1 = ap length (sym lines) ∙ length-append (lines_of f) (line ∷ []) in
-    subst (Begins text) count (begins_played g text is.behind play (subst (λ (st : Stage). StageFits st f.preamble f.journal) is.going_on h.stage_fits) t (omega (arith, count, within)))
+-- an event that finds the journal full is of a line that may come, so it is not refused
+not_there : (c : Cause) (d : Count) (f g : Front) (x y : List ℕ) → IsRefusal c f x → IsFull d g y → f ≡ g → x ≡ y → length (lines_of g) < most_lines → ⊥
+not_there c d f g x y why is fronts rests within =
+    let here : IsRefusal c g y = subst (IsRefusal c g) rests (subst (λ (v : Front). IsRefusal c v x) fronts why) in
+    no_cause g y c is.line is.under_way.going_on (first_is_read y is.line is.behind is.next) (full_takes g d y is) (reason g y c (here.own within))
 
 not_both : (text : List ℕ) (n : ℕ) (c : Cause) (d : Count) (p q r s : Option (List ℕ)) → RefusedAt n c text p q → FullAt d text r s → ⊥
-not_both text n c d p q r s a b = by (cases_lt (length (lines_of b.front)) (length (lines_of a.front)))
+not_both text n c d p q r s a b = by (cases_lt (length (lines_of b.front)) (length (lines_of a.front))) (cases_lt (length (lines_of a.front)) (length (lines_of b.front)))
   where
-    by : (length (lines_of b.front) < length (lines_of a.front)) ⊎ (length (lines_of a.front) ≤ length (lines_of b.front)) → ⊥
-    by (inl less) = full_stays text d b.front a.front b.rest b.is_front a.is_front b.read b.is_full (split_read text (lines_of a.front) a.rest a.read) less
-    by (inr more) = a.refused.stops (begins_less text (length (lines_of a.front) + 1) (length (lines_of b.front) + 1) (omega (arith, more)) (full_begins text d b.front b.rest b.is_front b.read b.within b.is_full))
+    by : (length (lines_of b.front) < length (lines_of a.front)) ⊎ (length (lines_of a.front) ≤ length (lines_of b.front))
+        → (length (lines_of a.front) < length (lines_of b.front)) ⊎ (length (lines_of b.front) ≤ length (lines_of a.front)) → ⊥
+    by (inl less) k = full_stays text d b.front a.front b.rest b.is_front a.is_front b.read b.is_full (split_read text (lines_of a.front) a.rest a.read) less
+    by (inr h) (inl more) =
+        a.refused.stops (begins_less text (length (lines_of a.front) + 1) (length (lines_of b.front)) (omega (arith, more)) (begins_so_far b.front text b.rest b.is_front b.read (omega (arith, b.within))))
+    by (inr h) (inr k) =
+        let same = same_place text a.front b.front a.rest b.rest a.is_front b.is_front a.read b.read (omega (arith, h, k)) in
+        not_there c d a.front b.front a.rest b.rest a.caused b.is_full same.fronts same.rests b.within
 
 never_refused : (text : List ℕ) (n : ℕ) (c : Cause) (p q : Option (List ℕ)) → IsRecordingText text → RefusedAt n c text p q → ⊥
 never_refused text n c p q r a = a.refused.stops (recording_begins text (length (lines_of a.front) + 1) r)
@@ -230,12 +236,12 @@ never_refused text n c p q r a = a.refused.stops (recording_begins text (length 
 one_more : (text : List ℕ) (d : Count) (f : Front) (x : List ℕ) → Splits text (lines_of f) x → IsFull d f x → length (lines_of f) < length (cut text)
 one_more text d f x s is =
     let ls = lines_of f in
-    let one : length (take 1 (cut x)) ≡ 1 = one_piece x (text_is_some x (Event is.event) is.behind is.next) in
+    let one : length (take 1 (cut x)) ≡ 1 = one_piece x (text_is_some x is.line is.behind is.next) in
     omega (arith, one, ap length (take_more text ls x s), length-append s.written (take 1 (cut x)), read_length s.written ls s.are, length-take (length ls + 1) (cut text))
 
 never_full : (text : List ℕ) (d : Count) (p q : Option (List ℕ)) → IsRecordingText text → FullAt d text p q → ⊥
 never_full text d p q r b =
-    let g : Front = record { stage = ended; preamble = r.preamble; journal = r.journal } in
+    let g : Front = record { stage = ended; preamble = r.preamble; played = r.played } in
     let front : IsFront g = record { play = r.play; stage_fits = r.table; room = r.room } in
     let lengths : length (cut text) ≡ length (lines_of g) = read_length (cut text) (lines_of g) r.read in
     let whole : take (length (lines_of g)) (cut text) ≡ cut text = take_all (length (lines_of g)) (cut text) (omega (arith, lengths)) in

@@ -9,9 +9,10 @@ abbrev pub OneRefusedAt : Type 0
 OneRefusedAt = (text : List ℕ) (m n : ℕ) (c d : Cause) (p q r s : Option (List ℕ)) (a : RefusedAt m c text p q) (b : RefusedAt n d text r s)
     → (m ≡ n) × (c ≡ d) × (a.front ≡ b.front)
 
--- an event of a text finds the journal full by one count, and behind one front
+-- an event of a text finds the journal full by one count, behind one front and the same entries of its line
 abbrev pub OneFullAt : Type 0
-OneFullAt = (text : List ℕ) (c d : Count) (p q r s : Option (List ℕ)) (a : FullAt c text p q) (b : FullAt d text r s) → (c ≡ d) × (a.front ≡ b.front)
+OneFullAt = (text : List ℕ) (c d : Count) (p q r s : Option (List ℕ)) (a : FullAt c text p q) (b : FullAt d text r s)
+    → (c ≡ d) × (a.front ≡ b.front) × (a.is_full.made ≡ b.is_full.made)
 
 -- the law: a text is at most one of these, a recording, refused at a line, or with an event that finds the
 -- journal full; and it is refused, or finds it full, in one way and behind one front

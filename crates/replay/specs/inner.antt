@@ -7,3 +7,7 @@ pub mod Running
 pub mod Turns
 pub mod Behind
 pub mod Writing
+pub mod Player
+pub mod Apart
+pub mod Making
+pub mod Telling

@@ -13,7 +13,7 @@ use std::alloc::AllocError;
 pub enum Early {
     /// The line with this number is refused for this cause.
     Script(u32, Cause),
-    /// The journal is full for the event of the next line, by this count.
+    /// The journal is full for an event of the next line, by this count.
     Full(Count),
     ReadFault,
     WriteFault,

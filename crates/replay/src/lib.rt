@@ -3,8 +3,12 @@
 
 mod ahead;
 mod cause;
+mod closed;
 mod early;
 mod law;
+mod linking;
+mod making;
+mod own;
 mod placing;
 mod play;
 mod player;
@@ -13,9 +17,14 @@ mod replaying;
 mod reporting;
 mod run;
 mod start;
+mod telling;
+mod writing;
 
 pub use cause::Cause;
-pub use law::{one_cause, one_recording, one_refusal, one_stop, spelled_recording};
+pub use law::{
+    calls_are_of_bytes, ends_for_good, fault_is_of_an_action, lines_have_turns, one_cause,
+    one_recording, one_refusal, one_stop, outs_are_said, spelled_recording,
+};
 pub use preamble::{SetupEnd, read_setup};
 pub use replaying::{ReplayEnd, replay_all};
 pub use reporting::{StatusLine, report};

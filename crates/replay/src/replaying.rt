@@ -25,7 +25,8 @@ pub enum ReplayEnd {
     Done,
     /// The line with this number is refused for this cause.
     Script(u32, Cause),
-    /// The journal is full for the event of the next line, by this count.
+    /// The journal is full for an event of the next line, by this count. The output has the transcript of the
+    /// lines before it, and the blocks of the entries that this line made.
     Full(Count),
     /// The input failed. The output has the transcript of all whole lines before the fault.
     ReadFault,

@@ -1,30 +1,30 @@
 // A recording is played behind its preamble, and its transcript written.
 
 ghost use Rattle.std.specs.Prelude.{ℕ, List, Option, ◌≤◌, ◌≡◌, ◌+◌, ◌<◌, [], false, length, IfOk, OnOk, string_bytes};
-ghost use Rattle.recording.specs.Lines.{IsLine, IsEventLine};
+ghost use Rattle.recording.specs.Lines.{IsLine};
 ghost use Rattle.recording.specs.Reading.{left_to};
 ghost use Rattle.replay.specs.Front.{going, ended};
 ghost use Rattle.replay.specs.Preamble.{WasSetUp};
 ghost use Rattle.replay.specs.Recording.{most_lines};
 ghost use Rattle.replay.specs.Rising.{Rises};
 ghost use Rattle.replay.specs.Transcript.{transcript_end, start_of};
-ghost use Rattle.replay.specs.inner.Behind.{SaysBehind};
+ghost use Rattle.replay.specs.inner.Behind.{is_end};
 ghost use Rattle.replay.specs.inner.Early.{failed, of_reading, of_writing};
+ghost use Rattle.replay.specs.inner.Player.{Stands, StandsBehind};
 ghost use Rattle.replay.specs.inner.Running.{RunGives, GoesOn};
-ghost use Rattle.replay.specs.inner.Turns.{PlaysTurn, TakesTurn, Turns};
+ghost use Rattle.replay.specs.inner.Turns.{TakesTurn, Turns};
 ghost use Rattle.replay.specs.inner.Writing.{Writes};
 
 use crate::ahead::{Ahead, MOST_LINES, next_line, read_ahead, read_past};
 use crate::cause::Cause;
 use crate::early::Early;
-use crate::placing::is_placed;
-use crate::play::play_placed;
+use crate::placing::may_come;
+use crate::play::play_line;
 use crate::player::Player;
 use crate::start::start_text;
 use login_base::Items;
 use login_conf::Diagnostic;
 use login_edge::{Sink, Source, WriteEnd, write_all};
-use login_model::Event;
 use recording::{Line, LineReader};
 use std::alloc::{AllocError, Global};
 
@@ -59,33 +59,17 @@ fn write_text<K: Sink>(sink: &mut K, text: &[u8]) -> Result<(), Early>
     }
 }
 
-/// A line behind `go`.
-#[derive(Drop)]
-enum Behind {
-    Event(Event),
-    End,
-    /// A line that may not stand there.
-    Other,
-}
-
-/// What a line says that stands behind `go`.
-fn behind_go(line: Line) -> Behind
-    ensures { SaysBehind line result }
+/// Whether a line ends a recording.
+fn is_end(line: &Line) -> bool
+    ensures { result ≡ is_end line.now }
 {
-    match line {
-        Line::Event(event) => Behind::Event(event),
-        Line::End => Behind::End,
-        other => {
-            drop(other);
-            Behind::Other
-        }
-    }
+    matches!(line, Line::End)
 }
 
 /// What became of a line behind `go`.
 #[derive(Clone, Copy)]
 enum Turn {
-    /// Its event was played, and a further line may come.
+    /// It was played, and a further line may come.
     Next,
     /// It is the line `end`.
     Closed,
@@ -119,7 +103,7 @@ impl Run {
 
     /// Writes the last line of the transcript.
     fn write_end<K: Sink>(&self, sink: &mut K) -> Result<(), Early>
-        ensures gives { Writes (K.held sink.old) (K.held sink.new) (transcript_end (length self.now.player.journal)) result }
+        ensures gives { Writes (K.held sink.old) (K.held sink.new) (transcript_end (length self.now.player.office.core.journal)) result }
         ensures cause { Rises (failed of_writing result) (K.faults sink.old) (K.faults sink.new) }
     {
         let text = end_text(self.alloc, self.player.core().journal().len())?;
@@ -150,47 +134,38 @@ impl Run {
         }
     }
 
-    /// Plays an event, which is the line behind those that were read.
-    fn play_event<K: Sink>(&mut self, event: Event, sink: &mut K) -> Result<Turn, Early>
-        requires line { IsEventLine event }
-        requires within { self.old.number < most_lines }
-        ensures gives { PlaysTurn self.old.player self.new.player event self.old.number (K.held sink.old) (K.held sink.new) result }
-        ensures cause { Rises (failed of_writing result) (K.faults sink.old) (K.faults sink.new) }
-        ensures unread { failed of_reading result ≡ false }
-        ensures lines { self.new.lines ≡ self.old.lines }
-        ensures number { self.new.number ≡ self.old.number }
-    {
-        if !is_placed(&self.player, &event) {
-            drop(event);
-            return Err(Early::Script(self.number + 1, Cause::WrongPlace));
-        }
-        play_placed(self.alloc, &mut self.player, event, sink)?;
-        Ok(Turn::Next)
-    }
-
     /// Does what a line says that stands behind those that were read.
     fn take_line<K: Sink>(&mut self, line: Line, sink: &mut K) -> Result<Turn, Early>
         requires line { IsLine line }
+        requires stands { Stands self.old.player }
         requires within { self.old.number < most_lines }
         ensures gives { TakesTurn self.old.player self.new.player line self.old.number (K.held sink.old) (K.held sink.new) result }
         ensures cause { Rises (failed of_writing result) (K.faults sink.old) (K.faults sink.new) }
         ensures unread { failed of_reading result ≡ false }
+        ensures stands { OnOk result (Stands self.new.player) }
         ensures lines { self.new.lines ≡ self.old.lines }
         ensures number { self.new.number ≡ self.old.number }
     {
-        match behind_go(line) {
-            Behind::Event(event) => self.play_event(event, sink),
-            Behind::End => Ok(Turn::Closed),
-            Behind::Other => Err(Early::Script(self.number + 1, Cause::WrongPlace)),
+        if is_end(&line) {
+            drop(line);
+            return Ok(Turn::Closed);
         }
+        if !may_come(&self.player, &line) {
+            drop(line);
+            return Err(Early::Script(self.number + 1, Cause::WrongPlace));
+        }
+        play_line(self.alloc, &mut self.player, line, sink)?;
+        Ok(Turn::Next)
     }
 
     /// Reads the next line, and does what it says.
-    fn play_line<S: Source, K: Sink>(&mut self, source: &mut S, sink: &mut K) -> Result<Turn, Early>
+    fn take_next<S: Source, K: Sink>(&mut self, source: &mut S, sink: &mut K) -> Result<Turn, Early>
+        requires stands { Stands self.old.player }
         requires within { self.old.number < most_lines }
         ensures gives { Turns self.old.player self.new.player self.old.number (left_to self.old.lines (S.left source.old)) (left_to self.new.lines (S.left source.new)) (S.left source.new) (K.held sink.old) (K.held sink.new) result }
         ensures read { Rises (failed of_reading result) (S.faults source.old) (S.faults source.new) }
         ensures write { Rises (failed of_writing result) (K.faults sink.old) (K.faults sink.new) }
+        ensures stands { OnOk result (Stands self.new.player) }
         ensures number { OnOk result (self.new.number ≡ self.old.number + 1) }
     {
         let line = next_line(self.alloc, &mut self.lines, source, self.number)?;
@@ -199,15 +174,16 @@ impl Run {
         Ok(turn)
     }
 
-    /// Plays the events of a recording, from behind `go`, through the end of the text.
-    fn play_events<S: Source, K: Sink>(&mut self, source: &mut S, sink: &mut K) -> Result<(), Early>
+    /// Plays the lines of a recording, from behind `go`, through the end of the text.
+    fn play_lines<S: Source, K: Sink>(&mut self, source: &mut S, sink: &mut K) -> Result<(), Early>
+        requires stands { Stands self.old.player }
         requires few { self.old.number ≤ most_lines }
         ensures gives { GoesOn going self.old.player self.old.number (left_to self.old.lines (S.left source.old)) (S.left source.new) (K.held sink.old) (K.held sink.new) result }
         ensures read { Rises (failed of_reading result) (S.faults source.old) (S.faults source.new) }
         ensures write { Rises (failed of_writing result) (K.faults sink.old) (K.faults sink.new) }
     {
         while self.number < MOST_LINES {
-            match self.play_line(source, sink)? {
+            match self.take_next(source, sink)? {
                 Turn::Next => {}
                 Turn::Closed => return self.finish(source, sink),
             }
@@ -215,7 +191,7 @@ impl Run {
         Err(read_past(self.alloc, &mut self.lines, source))
     }
 
-    /// Writes what the transcript has before its entries, and plays the events, of which none was played before.
+    /// Writes what the transcript has before its entries, and plays the lines, of which none was played before.
     pub fn play_all<S: Source, K: Sink>(
         &mut self,
         wrong: &Items<Diagnostic>,
@@ -223,14 +199,14 @@ impl Run {
         sink: &mut K,
     ) -> Result<(), Early>
         requires few { self.old.number ≤ most_lines }
-        requires nothing { self.old.player.journal ≡ [] }
-        ensures gives { (all : Option (List ℕ)) → WasSetUp all self.old.player.setup wrong.now self.old.number (left_to self.old.lines (S.left source.old))
+        requires nothing { StandsBehind self.old.player [] }
+        ensures gives { (all : Option (List ℕ)) → WasSetUp all self.old.player.office.core.setup wrong.now self.old.number (left_to self.old.lines (S.left source.old))
             → RunGives all (S.left source.new) (K.held sink.old) (K.held sink.new) result }
         ensures read { Rises (failed of_reading result) (S.faults source.old) (S.faults source.new) }
         ensures write { Rises (failed of_writing result) (K.faults sink.old) (K.faults sink.new) }
     {
         let start = start_text(self.alloc, wrong.as_slice())?;
         write_text(sink, &start)?;
-        self.play_events(source, sink)
+        self.play_lines(source, sink)
     }
 }

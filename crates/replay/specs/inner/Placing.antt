@@ -1,27 +1,25 @@
--- What is looked at where an event may come next, whose texts and numbers a line has read.
-use Rattle.std.specs.Prelude.{ℕ, ◌≡◌, ◌↔◌, true, false, List, [], ◌∷◌, ◌++◌}
-use Rattle.std.specs.Ordering.{nat_cmp}
-use Rattle.std.specs.BTreeSet.{BTreeSet, contains}
+-- What is looked at where a line may come next, whose texts and numbers were read.
+use Rattle.std.specs.Prelude.{◌≡◌, true, false, None, List}
 use Rattle.login_base.specs.declared.ids.ConnId.{ConnId}
 use Rattle.login_model.specs.declared.event.Event.{Event}
 use Rattle.login_model.specs.declared.event.Event.TheVariants.{Connect, Disconnect, Call as Calls, Hardware, Tick, Stop}
-use Rattle.login_model.specs.declared.mark.Entry.{Entry}
 use Rattle.login_model.specs.Legal.{IsUnused, trail_of}
+use Rattle.login_model.specs.Stopping.{stopped}
 use Rattle.login_model.specs.Where.{is_connected}
+use Rattle.replay.specs.Links.{is_open_link}
+use Rattle.replay.specs.Played.{Played, journal_of, played_lines}
+use Rattle.replay.specs.Recording.{IsNoLink}
 
--- a connect has a number that no earlier connect had, a disconnect or a call is of a connected client
-abbrev pub IsNamed : List Entry → Event → Type 0
-IsNamed before (Connect c u) = IsUnused c before
-IsNamed before (Disconnect c) = is_connected (trail_of before) c ≡ true
-IsNamed before (Calls r) = is_connected (trail_of before) r.who ≡ true
-IsNamed before (Hardware x) = Unit {0}
-IsNamed before (Tick m) = Unit {0}
-IsNamed before Stop = Unit {0}
+-- a connect has a number that no earlier connect and no link had; a call is of a connected client, and a disconnect of one
+-- that is no link
+abbrev pub IsNamed : List Played → Event → Type 0
+IsNamed played (Connect c u) = IsUnused c (journal_of played) × IsNoLink (played_lines played) c
+IsNamed played (Disconnect c) = (is_connected (trail_of (journal_of played)) c ≡ true) × (is_open_link (played_lines played) c ≡ false)
+IsNamed played (Calls r) = is_connected (trail_of (journal_of played)) r.who ≡ true
+IsNamed played (Hardware x) = Unit {0}
+IsNamed played (Tick m) = Unit {0}
+IsNamed played Stop = Unit {0}
 
--- these are the numbers that the connects of these entries had
-abbrev pub AreUsed : BTreeSet ℕ → List Entry → Type 0
-AreUsed used before = (c : ConnId) → (contains nat_cmp used c.0 ≡ false) ↔ IsUnused c before
-
--- the numbers after an entry of this event, if they were those before it
-abbrev pub Uses : BTreeSet ℕ → Event → BTreeSet ℕ → Type 0
-Uses old event new = (before : List Entry) (e : Entry) → e.event ≡ event → AreUsed old before → AreUsed new (before ++ e ∷ [])
+-- a link of this number may open: neither a connect nor a link had it, and the stop has not come
+abbrev pub MayOpen : List Played → ConnId → Type 0
+MayOpen played c = IsUnused c (journal_of played) × IsNoLink (played_lines played) c × (stopped (journal_of played) Stop ≡ None)

@@ -1,12 +1,13 @@
 -- How a replay goes on, and how it ends.
 use Rattle.std.specs.Prelude.{ℕ, ◌≡◌, List, Option, IfSome, length, Result, Ok, Err}
 use Rattle.login_edge.specs.Texts.{Gains}
-use Rattle.login_core.specs.State.{CoreState}
 use Rattle.recording.specs.declared.line.Line.{Line}
+use Rattle.replay.specs.Played.{Played}
 use Rattle.replay.specs.Written.{WereRead}
 use Rattle.replay.specs.PreambleLines.{setup_of}
 use Rattle.replay.specs.Front.{Stage, going, lines_at, text_at, IsFront}
 use Rattle.replay.specs.Outcome.{Replayed, RefusedAt, FullAt, Broken, Fronted}
+use Rattle.replay.specs.inner.Player.{PlayerState, StandsBehind}
 use Rattle.replay.specs.declared.early.Early.{Early}
 use Rattle.replay.specs.declared.early.Early.TheVariants as early
 use Rattle.replay.specs.declared.replaying.ReplayEnd.{ReplayEnd}
@@ -34,16 +35,18 @@ end_of (Err early.ReadFault) = replay.ReadFault
 end_of (Err early.WriteFault) = replay.WriteFault
 end_of (Err early.NoMemory) = replay.NoMemory
 
--- So many lines of a text were read, and this is left; their setup and their journal are those of the core;
--- and the transcript through the last entry was written
-pub record SoFar (stage : Stage) (core : CoreState) (number : ℕ) (all left start held : Option (List ℕ)) : Type 0 where
+-- So many lines of a text were read, and this is left; behind them the player stands, with their setup; and the
+-- transcript of all of them but the last line of a recording was written
+pub record SoFar (stage : Stage) (player : PlayerState) (number : ℕ) (all left start held : Option (List ℕ)) : Type 0 where
   pub preamble : List Line
-  pub setup_is : core.setup ≡ setup_of preamble
-  pub is_front : IsFront (record { stage = stage; preamble = preamble; journal = core.journal })
-  pub count : number ≡ length (lines_at stage preamble core.journal)
-  pub read : WereRead all (lines_at stage preamble core.journal) left
-  pub wrote : Gains start held (text_at going preamble core.journal)
+  pub played : List Played
+  pub stands : StandsBehind player played
+  pub setup_is : player.office.core.setup ≡ setup_of preamble
+  pub is_front : IsFront (record { stage = stage; preamble = preamble; played = played })
+  pub count : number ≡ length (lines_at stage preamble played)
+  pub read : WereRead all (lines_at stage preamble played) left
+  pub wrote : Gains start held (text_at going preamble played)
 
 -- so a replay goes on, whatever was read and written before
-abbrev pub GoesOn : Stage → CoreState → ℕ → Option (List ℕ) → Option (List ℕ) → Option (List ℕ) → Option (List ℕ) → Result (Unit {0}) Early → Type 0
-GoesOn stage core number before left held after r = (all start : Option (List ℕ)) → SoFar stage core number all before start held → RunGives all left start after r
+abbrev pub GoesOn : Stage → PlayerState → ℕ → Option (List ℕ) → Option (List ℕ) → Option (List ℕ) → Option (List ℕ) → Result (Unit {0}) Early → Type 0
+GoesOn stage player number before left held after r = (all start : Option (List ℕ)) → SoFar stage player number all before start held → RunGives all left start after r

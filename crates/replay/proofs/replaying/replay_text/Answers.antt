@@ -1,6 +1,7 @@
 use Rattle.std.proofs.Common.{refl}
 use Rattle.std.proofs.lemmas.Result.{err_from_is_err_and}
 use Rattle.replay.specs.declared.early.Early.TheVariants as early
+use Rattle.replay.proofs.Bounds.{conf_allowed}
 use Rattle.replay.proofs.Ends.{left_partly, nothing_held}
 use Rattle.replay.proofs.Events.{setup_ends}
 use Rattle.replay.proofs.Rising.{still, opens_unwritten}
@@ -33,3 +34,6 @@ returns-clause-gives g c =
     let all = nothing_held c.in_ok-lines.lines (g.S.Source.left c.args.source.now) c.in_ok-lines.ensures.held in
     let r = c.new-run.ensures in
     c.play_all-played.ensures.gives _ (rw (r.player, r.number, r.lines, c.in_ok-player.ensures.setup) (rw all at c.in_ok-opening.ensures.gives))
+
+pub new-requires-2-clause-allowed : goal.new-requires-2-clause-allowed
+new-requires-2-clause-allowed g c = conf_allowed c.in_ok-opening.opening.setup c.in_ok-opening.opening.wrong c.in_ok-opening.ensures.from_texts

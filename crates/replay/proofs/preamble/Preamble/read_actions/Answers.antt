@@ -1,4 +1,4 @@
-use Rattle.std.proofs.Common.{◌≡◌, sym, ap, subst, Some, None, Result, Ok, Err, List, ℕ}
+use Rattle.std.proofs.Common.{sym, subst, Err, List, ℕ}
 use Rattle.login_policy.specs.Reading.{ReadsTable}
 use Rattle.replay.proofs.Setups.{untabled}
 use Rattle.replay.proofs.preamble.Preamble.read_actions.Goals as goal
