@@ -1,8 +1,8 @@
 //! Tests that cross crates: whole runs of `login`, over a source and sinks in memory, and calls of the
 //! core and of the judge that runs do not show.
 //!
-//! The expected bytes are written by hand from docs/PROFILE.md, and none are taken from the program's
-//! own output.
+//! The expected bytes are written by hand from docs/PROFILE.md, those that links are sent by libdbus, and none are
+//! taken from the program's own output.
 #![tactic(auto)]
 
 #[cfg(test)]

@@ -1,4 +1,17 @@
-// The limit of connected links.
+// What comes in by links and what goes out, and the limit of connected links.
+
+mod clients;
+mod crowd;
+mod ends;
+mod full;
+mod machine;
+mod manager;
+mod objects;
+mod operations;
+mod pieces;
+mod places;
+mod talking;
+mod turns;
 
 use crate::running::replay;
 use login_base::NoMemory;

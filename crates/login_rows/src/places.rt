@@ -21,7 +21,7 @@ const BEFORE_GO: [(&[u8], &str); 17] = [
     (b"tick 5\n", "wrong-place"),
     (b"stop\n", "wrong-place"),
     (b"end\n", "wrong-place"),
-    (b"link 1 0\n", "not-built"),
+    (b"link 1 0\n", "wrong-place"),
 ];
 
 /// What may not stand behind an identity and a user.
@@ -79,7 +79,7 @@ const BEHIND_STOP: [(&[u8], &str); 20] = [
     (b"key power\n", "wrong-place"),
     (b"dock false\n", "wrong-place"),
     (b"jobdone\n", "wrong-place"),
-    (b"link 2 0\n", "not-built"),
+    (b"link 2 0\n", "wrong-place"),
     (b"", "ended"),
 ];
 
@@ -91,7 +91,7 @@ const BEHIND_END: [(&[u8], &str); 8] = [
     (b"go\n", "wrong-place"),
     (b"connect 1 0\n", "wrong-place"),
     (b"add 226 0 drm seat0\n", "wrong-place"),
-    (b"link 1 0\n", "not-built"),
+    (b"link 1 0\n", "wrong-place"),
     (b"frob\n", "unknown-word"),
 ];
 

@@ -193,11 +193,10 @@ const FAULTS_FIRST: [(&[u8], &str); 20] = [
     (b"call 1 1 take c1 226\n", "missing-word"),
 ];
 
-/// The lines of links, which are not built.
-const UNBUILT_LINES: [(&[u8], &str); 3] = [
-    (b"link 2 0\n", "not-built"),
-    (b"in 2 00\n", "not-built"),
-    (b"hangup 2\n", "not-built"),
+/// The lines of a link that is not open.
+const LINES_OF_NO_LINK: [(&[u8], &str); 2] = [
+    (b"in 2 00\n", "wrong-place"),
+    (b"hangup 2\n", "wrong-place"),
 ];
 
 /// The calls that are not built, also of a connection that is not connected.
@@ -312,11 +311,11 @@ fn calls_that_create_sessions(rt: HostRuntime) -> Result<(), Fail> {
 }
 
 #[test]
-fn lines_that_are_not_built(rt: HostRuntime) -> Result<(), Fail> {
+fn lines_of_no_link(rt: HostRuntime) -> Result<(), Fail> {
     let alloc = rt.alloc();
     let transcript = CONNECTED_TRANSCRIPT;
     refuse(&rt, alloc, CONNECTED, &FAULTS_FIRST, 5, transcript)?;
-    refuse(&rt, alloc, CONNECTED, &UNBUILT_LINES, 5, transcript)
+    refuse(&rt, alloc, CONNECTED, &LINES_OF_NO_LINK, 5, transcript)
 }
 
 #[test]

@@ -8,7 +8,7 @@ use std::process::Abort;
 use std::test::Fail;
 
 /// Room enough for what a run of a test writes.
-const ROOM: usize = 400_000;
+const ROOM: usize = 9_000_000;
 
 /// What a run left.
 #[derive(Drop)]

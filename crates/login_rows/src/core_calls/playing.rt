@@ -5,7 +5,7 @@ ghost use Rattle.std.specs.List.{AllByRecursion};
 ghost use Rattle.login_model.specs.Built.{is_built};
 ghost use Rattle.login_model.specs.Legal.{Fits, IsAsked, IsPlaced, IsUnused, connects, trail_of};
 ghost use Rattle.login_model.specs.Setups.{IsGuid, IsUserRow};
-ghost use Rattle.login_model.specs.Texts.{IsText, texts, has_object, hardware_texts};
+ghost use Rattle.login_model.specs.Texts.{IsText, texts, has_object, hardware_texts, has_seat_name};
 ghost use Rattle.login_model.specs.Where.{is_connected};
 
 use login_base::{Bytes, ConnId, Items, NoMemory, Uid, Word};
@@ -171,12 +171,17 @@ fn fits_call(call: &Call) -> bool
 /// Whether what happens to the machine is one of what the tests make: what happens to devices, or a key that asks
 /// for a terminal.
 fn fits_hardware(hardware: &Hardware) -> bool
-    ensures { IsTrue result → AllByRecursion (IsText 512) (hardware_texts hardware.now) }
+    ensures texts { IsTrue result → AllByRecursion (IsText 512) (hardware_texts hardware.now) }
+    ensures seat { IsTrue result → has_seat_name hardware.now ≡ true }
 {
-    matches!(
-        hardware,
-        Hardware::Add(..) | Hardware::Remove(_) | Hardware::Input(..) | Hardware::VtKey(_)
-    )
+    match hardware {
+        Hardware::Add(_, _, seat) => {
+            seat.tell_name();
+            true
+        }
+        Hardware::Remove(_) | Hardware::Input(..) | Hardware::VtKey(_) => true,
+        _ => false,
+    }
 }
 
 /// Whether whom an event names is as it must be after the entries so far.

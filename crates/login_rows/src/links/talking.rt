@@ -1,0 +1,112 @@
+// What a link says in pieces, and what comes of it.
+
+use crate::running::{Piece, compare};
+use login_base::NoMemory;
+use std::alloc::Global;
+use std::process::Abort;
+use std::test::Fail;
+
+/// Bytes of a link the last of which makes something whole, and what comes of it: blocks, bytes that are
+/// due, and the end of the link. Bytes are in hex.
+#[derive(Clone, Copy)]
+pub struct Part {
+    pub sent: &'static str,
+    pub blocks: &'static str,
+    pub due: &'static str,
+    pub closed: &'static str,
+}
+
+/// What link 2 sends, and the lines in front of that and behind it.
+#[derive(Clone, Copy)]
+pub struct Talk {
+    pub front: Piece,
+    pub parts: &'static [Part],
+    pub rest: Piece,
+}
+
+/// Which text of a part is meant.
+#[derive(Clone, Copy)]
+enum Of {
+    Blocks,
+    Due,
+    Closed,
+}
+
+/// A text of a part.
+fn text_of(part: &Part, of: Of) -> &'static [u8] {
+    match of {
+        Of::Blocks => part.blocks.as_bytes(),
+        Of::Due => part.due.as_bytes(),
+        Of::Closed => part.closed.as_bytes(),
+    }
+}
+
+/// Puts a line of these words and these bytes, which are in hex, at the end.
+fn push_line(text: &mut Vec<u8>, words: &[u8], hex: &[u8]) -> Result<(), NoMemory> {
+    text.extend_from_slice(words)?;
+    text.extend_from_slice(hex)?;
+    text.push(b'\n')?;
+    Ok(())
+}
+
+/// Puts at the end one of the texts of each part that ends behind one of these places, and not behind the other.
+fn push_ended(
+    text: &mut Vec<u8>,
+    parts: &[Part],
+    from: usize,
+    to: usize,
+    of: Of,
+) -> Result<(), NoMemory> {
+    let mut end: usize = 0;
+    for part in parts {
+        end = end.saturating_add(part.sent.len());
+        if from < end && end <= to {
+            text.extend_from_slice(text_of(part, of))?;
+        }
+    }
+    Ok(())
+}
+
+/// Puts at the end what a transcript has of the hex digits from one place on to another.
+fn push_told(
+    alloc: Global,
+    text: &mut Vec<u8>,
+    parts: &[Part],
+    from: usize,
+    to: usize,
+) -> Result<(), NoMemory> {
+    let mut due = Vec::new(alloc);
+    push_ended(&mut due, parts, from, to, Of::Due)?;
+    push_ended(text, parts, from, to, Of::Blocks)?;
+    if !due.as_slice().is_empty() {
+        push_line(text, b"out 2 ", due.as_slice())?;
+    }
+    push_ended(text, parts, from, to, Of::Closed)
+}
+
+/// Runs a recording in which link 2 sends so many bytes a line, and compares its transcript.
+pub fn accept_talk(rt: &impl Abort, alloc: Global, talk: &Talk, size: usize) -> Result<(), Fail> {
+    let mut sent = Vec::new(alloc);
+    for part in talk.parts {
+        sent.extend_from_slice(part.sent.as_bytes())?;
+    }
+    let mut recording = Vec::from_slice(alloc, talk.front.lines.as_bytes())?;
+    let mut transcript = Vec::from_slice(alloc, talk.front.blocks.as_bytes())?;
+    let mut from: usize = 0;
+    for digits in sent.chunks(size.saturating_mul(2).max(1)) {
+        let to = from.saturating_add(digits.len());
+        push_line(&mut recording, b"in 2 ", digits)?;
+        push_told(alloc, &mut transcript, talk.parts, from, to)?;
+        from = to;
+    }
+    recording.extend_from_slice(talk.rest.lines.as_bytes())?;
+    transcript.extend_from_slice(talk.rest.blocks.as_bytes())?;
+    compare(
+        rt,
+        alloc,
+        recording.as_slice(),
+        transcript.as_slice(),
+        0,
+        "",
+    )
+}
