@@ -87,6 +87,3 @@ impl Controller {
         self.next(above)
     }
 }
-
-#[cfg(test)]
-mod tests;

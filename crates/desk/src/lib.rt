@@ -23,6 +23,3 @@ pub use kept::Kept;
 pub use law::same_entries;
 pub use pass::Pass;
 pub use view::{Joined, Numbered, Stage, View};
-
-#[cfg(test)]
-mod tests;

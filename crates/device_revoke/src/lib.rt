@@ -108,6 +108,3 @@ impl DeviceRevoke {
         self.takes.next_taker(device, above)
     }
 }
-
-#[cfg(test)]
-mod tests;

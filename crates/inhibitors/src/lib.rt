@@ -71,6 +71,3 @@ impl Inhibitors {
         self.next(above)
     }
 }
-
-#[cfg(test)]
-mod tests;

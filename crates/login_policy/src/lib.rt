@@ -8,6 +8,3 @@ mod reader;
 pub use fault::TableFault;
 pub use policy::ask;
 pub use reader::read_table;
-
-#[cfg(test)]
-mod tests;

@@ -62,6 +62,3 @@ impl Table for PowerOps {
         self.rows.set(key, fact);
     }
 }
-
-#[cfg(test)]
-mod tests;

@@ -63,6 +63,3 @@ impl Table for SeatsVts {
         self.rows.set(key, fact);
     }
 }
-
-#[cfg(test)]
-mod tests;

@@ -77,6 +77,3 @@ impl Table for Sessions {
         }
     }
 }
-
-#[cfg(test)]
-mod tests;

@@ -58,6 +58,3 @@ impl Table for UsersLinger {
         self.rows.set(key, fact);
     }
 }
-
-#[cfg(test)]
-mod tests;

@@ -1,12 +1,12 @@
 // The default table, the names of actions and the default configuration, as they are documented, and texts of
 // tables.
 
-use super::{TableFault, ask, read_table};
 use login_base::Millis;
 use login_model::Say::{Challenge, No, Yes};
 use login_model::{
     Action, Conf, KeyAction, OpKind, PowerAction, Qualifier, Row, Say, Standing, Table,
 };
+use login_policy::{TableFault, ask, read_table};
 
 /// What the default table says to any, inactive and active connections.
 const DEFAULTS: [(&[u8], Say, Say, Say); 29] = [

@@ -1,8 +1,10 @@
 // What no clause can show: that there is room, and each call once.
 
-use super::*;
+use inhibitors::Inhibitors;
 use login_base::{ConnId, LockNo, NoMemory, Uid, Word};
 use login_model::{Boxed, Fact, Inhibited, Key, Lock, LockMode};
+use login_table::Table;
+use std::alloc::Global;
 
 const SLEEP: Inhibited = Inhibited {
     shutdown: false,

@@ -1,8 +1,9 @@
 // What no clause can show: that there is room.
 
-use super::*;
 use login_base::{NoMemory, SessId};
 use login_model::{Fact, Key};
+use login_table::Table;
+use sessions::Sessions;
 
 #[test]
 fn hints_are_told(rt: HostRuntime) -> Result<(), NoMemory> {

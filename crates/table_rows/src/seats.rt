@@ -1,8 +1,9 @@
 // What no clause can show: that there is room.
 
-use super::*;
 use login_base::{NoMemory, SeatName};
 use login_model::{Fact, Key};
+use login_table::Table;
+use seats_vts::SeatsVts;
 
 #[test]
 fn the_first_seat_is_there_from_the_start(rt: HostRuntime) -> Result<(), NoMemory> {

@@ -1,8 +1,9 @@
 // What no clause can show: that there is room.
 
-use super::*;
 use login_base::{Millis, NoMemory};
-use login_model::{OpKind, Operation};
+use login_model::{Fact, Key, OpKind, Operation};
+use login_table::Table;
+use power_ops::PowerOps;
 
 #[test]
 fn an_operation_is_told(rt: HostRuntime) -> Result<(), NoMemory> {

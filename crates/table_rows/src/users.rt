@@ -1,8 +1,9 @@
 // What no clause can show: that there is room, and each call once.
 
-use super::*;
 use login_base::{NoMemory, Uid};
-use login_model::Fact;
+use login_model::{Fact, Key};
+use login_table::Table;
+use users_linger::UsersLinger;
 
 #[test]
 fn users_are_told_in_their_order(rt: HostRuntime) -> Result<(), NoMemory> {

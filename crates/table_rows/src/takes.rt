@@ -1,8 +1,9 @@
 // What no clause can show: that there is room, and each call once.
 
-use super::*;
+use device_revoke::DeviceRevoke;
 use login_base::{ConnId, DevNo, HandleNo, NoMemory, SessId};
 use login_model::{Fact, Key, Owner};
+use login_table::Table;
 
 const CARD: DevNo = DevNo {
     major: 226,

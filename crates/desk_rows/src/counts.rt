@@ -1,6 +1,6 @@
 // That the calls succeed, alone and in two threads.
 
-use crate::{CountUp, Counts, Desk, count_apart};
+use desk::{CountUp, Counts, Desk, count_apart};
 use login_base::{ConnId, NoMemory};
 
 #[test]

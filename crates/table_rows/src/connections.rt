@@ -1,8 +1,9 @@
 // What no clause can show: that there is room, and each call once.
 
-use super::*;
+use controller::Controller;
 use login_base::{ConnId, NoMemory, SessId, Uid};
 use login_model::{Fact, Key};
+use login_table::Table;
 
 #[test]
 fn connections_are_told_in_their_order(rt: HostRuntime) -> Result<(), NoMemory> {
