@@ -50,3 +50,29 @@ take_login() {
     program=${PROGRAM:-$top/crates/login/out/login}
     [[ -n ${PROGRAM:-} ]] || "$top/login" replay <"$top/examples/turns.recording" >/dev/null
 }
+
+# The most that the program held when it has read all of $work/recording, which has no last line, and waits for more: KiB
+# resident, KiB of address space; and its mappings.
+memory() {
+    local feed=$work/feed program_id
+    mkfifo "$feed"
+    "$program" replay <"$feed" >/dev/null &
+    program_id=$!
+    exec 3>"$feed"
+    cat "$work/recording" >&3
+    until [[ $(cat "/proc/$program_id/syscall") == "0 0x0 "* ]]; do # until it is in `read` of its input
+        [[ -e /proc/$program_id/fd/0 ]] # it has not ended
+        sleep 0.1
+    done
+    awk '/^VmHWM/ { r = $2 } /^VmPeak/ { p = $2 } END { print r, p }' "/proc/$program_id/status"
+    wc -l <"/proc/$program_id/maps"
+    echo end >&3
+    exec 3>&-
+    wait "$program_id"
+    rm "$feed"
+}
+
+# The instructions of a replay of $work/recording with its last line.
+steps() {
+    { cat "$work/recording"; echo end; } | instructions replay
+}
