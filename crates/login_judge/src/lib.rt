@@ -8,6 +8,7 @@ mod locks;
 mod operations;
 mod owners;
 mod places;
+mod properties;
 mod seated;
 mod session_calls;
 mod standing;

@@ -1,7 +1,6 @@
 // The verdict of an event.
 
 ghost use Rattle.std.specs.Prelude.{◌≡◌, true, ◌∷◌, []};
-ghost use Rattle.login_model.specs.Built.{is_built, is_built_call};
 ghost use Rattle.login_base.specs.SessionId.{session_of};
 ghost use Rattle.login_model.specs.Policy.{call_rules, hardware_rules, first_broken, verdict, bad_arguments, is_signal, absent_user, no_such_user, no_such_seat, no_such_handle, not_yours, meant_user, linger_action, action_refused, action_challenge, own_or_refused, own_or_challenge};
 
@@ -14,6 +13,7 @@ use crate::owners::{clock_backwards, no_such_handle, no_such_user, nobody, not_r
 use crate::places::{
     absent_user, no_such_seat, no_such_seat_of, too_many_links, too_many_sessions, vt_busy_on,
 };
+use crate::properties::{judge_get, judge_get_all, judge_owner, judge_set};
 use crate::session_calls::{
     first_broken, judge_activate, judge_activate_on, judge_control, judge_hint, judge_kill,
     judge_lock, judge_only, judge_terminate, judge_uncontrol,
@@ -102,7 +102,6 @@ fn judge_close<F: Look>(facts: &F, who: ConnId, handle: HandleNo) -> Verdict
 }
 
 fn judge_call<F: Look>(facts: &F, setup: &Setup, who: ConnId, call: &Call) -> Verdict
-    requires built { is_built_call call.now ≡ true }
     ensures { result ≡ first_broken (call_rules setup.now (F.trail facts.now) who call.now) }
 {
     let session = call.session();
@@ -138,6 +137,10 @@ fn judge_call<F: Look>(facts: &F, setup: &Setup, who: ConnId, call: &Call) -> Ve
         Call::SetMode(handle, _) => judge_handle(facts, DevKind::Drm, who, *handle),
         Call::Power(kind) => judge_power(facts, setup, who, *kind),
         Call::Inhibit(inhibition) => judge_inhibit(facts, setup, who, inhibition),
+        Call::GetProperty(x) => judge_get(facts, x),
+        Call::GetAllProperties(path, _) => judge_get_all(facts, path),
+        Call::SetProperty(x) => judge_set(facts, x),
+        Call::GetNameOwner(name) => judge_owner(name),
         Call::NoObject => Verdict::Denied(Rule::UnknownObject),
         Call::NoMethod => Verdict::Denied(Rule::UnknownMethod),
         Call::BadArguments => Verdict::Denied(Rule::BadArguments),
@@ -146,8 +149,12 @@ fn judge_call<F: Look>(facts: &F, setup: &Setup, who: ConnId, call: &Call) -> Ve
         | Call::ListSeats
         | Call::ListInhibitors
         | Call::Can(_)
+        | Call::Ping
+        | Call::GetMachineId
+        | Call::Hello
+        | Call::AddMatch(_)
+        | Call::RemoveMatch(_)
         | Call::NoCall => Verdict::Granted,
-        _ => unreachable!(),
     }
 }
 
@@ -166,11 +173,9 @@ fn judge_hardware<F: Look>(facts: &F, setup: &Setup, hardware: &Hardware) -> Ver
     }
 }
 
-/// What the policy says to an event that is built: the first rule that it breaks, else granted. It takes no
-/// memory.
+/// What the policy says to an event: the first rule that it breaks, else granted. It takes no memory.
 #[tactic(auto, unfolding(login_model::specs::Policy::verdict))]
 pub fn judge<F: Look>(facts: &F, setup: &Setup, event: &Event) -> Verdict
-    requires built { is_built event.now ≡ true }
     ensures { result ≡ verdict setup.now (F.trail facts.now) event.now }
 {
     match event {

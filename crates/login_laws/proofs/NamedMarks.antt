@@ -72,7 +72,7 @@ use Rattle.login_model.specs.declared.session.Phase.{Phase}
 use Rattle.login_model.specs.declared.session.Phase.TheVariants.{Closing, Gone}
 use Rattle.login_model.specs.declared.setup.Setup.{Setup}
 use Rattle.login_model.proofs.Keys.{both, same_key-true}
-use Rattle.login_laws.specs.Named.{AreNamed, IsNamedFact, IsNamedNotice, IsSeat, IsSeatIf, IsUser}
+use Rattle.login_laws.specs.Named.{AreNamed, HasTexts, IsNamedFact, IsNamedNotice, IsSeat, IsSeatIf, IsUser}
 use Rattle.login_laws.proofs.Granted.{NoneBroken, granted-rules, holds-rule}
 use Rattle.login_laws.proofs.Loops.{each-keeps}
 use Rattle.login_laws.proofs.SoundLaws.{after-more}
@@ -141,7 +141,7 @@ pub session-owner : (U : Setup) (t : Trail) (s : SessId) → AreNamed U t → Is
 session-owner U t s h = owner-in U s (value t (key.Sess s)) (value-named U t (key.Sess s) h)
 
 phase-fact : (U : Setup) (s : SessId) (p : Phase) (x : Fact) → IsNamedFact U (key.Sess s) x → IsNamedFact U (key.Sess s) (in_phase p x)
-phase-fact U s p (fact.Session x) h = (h.0, h.1)
+phase-fact U s p (fact.Session x) h = h
 phase-fact U s p _ h = tt
 
 put-named : (U : Setup) (r : Walk U) (k : Key) (x : Fact) (t : Trail) → MayPut U k x → r.N t → r.N (put k x t)
@@ -419,16 +419,21 @@ appear_on-named U r (Some seat) s t f h =
     let v = take_seat seat s (active_on t seat) t in
     cond-named U r (bytes_eq seat seat0) (cond (is_active t s) u t) v (cond-named U r (is_active t s) u t (say-named U r All (notice.Active seat0 None (Some s)) t refl h) h) (take_seat-named U r seat s (active_on t seat) t f h))
 
-create-named : (U : Setup) (r : Walk U) (c : ConnId) (x : Creation) (s : SessId) (g : HandleNo) (t : Trail) → IsUser U x.uid.0 → r.N t → r.N (create c x s g t)
+created-texts : (c : ConnId) (x : Creation) (g : HandleNo) → AllByRecursion (IsText text_limit) (texts (call.Create x)) → HasTexts (created_session c x g).texts
+created-texts c x g f =
+    let behind = f.1.1.1.1.1 in
+    record { service = f.0; desktop = f.1.1.1.0; tty = behind.0; display = behind.1.0; remote_user = behind.1.1.0; remote_host = behind.1.1.1.0 }
+
+create-named : (U : Setup) (r : Walk U) (c : ConnId) (x : Creation) (s : SessId) (g : HandleNo) (t : Trail) → IsUser U x.uid.0 → AllByRecursion (IsText text_limit) (texts (call.Create x)) → r.N t → r.N (create c x s g t)
 unfolding create
-create-named U r c x s g t f h =
+create-named U r c x s g t f w h =
     let o = fact.Owned (owner.Fifo c s) in
     let y = fact.Session (created_session c x g) in
     let a = know x.uid t in
     let b = put (key.Owner g) o a in
     let d = put (key.Sess s) y b in
     appear_on-named U r (seat_of x.seat) s (tell_all (notice.SessionNew s) d) (seat_of-named x.seat)
-    (say-named U r All (notice.SessionNew s) d tt (put-named U r (key.Sess s) y b (seat_of-named x.seat, f) (put-named U r (key.Owner g) o a tt (know-named U r x.uid t f h))))
+    (say-named U r All (notice.SessionNew s) d tt (put-named U r (key.Sess s) y b (seat_of-named x.seat, f, created-texts c x g w) (put-named U r (key.Owner g) o a tt (know-named U r x.uid t f h))))
 
 activate_on-named : (U : Setup) (r : Walk U) (o : Option (List ℕ)) (s : SessId) (t : Trail) → IsSeatIf o → r.N t → r.N (activate_on o s t)
 activate_on-named U r None s t f h = h
@@ -547,39 +552,39 @@ user-named U uid e = holds-rule (is_user_of U uid) NoSuchUser e
 abbrev pub locked : ConnId → Inhibition → Trail → Trail
 locked c y t = put (key.Lock (next_lock t)) (fact.Lock (asked_lock c (record { 0 = uid_of t c }) y)) t
 
-call-named : (U : Setup) (r : Walk U) (c : ConnId) (x : Call) (t : Trail) → NoneBroken (call_rules U t c x) → ((y : Inhibition) → x ≡ call.Inhibit y → r.N (locked c y t)) → r.N t → r.N (direct_call U c x t)
-call-named U r c (call.Create x) t b w h = create-named U r c x (next_session t) (next_handle t) t (user-named U x.uid.0 b.1.1.0) h
-call-named U r c (call.Activate id) t b w h = some-named U r activate (activate-named U r) (session_of id) t h
-call-named U r c (call.ActivateOnSeat id seat) t b w h = some-named U r activate (activate-named U r) (session_of id) t h
-call-named U r c (call.Lock id) t b w h = some-named U r lock_session (lock_session-named U r) (session_of id) t h
-call-named U r c (call.Unlock id) t b w h = some-named U r unlock_session (unlock_session-named U r) (session_of id) t h
-call-named U r c call.LockAll t b w h = each-named U r lock_session (lock_session-named U r) (open_sessions t) t h
-call-named U r c call.UnlockAll t b w h = each-named U r unlock_session (unlock_session-named U r) (open_sessions t) t h
-call-named U r c (call.Kill id who signal) t b w h =
+call-named : (U : Setup) (r : Walk U) (c : ConnId) (x : Call) (t : Trail) → NoneBroken (call_rules U t c x) → AllByRecursion (IsText text_limit) (texts x) → ((y : Inhibition) → x ≡ call.Inhibit y → r.N (locked c y t)) → r.N t → r.N (direct_call U c x t)
+call-named U r c (call.Create x) t b f w h = create-named U r c x (next_session t) (next_handle t) t (user-named U x.uid.0 b.1.1.0) f h
+call-named U r c (call.Activate id) t b f w h = some-named U r activate (activate-named U r) (session_of id) t h
+call-named U r c (call.ActivateOnSeat id seat) t b f w h = some-named U r activate (activate-named U r) (session_of id) t h
+call-named U r c (call.Lock id) t b f w h = some-named U r lock_session (lock_session-named U r) (session_of id) t h
+call-named U r c (call.Unlock id) t b f w h = some-named U r unlock_session (unlock_session-named U r) (session_of id) t h
+call-named U r c call.LockAll t b f w h = each-named U r lock_session (lock_session-named U r) (open_sessions t) t h
+call-named U r c call.UnlockAll t b f w h = each-named U r unlock_session (unlock_session-named U r) (open_sessions t) t h
+call-named U r c (call.Kill id who signal) t b f w h =
     (let x = fact.Signal (whom_of who) signal in some-named U r (λ s u. put (key.Sig s) x u) (λ s u p. put-named U r (key.Sig s) x u tt p) (session_of id) t h)
-call-named U r c (call.Terminate id) t b w h = some-named U r shut (shut-named U r) (session_of id) t h
-call-named U r c (call.TerminateUser u) t b w h = each-named U r shut (shut-named U r) (sessions_of t u.0) t h
-call-named U r c (call.TerminateSeat seat) t b w h = each-named U r shut (shut-named U r) (sessions_on t seat) t h
-call-named U r c (call.SetLinger u on) t b w h = linger-named U r (record { 0 = meant_user t c u.0 }) on t (user-named U (meant_user t c u.0) b.0) h
-call-named U r c (call.SetIdle id on) t b w h = some-named U r (λ s u. put (key.Idle s) (fact.Flag on) u) (λ s u p. put-named U r (key.Idle s) (fact.Flag on) u tt p) (session_of id) t h
-call-named U r c (call.SetLocked id on) t b w h = some-named U r (λ s u. put (key.Locked s) (fact.Flag on) u) (λ s u p. put-named U r (key.Locked s) (fact.Flag on) u tt p) (session_of id) t h
-call-named U r c (call.Control id force) t b w h = some-named U r (control c) (control-named U r c) (session_of id) t h
-call-named U r c (call.Uncontrol id) t b w h = some-named U r release (release-named U r) (session_of id) t h
-call-named U r c (call.SwitchTo seat vt) t b w h = request-named U r vt t h
-call-named U r c (call.SwitchToNext seat) t b w h = next-named U r seat t (seat-named t seat b.0) h
-call-named U r c (call.SwitchToPrevious seat) t b w h = previous-named U r seat t (seat-named t seat b.0) h
-call-named U r c (call.KillUser u signal) t b w h =
+call-named U r c (call.Terminate id) t b f w h = some-named U r shut (shut-named U r) (session_of id) t h
+call-named U r c (call.TerminateUser u) t b f w h = each-named U r shut (shut-named U r) (sessions_of t u.0) t h
+call-named U r c (call.TerminateSeat seat) t b f w h = each-named U r shut (shut-named U r) (sessions_on t seat) t h
+call-named U r c (call.SetLinger u on) t b f w h = linger-named U r (record { 0 = meant_user t c u.0 }) on t (user-named U (meant_user t c u.0) b.0) h
+call-named U r c (call.SetIdle id on) t b f w h = some-named U r (λ s u. put (key.Idle s) (fact.Flag on) u) (λ s u p. put-named U r (key.Idle s) (fact.Flag on) u tt p) (session_of id) t h
+call-named U r c (call.SetLocked id on) t b f w h = some-named U r (λ s u. put (key.Locked s) (fact.Flag on) u) (λ s u p. put-named U r (key.Locked s) (fact.Flag on) u tt p) (session_of id) t h
+call-named U r c (call.Control id force) t b f w h = some-named U r (control c) (control-named U r c) (session_of id) t h
+call-named U r c (call.Uncontrol id) t b f w h = some-named U r release (release-named U r) (session_of id) t h
+call-named U r c (call.SwitchTo seat vt) t b f w h = request-named U r vt t h
+call-named U r c (call.SwitchToNext seat) t b f w h = next-named U r seat t (seat-named t seat b.0) h
+call-named U r c (call.SwitchToPrevious seat) t b f w h = previous-named U r seat t (seat-named t seat b.0) h
+call-named U r c (call.KillUser u signal) t b f w h =
     (let x = fact.Signal whom.All signal in each-named U r (λ s v. put (key.Sig s) x v) (λ s v p. put-named U r (key.Sig s) x v tt p) (sessions_of t u.0) t h)
-call-named U r c (call.Close g) t b w h = close-named U r g t h
-call-named U r c (call.TakeDevice id d) t b w h =
+call-named U r c (call.Close g) t b f w h = close-named U r g t h
+call-named U r c (call.TakeDevice id d) t b f w h =
     some-named U r (λ s u. take_device c s d (next_handle u) u) (λ s u p. take-named U r c s d (next_handle u) u p) (session_of id) t h
-call-named U r c (call.ReleaseDevice id d) t b w h = some-named U r (λ s u. untake s d u) (λ s u p. untake-named U r s d u p) (session_of id) t h
-call-named U r c (call.PauseComplete id d) t b w h = some-named U r (λ s u. acknowledge s d u) (λ s u p. acknowledge-named U r s d u p) (session_of id) t h
-call-named U r c (call.SetMode g mode) t b w h = mode-named U r (value t (key.Owner g)) mode t h
-call-named U r c (call.Power k) t b w h = ask_operation-named U r k (is_blocked t k) t h
-call-named U r c (call.Inhibit x) t b w h =
+call-named U r c (call.ReleaseDevice id d) t b f w h = some-named U r (λ s u. untake s d u) (λ s u p. untake-named U r s d u p) (session_of id) t h
+call-named U r c (call.PauseComplete id d) t b f w h = some-named U r (λ s u. acknowledge s d u) (λ s u p. acknowledge-named U r s d u p) (session_of id) t h
+call-named U r c (call.SetMode g mode) t b f w h = mode-named U r (value t (key.Owner g)) mode t h
+call-named U r c (call.Power k) t b f w h = ask_operation-named U r k (is_blocked t k) t h
+call-named U r c (call.Inhibit x) t b f w h =
     inhibit-named U r (asked_lock c (record { 0 = uid_of t c }) x) (next_lock t) (next_handle t) t (w x refl)
-call-named U r c _ t b w h = h
+call-named U r c _ t b f w h = h
 
 press-named : (U : Setup) (r : Walk U) (x : KeyAction) (t : Trail) → r.N t → r.N (press x t)
 press-named U r does.Ignore t h = h
@@ -605,7 +610,7 @@ direct-named : (U : Setup) (r : Walk U) (before : List Entry) (e : Event) → Is
 unfolding direct
 direct-named U r before (Connect c u) p v w h = put-named U r (key.Conn c) (fact.Connected u) (trail_of before) tt h
 direct-named U r before (Disconnect c) p v w h = disconnect-named U r c (trail_of before) h
-direct-named U r before (Calls q) p v w h = call-named U r q.who q.call (trail_of before) (granted-rules U (trail_of before) (Calls q) v) (λ y i. w.lock q y refl i) h
+direct-named U r before (Calls q) p v w h = call-named U r q.who q.call (trail_of before) (granted-rules U (trail_of before) (Calls q) v) p.0.2 (λ y i. w.lock q y refl i) h
 direct-named U r before (Happens x) p v w h = happen-named U r x (trail_of before) p.0.1 (λ d kind seat i. w.device d kind seat (ap Happens i)) h
 direct-named U r before (Tick m) p v w h = tick-named U r m (trail_of before) h
 direct-named U r before Stop p v w h = h

@@ -1,5 +1,5 @@
--- The names and the texts of each legal journal: seats have seats' names, users are those of the setup, and who asked
--- for a lock and why are texts.
+-- The names and the texts of each legal journal: seats have seats' names, users are those of the setup, and what
+-- sessions were made with, who asked for a lock and why are texts.
 use Rattle.std.specs.Prelude.{ℕ, ◌≡◌, ◌≤◌, ◌+◌, true, Option, Some, None, List, ◌++◌, length}
 use Rattle.std.specs.List.{AllByRecursion}
 use Rattle.login_base.specs.Seat.{is_seat_name}
@@ -19,6 +19,7 @@ use Rattle.login_model.specs.declared.mark.Mark.{Mark}
 use Rattle.login_model.specs.declared.mark.Mark.TheVariants.{Set, Say}
 use Rattle.login_model.specs.declared.mark.Notice.{Notice}
 use Rattle.login_model.specs.declared.mark.Notice.TheVariants as notice
+use Rattle.login_model.specs.declared.session.SessionTexts.{SessionTexts}
 use Rattle.login_model.specs.declared.setup.Setup.{Setup}
 
 abbrev pub IsSeat : List ℕ → Type 0
@@ -31,10 +32,20 @@ IsSeatIf None = Unit {0}
 abbrev pub IsUser : Setup → ℕ → Type 0
 IsUser U uid = is_user_of U uid ≡ true
 
--- a device and a session are on a seat, the user of a session and one that is there are the setup's, a lock has texts
+-- what a session was made with
+pub record HasTexts (x : SessionTexts) : Type 0 where
+  pub service : IsText text_limit x.service
+  pub desktop : IsText text_limit x.desktop
+  pub tty : IsText text_limit x.tty
+  pub display : IsText text_limit x.display
+  pub remote_user : IsText text_limit x.remote_user
+  pub remote_host : IsText text_limit x.remote_host
+
+-- a device and a session are on a seat, the user of a session and one that is there are the setup's, a session and a
+-- lock have texts
 abbrev pub IsNamedFact : Setup → Key → Fact → Type 0
 IsNamedFact U (key.Dev d) (fact.Device kind seat) = IsSeat seat
-IsNamedFact U (key.Sess s) (fact.Session x) = IsSeatIf x.seat × IsUser U x.uid.0
+IsNamedFact U (key.Sess s) (fact.Session x) = IsSeatIf x.seat × IsUser U x.uid.0 × HasTexts x.texts
 IsNamedFact U (key.User u) fact.Known = IsUser U u.0
 IsNamedFact U (key.User u) (fact.Leaving since) = IsUser U u.0
 IsNamedFact U (key.Lock l) (fact.Lock x) = IsText text_limit x.who × IsText text_limit x.why

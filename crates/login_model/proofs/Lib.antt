@@ -8,3 +8,5 @@ pub mod Values
 pub mod HeldValue
 pub mod Latest
 pub mod Cuts
+pub mod Joined
+pub mod Elements

@@ -1,10 +1,9 @@
 -- What a granted event is answered.
-use Rattle.std.specs.Prelude.{ℕ, ◌==◌, if◌then◌else◌, ◌||◌, not, Bool, Option, Some, None, List, [], ◌∷◌, map, codes}
+use Rattle.std.specs.Prelude.{ℕ, ◌==◌, if◌then◌else◌, ◌||◌, not, Bool, Option, Some, None, Result, Ok, Err, List, [], ◌∷◌, map}
 use Rattle.login_base.specs.declared.ids.SessId.{SessId}
 use Rattle.login_base.specs.declared.ids.Uid.{Uid}
 use Rattle.login_base.specs.SessionId.{session_of}
 use Rattle.login_model.specs.declared.fact.Key.TheVariants.{Sess}
-use Rattle.login_model.specs.declared.setup.UserRow.{UserRow}
 use Rattle.login_model.specs.declared.setup.Setup.{Setup}
 use Rattle.login_model.specs.declared.call.Call.{Call}
 use Rattle.login_model.specs.declared.call.Call.TheVariants as call
@@ -13,9 +12,15 @@ use Rattle.login_model.specs.declared.event.Event.TheVariants.{Connect, Disconne
 use Rattle.login_model.specs.declared.answer.SessionRow.{SessionRow}
 use Rattle.login_model.specs.declared.answer.KnownUser.{KnownUser}
 use Rattle.login_model.specs.declared.answer.Answer.{Answer}
-use Rattle.login_model.specs.declared.answer.Answer.TheVariants.{Can, Handle, Inputs, Taken, Inhibitors, Nothing, Created, Session, User, Seat, Sessions, Users, Seats}
+use Rattle.login_model.specs.declared.answer.Answer.TheVariants.{Can, Handle, Inputs, Taken, Inhibitors, Nothing, Created, Session, User, Seat, Sessions, Users, Seats, Property, Properties, MachineId, UniqueName}
 use Rattle.login_model.specs.Trail.{Trail, value}
+pub use Rattle.login_model.specs.Users.{name_among, user_name}
 use Rattle.login_model.specs.Fresh.{next_session, next_handle}
+use Rattle.login_model.specs.declared.object.Object.{Object}
+use Rattle.login_model.specs.declared.property.PropertyValue.{PropertyValue}
+use Rattle.login_model.specs.declared.rule.Rule.{Rule}
+use Rattle.login_model.specs.Objects.{is_own_interface, named_object}
+use Rattle.login_model.specs.Properties.{rows_of, value_of}
 use Rattle.login_model.specs.declared.fact.Fact.{Fact}
 use Rattle.login_model.specs.declared.fact.Fact.TheVariants as fact
 use Rattle.login_model.specs.declared.lock.Lock.{Lock}
@@ -36,15 +41,6 @@ use Rattle.login_model.specs.declared.fact.Key.TheVariants as key
 use Rattle.login_model.specs.Where.{is_active, locks, sessions, users, seats, seat_of_session}
 use Rattle.login_model.specs.Creating.{seat_of}
 use Rattle.login_model.specs.Direct.{owner_of}
-
--- the name of the first of these users that has the number
-abbrev pub name_among : List UserRow → ℕ → List ℕ
-name_among [] uid = []
-name_among (row ∷ rows) uid = if row.uid.0 == uid then row.name else name_among rows uid
-
--- the name of a user in the setup; that of root is known without
-abbrev pub user_name : Setup → ℕ → List ℕ
-user_name U uid = if uid == 0 then codes "root" else name_among U.users uid
 
 abbrev pub session_row : Setup → Trail → SessId → SessionRow
 session_row U t s = record {
@@ -101,6 +97,24 @@ abbrev pub taken_answer : Trail → Option SessId → Answer
 taken_answer t (Some s) = Taken (next_handle t) (not (is_active t s))
 taken_answer t None = Nothing
 
+-- the value of a property of the object that a path names
+abbrev pub property_answer : Option PropertyValue → Answer
+property_answer (Some x) = Property x
+property_answer None = Nothing
+
+abbrev pub get_answer : Setup → Trail → List ℕ → Result Object Rule → Answer
+get_answer U t name (Ok o) = property_answer (value_of U t o name)
+get_answer U t name (Err r) = Nothing
+
+-- all properties of that object under its own interface; it has none under another
+abbrev pub get_all_answer : Setup → Trail → List ℕ → Result Object Rule → Answer
+get_all_answer U t interface (Ok o) = Properties (if is_own_interface o interface then rows_of U t o else [])
+get_all_answer U t interface (Err r) = Nothing
+
+-- the number of the login manager, as that of the connection that owns its name
+abbrev pub manager_number : ConnId
+manager_number = record { 0 = 0 }
+
 -- what a call is answered from the marks alone
 abbrev pub marks_answer : Setup → Trail → ConnId → Call → Answer
 marks_answer U t c (call.Create x) = Created (record { session = next_session t; fifo = next_handle t; uid = x.uid; seat = seat_of x.seat; vt = x.vt })
@@ -139,13 +153,13 @@ marks_answer U t c (call.KillUser u signal) = Nothing
 marks_answer U t c (call.ReadInput h) = Nothing
 marks_answer U t c (call.SetMode h mode) = Nothing
 marks_answer U t c (call.Close h) = Nothing
-marks_answer U t c (call.GetProperty x) = Nothing
-marks_answer U t c (call.GetAllProperties path interface) = Nothing
+marks_answer U t c (call.GetProperty x) = get_answer U t x.name (named_object x.path)
+marks_answer U t c (call.GetAllProperties path interface) = get_all_answer U t interface (named_object path)
 marks_answer U t c (call.SetProperty x) = Nothing
 marks_answer U t c call.Ping = Nothing
-marks_answer U t c call.GetMachineId = Nothing
-marks_answer U t c call.Hello = Nothing
-marks_answer U t c (call.GetNameOwner name) = Nothing
+marks_answer U t c call.GetMachineId = MachineId U.guid
+marks_answer U t c call.Hello = UniqueName c
+marks_answer U t c (call.GetNameOwner name) = UniqueName manager_number
 marks_answer U t c (call.AddMatch rule) = Nothing
 marks_answer U t c (call.RemoveMatch rule) = Nothing
 marks_answer U t c call.NoCall = Nothing

@@ -4,7 +4,7 @@ use Rattle.login_base.specs.declared.ids.Millis.{Millis}
 use Rattle.login_model.specs.declared.operation.OpKind.TheVariants.{PowerOff, Suspend, Hibernate}
 use Rattle.login_model.specs.declared.conf.KeyAction.TheVariants.{Ignore, Operation}
 use Rattle.login_model.specs.declared.conf.Conf.{Conf}
-use Rattle.login_model.specs.Limits.{allowed_limit}
+use Rattle.login_model.specs.Limits.{allowed_limit, span_limit}
 
 abbrev pub seconds : ℕ → Millis
 seconds n = record { 0 = n * 1000 }
@@ -30,7 +30,8 @@ default_conf = record {
   lid_switch_ignore_inhibited = true;
 }
 
--- it lets there be no more sessions and no more locks than any may
+-- it lets there be no more sessions and no more locks than any may, and locks delay no longer than any may
 pub record IsAllowed (conf : Conf) : Type 0 where
   pub sessions : conf.sessions_max ≤ allowed_limit
   pub inhibitors : conf.inhibitors_max ≤ allowed_limit
+  pub delay : conf.inhibit_delay_max.0 ≤ span_limit

@@ -1,5 +1,5 @@
 -- What a fact says.
-use Rattle.std.specs.Prelude.{ℕ, ◌-◌, ◌==◌, ◌&&◌, not, nat_le, Bool, true, false, Option, Some, None, List}
+use Rattle.std.specs.Prelude.{ℕ, ◌-◌, ◌==◌, ◌&&◌, not, nat_le, if◌then◌else◌, Bool, true, false, Option, Some, None, List}
 use Rattle.std.specs.Option.{is_some}
 use Rattle.std.specs.Str.{bytes_eq}
 use Rattle.login_base.specs.declared.ids.SessId.{SessId}
@@ -359,6 +359,23 @@ holds_up _ what = what.sleep
 abbrev pub holds_back : OpKind → LockMode → Fact → Bool
 holds_back k mode (fact.Lock l) = same_mode l.mode mode && holds_up k l.what
 holds_back k mode _ = false
+
+-- nothing is inhibited
+abbrev pub nothing_inhibited : Inhibited
+nothing_inhibited = record {
+  shutdown = false;
+  sleep = false;
+  idle = false;
+  handle_power_key = false;
+  handle_suspend_key = false;
+  handle_hibernate_key = false;
+  handle_lid_switch = false;
+}
+
+-- what a lock that stands holds up, if it has this mode
+abbrev pub inhibited_in : LockMode → Fact → Inhibited
+inhibited_in mode (fact.Lock l) = if same_mode l.mode mode then l.what else nothing_inhibited
+inhibited_in mode _ = nothing_inhibited
 
 -- whether what is inhibited has the word of a key
 abbrev pub holds_key : HardKey → Inhibited → Bool

@@ -19,7 +19,6 @@ use Rattle.login_model.specs.Direct.{direct}
 use Rattle.login_model.specs.Answers.{answer}
 use Rattle.login_model.specs.Settle.{settle}
 use Rattle.login_model.specs.Stopping.{stopped}
-use Rattle.login_model.specs.Built.{is_built}
 use Rattle.login_model.specs.Limits.{text_limit}
 
 -- whether an event connects this connection
@@ -43,9 +42,9 @@ Fits before (Hardware x) = AllByRecursion (IsText text_limit) (hardware_texts x)
 Fits before (Tick m) = Unit {0}
 Fits before Stop = Unit {0}
 
--- the event may come after these entries: it is one that is built, and after the stop nothing comes but disconnects
+-- the event may come after these entries: after the stop nothing comes but disconnects
 abbrev pub IsPlaced : List Entry → Event → Type 0
-IsPlaced before e = Fits before e × (stopped before e ≡ None) × (is_built e ≡ true)
+IsPlaced before e = Fits before e × (stopped before e ≡ None)
 
 -- an event that room may be asked for: one that may come next, or any that the stop refuses
 abbrev pub IsAsked : List Entry → Event → Type 0

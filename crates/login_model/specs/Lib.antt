@@ -25,6 +25,9 @@ pub mod Turning
 pub mod Taking
 pub mod Direct
 pub mod Reading
+pub mod Users
+pub mod PropertyNames
+pub mod Properties
 pub mod Answers
 pub mod Settle
 pub mod Objects
@@ -33,8 +36,8 @@ pub mod Texts
 pub mod Named
 pub mod Stopping
 pub mod Legal
-pub mod Built
 pub mod Full
 pub mod MadeWith
 pub mod Setups
 pub mod Held
+pub mod inner

@@ -31,6 +31,10 @@ users_limit = 1024
 abbrev pub allowed_limit : ℕ
 allowed_limit = 32768
 
+-- the longest time of a configuration, in milliseconds
+abbrev pub span_limit : ℕ
+span_limit = 4000000000000
+
 -- the bytes of a text of an event, and of a user's name
 abbrev pub text_limit : ℕ
 text_limit = 512

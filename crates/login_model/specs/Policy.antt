@@ -1,5 +1,5 @@
 -- The policy: one formula a rule, the ordered rules of each event, and the verdict.
-use Rattle.std.specs.Prelude.{ℕ, ℤ, pos, ◌==◌, ◌&&◌, ◌||◌, not, nat_le, nat_lt, Bool, true, false, if◌then◌else◌, Option, Some, None, List, [], ◌∷◌, ◌++◌, length, find}
+use Rattle.std.specs.Prelude.{ℕ, ℤ, pos, ◌==◌, ◌&&◌, ◌||◌, not, nat_le, nat_lt, Bool, true, false, if◌then◌else◌, Option, Some, None, Result, Ok, Err, List, [], ◌∷◌, ◌++◌, codes, length, find}
 use Rattle.std.specs.Option.{option_map, is_some}
 use Rattle.std.specs.List.{list_any}
 use Rattle.std.specs.Str.{bytes_eq}
@@ -15,6 +15,10 @@ use Rattle.login_model.specs.declared.setup.UserRow.{UserRow}
 use Rattle.login_model.specs.declared.setup.Setup.{Setup}
 use Rattle.login_model.specs.declared.call.Creation.{Creation}
 use Rattle.login_model.specs.declared.call.Inhibition.{Inhibition}
+use Rattle.login_model.specs.declared.call.PropertyName.{PropertyName}
+use Rattle.login_model.specs.declared.object.Object.{Object}
+use Rattle.login_model.specs.declared.object.Object.TheVariants as object
+use Rattle.login_model.specs.Objects.{has_property, named_object}
 use Rattle.login_model.specs.declared.call.Call.{Call}
 use Rattle.login_model.specs.declared.call.Call.TheVariants as call
 use Rattle.login_model.specs.declared.hardware.Hardware.{Hardware}
@@ -24,7 +28,7 @@ use Rattle.login_model.specs.declared.event.Event.{Event}
 use Rattle.login_model.specs.declared.event.Event.TheVariants.{Connect, Disconnect, Call as Calls, Hardware as Happens, Tick, Stop}
 use Rattle.login_model.specs.declared.rule.Limit.TheVariants.{Devices, DevicesTaken, Links, Sessions, Inhibitors}
 use Rattle.login_model.specs.declared.rule.Rule.{Rule}
-use Rattle.login_model.specs.declared.rule.Rule.TheVariants.{UnknownObject, UnknownMethod, BadArguments, NoSuchSession, NoSuchUser, NoSuchSeat, NoSuchHandle, NotRoot, NotOwner, ActionRefused, ActionChallenge, SessionClosing, NoSeat, SessionNotOnSeat, Controlled, NotInControl, VtBusy, Limit, NotYours, ClockBackwards, Nobody, OperationInProgress, Inhibited, DelayNotOffered, NoJob, KeyIgnored, NoSuchDevice, DeviceNotOnSeat, DeviceTaken, DeviceNotTaken, NotLive, WrongKind, DevicePresent, DeviceAbsent}
+use Rattle.login_model.specs.declared.rule.Rule.TheVariants.{UnknownObject, UnknownMethod, BadArguments, NoSuchSession, NoSuchUser, NoSuchSeat, NoSuchHandle, NotRoot, NotOwner, ActionRefused, ActionChallenge, SessionClosing, NoSeat, SessionNotOnSeat, Controlled, NotInControl, VtBusy, Limit, NotYours, ClockBackwards, Nobody, OperationInProgress, Inhibited, DelayNotOffered, NoJob, KeyIgnored, NoSuchDevice, DeviceNotOnSeat, DeviceTaken, DeviceNotTaken, NotLive, WrongKind, DevicePresent, DeviceAbsent, UnknownProperty, ReadOnlyProperty}
 use Rattle.login_model.specs.declared.rule.Verdict.{Verdict}
 use Rattle.login_model.specs.declared.rule.Verdict.TheVariants.{Granted, Denied}
 use Rattle.login_model.specs.declared.table.Say.{Say}
@@ -464,7 +468,40 @@ key_rules U t k does.Ignore = Some KeyIgnored ∷ []
 key_rules U t k does.Lock = key_inhibited t k ∷ []
 key_rules U t k (does.Operation o) = key_inhibited t k ∷ in_progress t ∷ unless (passes_locks U.conf k) (inhibited t o) ∷ []
 
--- the ordered rules of a call, each with what it finds broken; those of properties and of the bus come with their calls
+-- P04, P05 and P06 of an object with properties: it is not there
+abbrev pub absent_object : Trail → Object → Option Rule
+absent_object t object.Manager = None
+absent_object t (object.Session s) = no_such_session t s
+absent_object t (object.Seat seat) = no_such_seat t seat
+absent_object t (object.User u) = absent_user t u.0
+
+-- P22 unknown-property: the object has no such property under that interface
+abbrev pub unknown_property : Object → PropertyName → Option Rule
+unknown_property o x = broken_if (not (has_property o x.interface x.name)) UnknownProperty
+
+-- P35 nobody, of a name: the login manager's own alone has an owner
+abbrev pub own_name : List ℕ
+own_name = codes "org.freedesktop.login1"
+
+abbrev pub no_owner : List ℕ → Option Rule
+no_owner name = broken_if (not (bytes_eq name own_name)) Nobody
+
+-- the rules of a call of an object with properties, by what its path names
+abbrev pub on_object : (Object → List (Option Rule)) → Result Object Rule → List (Option Rule)
+on_object rules (Err r) = Some r ∷ []
+on_object rules (Ok o) = rules o
+
+abbrev pub get_rules : Trail → PropertyName → Object → List (Option Rule)
+get_rules t x o = absent_object t o ∷ unknown_property o x ∷ []
+
+abbrev pub get_all_rules : Trail → Object → List (Option Rule)
+get_all_rules t o = absent_object t o ∷ []
+
+-- P22 read-only-property: no property can be set
+abbrev pub set_rules : Trail → PropertyName → Object → List (Option Rule)
+set_rules t x o = absent_object t o ∷ unknown_property o x ∷ Some ReadOnlyProperty ∷ []
+
+-- the ordered rules of a call, each with what it finds broken
 abbrev pub call_rules : Setup → Trail → ConnId → Call → List (Option Rule)
 call_rules U t c (call.Create x) =
     bad_arguments (fits_creation x) ∷ not_root t c ∷ no_such_user U x.uid.0 ∷ no_such_seat_of t x.seat ∷ nobody t x.process
@@ -513,13 +550,13 @@ call_rules U t c call.ListSeats = []
 call_rules U t c call.ListInhibitors = []
 call_rules U t c (call.Can k) = []
 call_rules U t c call.NoCall = []
-call_rules U t c (call.GetProperty x) = []
-call_rules U t c (call.GetAllProperties path interface) = []
-call_rules U t c (call.SetProperty x) = []
+call_rules U t c (call.GetProperty x) = on_object (get_rules t x) (named_object x.path)
+call_rules U t c (call.GetAllProperties path interface) = on_object (get_all_rules t) (named_object path)
+call_rules U t c (call.SetProperty x) = on_object (set_rules t x) (named_object x.path)
 call_rules U t c call.Ping = []
 call_rules U t c call.GetMachineId = []
 call_rules U t c call.Hello = []
-call_rules U t c (call.GetNameOwner name) = []
+call_rules U t c (call.GetNameOwner name) = no_owner name ∷ []
 call_rules U t c (call.AddMatch rule) = []
 call_rules U t c (call.RemoveMatch rule) = []
 

@@ -1,11 +1,14 @@
 -- How fixed words are spelled, each by the type that it stands for.
-use Rattle.std.specs.Prelude.{ℕ, Bool, true, Option, List, [], ◌∷◌, codes, find, map}
+use Rattle.std.specs.Prelude.{ℕ, Bool, true, if◌then◌else◌, Option, List, [], ◌∷◌, ◌++◌, codes, find, map}
+use Rattle.std.specs.List.{join_with_byte}
 use Rattle.std.specs.Option.{is_some, unwrap_or}
 use Rattle.std.specs.Str.{bytes_eq}
 use Rattle.login_model.specs.declared.session.SessionType.{SessionType}
 use Rattle.login_model.specs.declared.session.SessionType.TheVariants as session_type
 use Rattle.login_model.specs.declared.session.Class.{Class}
 use Rattle.login_model.specs.declared.session.Class.TheVariants as class
+use Rattle.login_model.specs.declared.state.State.{State}
+use Rattle.login_model.specs.declared.state.State.TheVariants as state
 use Rattle.login_model.specs.declared.session.KillWhom.{KillWhom}
 use Rattle.login_model.specs.declared.session.KillWhom.TheVariants as whom
 use Rattle.login_model.specs.declared.operation.OpKind.{OpKind}
@@ -14,8 +17,11 @@ use Rattle.login_model.specs.declared.hardware.HardKey.{HardKey}
 use Rattle.login_model.specs.declared.hardware.HardKey.TheVariants as key
 use Rattle.login_model.specs.declared.hardware.DevKind.{DevKind}
 use Rattle.login_model.specs.declared.hardware.DevKind.TheVariants as device
+use Rattle.login_model.specs.declared.lock.Inhibited.{Inhibited}
 use Rattle.login_model.specs.declared.lock.LockMode.{LockMode}
 use Rattle.login_model.specs.declared.lock.LockMode.TheVariants as mode
+use Rattle.login_model.specs.declared.table.Say.{Say}
+use Rattle.login_model.specs.declared.table.Say.TheVariants as says
 
 -- the first of these values that is spelled so
 abbrev pub named : {T : Type 0} → (T → List ℕ) → List T → List ℕ → Option T
@@ -61,6 +67,13 @@ class_named text = named class_word classes text
 -- the class that a text names; the empty one is user
 abbrev pub class_of : List ℕ → Class
 class_of text = unwrap_or (class_named text) class.User
+
+-- the state of a session or a user
+abbrev pub state_word : State → List ℕ
+state_word state.Active = codes "active"
+state_word state.Online = codes "online"
+state_word state.Lingering = codes "lingering"
+state_word state.Closing = codes "closing"
 
 -- which processes of a session a signal is for
 abbrev pub whom_word : KillWhom → List ℕ
@@ -149,3 +162,27 @@ handled_word key.Lid = codes "handle-lid-switch"
 -- all that locks hold up
 abbrev pub lock_words : List (List ℕ)
 lock_words = shutdown_word ∷ sleep_word ∷ idle_word ∷ map handled_word keys
+
+abbrev pub word_if : Bool → List ℕ → List (List ℕ)
+word_if there word = if there then word ∷ [] else []
+
+-- which of the operations and of idleness a lock holds up
+abbrev pub general_words : Inhibited → List (List ℕ)
+general_words x = word_if x.shutdown shutdown_word ++ (word_if x.sleep sleep_word ++ word_if x.idle idle_word)
+
+-- which of the keys and the lid
+abbrev pub handled_words : Inhibited → List (List ℕ)
+handled_words x =
+    word_if x.handle_power_key (handled_word key.Power)
+    ++ (word_if x.handle_suspend_key (handled_word key.Suspend)
+    ++ (word_if x.handle_hibernate_key (handled_word key.Hibernate) ++ word_if x.handle_lid_switch (handled_word key.Lid)))
+
+-- what a lock holds up: its words in their order, with colons between them
+abbrev pub what_text : Inhibited → List ℕ
+what_text x = join_with_byte 58 (general_words x ++ handled_words x)
+
+-- what the policy says
+abbrev pub say_word : Say → List ℕ
+say_word says.No = codes "no"
+say_word says.Challenge = codes "challenge"
+say_word says.Yes = codes "yes"

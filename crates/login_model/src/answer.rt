@@ -4,8 +4,9 @@ ghost use Rattle.std.specs.Prelude.{◌≡◌};
 
 use crate::boxed::Boxed;
 use crate::lock::Lock;
+use crate::property::{PropertyRow, PropertyValue};
 use crate::table::Say;
-use login_base::{HandleNo, Items, SeatName, SessId, Uid, Word};
+use login_base::{ConnId, HandleNo, Items, SeatName, SessId, Uid, Word};
 
 /// What CreateSession of org.freedesktop.login1(5) answers. The object path and the runtime
 /// directory follow from the session and the user; that the session existed before is always false.
@@ -86,4 +87,13 @@ pub enum Answer {
     Handle(HandleNo),
     /// TakeDevice: the handle, and whether the session is inactive.
     Taken(HandleNo, bool),
+    /// Get of a property.
+    Property(PropertyValue),
+    /// GetAll: the properties in their order.
+    Properties(Items<PropertyRow>),
+    /// GetMachineId: the identity of the server.
+    MachineId(Word),
+    /// Hello and GetNameOwner: the unique name of a connection, `:1.` and its number. That of number 0 is the
+    /// login manager's own.
+    UniqueName(ConnId),
 }

@@ -75,4 +75,14 @@ impl<T: Drop> Boxed<T> {
     {
         Ok(Slot::new(alloc)?.fill(value))
     }
+
+    /// The same of a value that may be none.
+    pub fn of_option(alloc: Global, value: Option<T>) -> Result<Option<Boxed<T>>, NoMemory>
+        ensures { IfOk result (λ b. b ≡ value) }
+    {
+        match value {
+            Some(value) => Ok(Some(Boxed::new(alloc, value)?)),
+            None => Ok(None),
+        }
+    }
 }

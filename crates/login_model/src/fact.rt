@@ -6,7 +6,7 @@ ghost use Rattle.login_model.specs.Facts.{is_on_terminal};
 
 use crate::boxed::Boxed;
 use crate::hardware::{DevKind, HardKey};
-use crate::lock::{Lock, LockMode};
+use crate::lock::{Inhibited, Lock, LockMode};
 use crate::operation::{OpKind, Operation};
 use crate::session::{Class, KillWhom, Phase, Session};
 use crate::setup::Setup;
@@ -132,7 +132,7 @@ fn is_session_on(session: &Session, terminal: &Fact) -> bool
 
 /// What a fact says. Each call answers None, no or 0 of a fact of another kind.
 impl Fact {
-    ghost use Rattle.login_model.specs.Facts.{is_absent, client_in, is_connected_fact, is_client_of, client_or, session_in_fact, is_session_fact, is_open_fact, is_closing_fact, owner_of, is_user_in, seat_in_fact, vt_in, fifo_of, leader_in, is_open_of, is_other_user, is_seated_of, is_on_terminal, is_set, controller_in, is_controlled_fact, is_controller_fact, is_known, is_user_fact, is_overdue_fact, owner_in, is_owned_fact, holder_in, is_fifo_of, fifo_session, handle_in, is_handle_fact, is_this_handle, is_seat_fact, active_in, is_acting_fact, number_in_fact, number_in, is_number_fact, is_number, moment_in_fact, moment_in, kind_in, is_device_fact, lock_in_fact, is_lock_fact, is_held_by, holds_back, handles_key, operation_in, kind_under_way, running_in};
+    ghost use Rattle.login_model.specs.Facts.{is_absent, client_in, is_connected_fact, is_client_of, client_or, session_in_fact, is_session_fact, is_open_fact, is_closing_fact, owner_of, is_user_in, seat_in_fact, vt_in, fifo_of, leader_in, is_open_of, is_other_user, is_seated_of, is_on_terminal, is_set, controller_in, is_controlled_fact, is_controller_fact, is_known, is_user_fact, is_overdue_fact, owner_in, is_owned_fact, holder_in, is_fifo_of, fifo_session, handle_in, is_handle_fact, is_this_handle, is_seat_fact, active_in, is_acting_fact, number_in_fact, number_in, is_number_fact, is_number, moment_in_fact, moment_in, kind_in, is_device_fact, lock_in_fact, is_lock_fact, is_held_by, holds_back, handles_key, inhibited_in, operation_in, kind_under_way, running_in};
 
     /// Whether nothing is there.
     pub fn is_absent(&self) -> bool
@@ -598,6 +598,16 @@ impl Fact {
         match self {
             Fact::Lock(lock) => lock.get().mode == mode && lock.get().what.holds_up(kind),
             _ => false,
+        }
+    }
+
+    /// What the lock holds up whose it is, if that has this mode; else nothing.
+    pub fn inhibited(&self, mode: LockMode) -> Inhibited
+        ensures { result ≡ inhibited_in mode self.now }
+    {
+        match self {
+            Fact::Lock(lock) => lock.get().inhibited(mode),
+            _ => Inhibited::NOTHING,
         }
     }
 

@@ -5,7 +5,6 @@
 mod action;
 mod answer;
 mod boxed;
-mod built;
 mod call;
 mod conf;
 mod count;
@@ -18,19 +17,21 @@ mod journal;
 mod lock;
 mod look;
 mod mark;
+mod object;
 mod operation;
+mod property;
 mod rule;
 mod same;
 mod session;
 mod setup;
 mod standing;
 mod start;
+mod state;
 mod table;
 
 pub use action::{Action, PowerAction, Qualifier};
 pub use answer::{Answer, Created, Input, KnownUser, SessionRow};
 pub use boxed::{Boxed, Slot};
-pub use built::is_built;
 pub use call::{Call, Creation, Inhibition, PropertyName};
 pub use conf::{Conf, KeyAction};
 pub use count::Count;
@@ -43,11 +44,17 @@ pub use journal::Journal;
 pub use lock::{Inhibited, Lock, LockMode};
 pub use look::Look;
 pub use mark::{Entry, Mark, Notice, PauseKind, Whom};
+pub use object::{Object, is_object, named_object};
 pub use operation::{OpKind, Operation};
+pub use property::{
+    ManagerProperty, Property, PropertyRow, PropertyValue, SeatProperty, SessionProperty,
+    UserProperty,
+};
 pub use rule::{Limit, Rule, Verdict};
 pub use same::{is_same_fact, is_same_key};
 pub use session::{Class, KillWhom, Phase, Session, SessionTexts, SessionType};
 pub use setup::{Setup, UserRow};
 pub use standing::Standing;
 pub use start::StartFacts;
+pub use state::State;
 pub use table::{Row, Say, Table};

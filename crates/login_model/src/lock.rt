@@ -1,12 +1,14 @@
 // Inhibitor locks (org.freedesktop.login1(5), Manager.Inhibit).
 
-ghost use Rattle.std.specs.Prelude.{◌≡◌};
+ghost use Rattle.std.specs.Prelude.{◌≡◌, ◌++◌, IfOk, OnOk};
+ghost use Rattle.login_model.specs.inner.Prefixed.{prefixed};
 ghost use Rattle.login_model.specs.Locks.{has_word, is_what, words_in};
-ghost use Rattle.login_model.specs.Words.{lock_words};
+ghost use Rattle.login_model.specs.Words.{general_words, handled_words, lock_words, word_if};
 
 use crate::hardware::HardKey;
 use crate::operation::OpKind;
-use login_base::{ConnId, Uid, Word};
+use login_base::{ConnId, NoMemory, Uid, Word};
+use std::alloc::Global;
 
 /// All words of what a lock holds up.
 const WORDS: [&[u8]; 7] = [
@@ -40,6 +42,17 @@ fn has_word(text: &[u8], word: &[u8]) -> bool
     text.split(|byte| *byte == b':').any(|part| part == word)
 }
 
+/// Adds a colon and a word, if it is there.
+fn push_word_if(out: &mut Vec<u8>, there: bool, word: &[u8]) -> Result<(), NoMemory>
+    ensures { OnOk result (out.new.items ≡ out.old.items ++ prefixed 58 (word_if there word.now)) }
+{
+    if there {
+        out.push(b':')?;
+        out.extend_from_slice(word)?;
+    }
+    Ok(())
+}
+
 /// What a lock holds up.
 #[derive(Clone, Copy, Debug)]
 pub struct Inhibited {
@@ -53,10 +66,39 @@ pub struct Inhibited {
 }
 
 impl Inhibited {
-    ghost use Rattle.std.specs.Prelude.{◌≡◌, if◌then◌else◌, None, Some};
+    ghost use Rattle.std.specs.Prelude.{◌≡◌, ◌++◌, if◌then◌else◌, IfOk, None, OnOk, Some};
+    ghost use Rattle.login_model.specs.inner.Prefixed.{prefixed};
     ghost use Rattle.login_model.specs.Facts.{holds_up, holds_key};
     ghost use Rattle.login_model.specs.Locks.{is_what, what_of};
     ghost use Rattle.login_model.specs.Policy.{names_more};
+    ghost use Rattle.login_model.specs.Properties.{either_inhibited};
+    ghost use Rattle.login_model.specs.Words.{general_words, handled_words, what_text};
+
+    /// Nothing is held up.
+    pub const NOTHING: Inhibited = Inhibited {
+        shutdown: false,
+        sleep: false,
+        idle: false,
+        handle_power_key: false,
+        handle_suspend_key: false,
+        handle_hibernate_key: false,
+        handle_lid_switch: false,
+    };
+
+    /// What either of two holds up.
+    pub fn or(self, other: Inhibited) -> Inhibited
+        ensures { result ≡ either_inhibited self other }
+    {
+        Inhibited {
+            shutdown: self.shutdown || other.shutdown,
+            sleep: self.sleep || other.sleep,
+            idle: self.idle || other.idle,
+            handle_power_key: self.handle_power_key || other.handle_power_key,
+            handle_suspend_key: self.handle_suspend_key || other.handle_suspend_key,
+            handle_hibernate_key: self.handle_hibernate_key || other.handle_hibernate_key,
+            handle_lid_switch: self.handle_lid_switch || other.handle_lid_switch,
+        }
+    }
 
     /// What a text names: words that colons part, in any order. None where a word is none of these, as the
     /// empty one is.
@@ -76,6 +118,47 @@ impl Inhibited {
             handle_hibernate_key: has_word(text, b"handle-hibernate-key"),
             handle_lid_switch: has_word(text, b"handle-lid-switch"),
         })
+    }
+
+    /// Adds which of the operations and of idleness it has, a colon before each.
+    fn push_general(&self, out: &mut Vec<u8>) -> Result<(), NoMemory>
+        ensures { OnOk result (out.new.items ≡ out.old.items ++ prefixed 58 (general_words self.now)) }
+    {
+        push_word_if(out, self.shutdown, b"shutdown")?;
+        push_word_if(out, self.sleep, b"sleep")?;
+        push_word_if(out, self.idle, b"idle")
+    }
+
+    /// Adds which of the keys and the lid, a colon before each.
+    fn push_handled(&self, out: &mut Vec<u8>) -> Result<(), NoMemory>
+        ensures { OnOk result (out.new.items ≡ out.old.items ++ prefixed 58 (handled_words self.now)) }
+    {
+        push_word_if(out, self.handle_power_key, b"handle-power-key")?;
+        push_word_if(out, self.handle_suspend_key, b"handle-suspend-key")?;
+        push_word_if(out, self.handle_hibernate_key, b"handle-hibernate-key")?;
+        push_word_if(out, self.handle_lid_switch, b"handle-lid-switch")
+    }
+
+    /// All its words, a colon before each.
+    fn words(&self, alloc: Global) -> Result<Vec<u8>, NoMemory>
+        ensures { IfOk result (λ words. words.items ≡ prefixed 58 (general_words self.now ++ handled_words self.now)) }
+    {
+        let mut out = Vec::new(alloc);
+        self.push_general(&mut out)?;
+        self.push_handled(&mut out)?;
+        Ok(out)
+    }
+
+    /// Its words in their order, with colons between them.
+    pub fn text(&self, alloc: Global) -> Result<Vec<u8>, NoMemory>
+        ensures { IfOk result (λ text. text.items ≡ what_text self.now) }
+    {
+        let words = self.words(alloc)?;
+        let mut out = Vec::new(alloc);
+        if let [_, rest @ ..] = words.as_slice() {
+            out.extend_from_slice(rest)?;
+        }
+        Ok(out)
     }
 
     /// Whether it has the word of an operation: shutdown for those that end the machine's run, else sleep.
@@ -165,4 +248,21 @@ pub struct Lock {
     pub why: Word,
     /// The connection that asked for it.
     pub holder: ConnId,
+}
+
+impl Lock {
+    ghost use Rattle.std.specs.Prelude.{◌≡◌, if◌then◌else◌};
+    ghost use Rattle.login_model.specs.Facts.{nothing_inhibited};
+    ghost use Rattle.login_model.specs.Same.{same_mode};
+
+    /// What it holds up, if it has this mode; else nothing.
+    pub fn inhibited(&self, mode: LockMode) -> Inhibited
+        ensures { result ≡ if same_mode self.now.mode mode then self.now.what else nothing_inhibited }
+    {
+        if self.mode == mode {
+            self.what
+        } else {
+            Inhibited::NOTHING
+        }
+    }
 }

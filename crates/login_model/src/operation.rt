@@ -17,7 +17,15 @@ pub enum OpKind {
 impl OpKind {
     ghost use Rattle.std.specs.Prelude.{◌≡◌, IfSome, Some};
     ghost use Rattle.login_model.specs.declared.operation.OpKind.{OpKind};
+    ghost use Rattle.login_model.specs.Properties.{is_shutdown};
     ghost use Rattle.login_model.specs.Words.{operation_word, operation_named};
+
+    /// Whether it ends the machine's run; else the machine sleeps.
+    pub fn is_shutdown(self) -> bool
+        ensures { result ≡ is_shutdown self }
+    {
+        matches!(self, OpKind::PowerOff | OpKind::Reboot | OpKind::Halt)
+    }
 
     /// All operations.
     pub const ALL: [OpKind; 7] = [

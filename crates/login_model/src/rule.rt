@@ -62,7 +62,7 @@ pub enum Rule {
     NotYours,
     /// The moment is before the clock, which stands at this one.
     ClockBackwards(Millis),
-    /// The process is not connected.
+    /// The process is not connected, or the name has no owner.
     Nobody,
     /// The device is absent.
     NoSuchDevice,
@@ -90,6 +90,10 @@ pub enum Rule {
     NoJob,
     /// The key's action is to ignore it.
     KeyIgnored,
+    /// The object has no such property under that interface.
+    UnknownProperty,
+    /// The property can't be set, as none can.
+    ReadOnlyProperty,
 }
 
 impl Rule {
@@ -123,6 +127,8 @@ impl Rule {
             Rule::DeviceTaken => b"P19 device-taken",
             Rule::DeviceNotTaken => b"P20 device-not-taken",
             Rule::VtBusy(_) => b"P21 vt-busy",
+            Rule::UnknownProperty => b"P22 unknown-property",
+            Rule::ReadOnlyProperty => b"P22 read-only-property",
             Rule::OperationInProgress(_) => b"P23 operation-in-progress",
             Rule::Inhibited(_) => b"P24 inhibited",
             Rule::DelayNotOffered => b"P25 delay-not-offered",

@@ -16,6 +16,22 @@ pub enum Say {
     Challenge,
 }
 
+impl Say {
+    ghost use Rattle.std.specs.Prelude.{◌≡◌};
+    ghost use Rattle.login_model.specs.Words.{say_word};
+
+    /// The word for it.
+    pub fn name(self) -> &'static [u8]
+        ensures { result.now ≡ say_word self }
+    {
+        match self {
+            Say::No => b"no",
+            Say::Challenge => b"challenge",
+            Say::Yes => b"yes",
+        }
+    }
+}
+
 /// What the policy says to one action, to all but root.
 #[derive(Clone, Copy, Debug, PartialEq, Eq)]
 pub struct Row {

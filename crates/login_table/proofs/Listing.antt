@@ -155,3 +155,21 @@ session_kind = kind session_lt session_order session_in Sess is_session_fact Non
 pub sessions-all : (t : Trail) → sessions t ≡ all session_kind t
 unfolding sessions
 sessions-all t = refl
+
+-- all that meet a test: those so far, and of those that are left
+pub found-start : {A : Type 0} (k : Kind A) (t : Trail) (p : A → Bool) (xs : List A) → xs ≡ [] → xs ++ filter p (left k t None) ≡ filter p (all k t)
+found-start {A} k t p xs e = ap (λ (zs : List A). zs ++ filter p (left k t None)) e ∙ ap (filter p) (left-start k t)
+
+-- one more is looked at
+one-more : {A : Type 0} (b : Bool) (a : A) (rest : List A) → cond b (a ∷ rest) rest ≡ cond b (a ∷ []) [] ++ rest
+one-more true a rest = refl
+one-more false a rest = refl
+
+pub found-next : {A : Type 0} (k : Kind A) (t : Trail) (p : A → Bool) (xs ys : List A) (above : Option A) (a : A) → xs ++ filter p (left k t above) ≡ filter p (all k t) → Next k t above (Some a)
+    → ys ≡ xs ++ filter p (a ∷ []) → ys ++ filter p (left k t (Some a)) ≡ filter p (all k t)
+found-next {A} k t p xs ys above a e h is =
+    ap (λ (zs : List A). zs ++ filter p (left k t (Some a))) is ∙ append_assoc xs (filter p (a ∷ [])) (filter p (left k t (Some a)))
+    ∙ sym (ap (λ (zs : List A). xs ++ zs) (ap (filter p) (left-next k t above a h) ∙ one-more (p a) a (filter p (left k t (Some a))))) ∙ e
+
+pub found-none : {A : Type 0} (k : Kind A) (t : Trail) (p : A → Bool) (xs : List A) (above : Option A) → xs ++ filter p (left k t above) ≡ filter p (all k t) → Next k t above None → xs ≡ filter p (all k t)
+found-none {A} k t p xs above e h = sym (append-nil xs) ∙ sym (ap (λ (zs : List A). xs ++ zs) (ap (filter p) (left-none k t above h))) ∙ e

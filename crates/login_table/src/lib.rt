@@ -19,5 +19,7 @@ pub use listed::{Listed, are_taken_at_least, list};
 pub use locks::{key_lock, matching_lock};
 pub use name::{Name, Order, is_above, is_lower};
 pub use rows::{Row, Rows};
-pub use search::{IsOpen, OfUser, Test, find_first, find_session};
+pub use search::{
+    IsGraphicsOn, IsOpen, OfUser, OnSeat, Test, find_all, find_first, find_session, find_sessions,
+};
 pub use table::Table;

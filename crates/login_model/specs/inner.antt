@@ -1,0 +1,2 @@
+-- What serves private functions: words in a text that goes on.
+pub mod Prefixed

@@ -1,0 +1,220 @@
+// The objects that have properties, and their paths (org.freedesktop.login1(5)).
+
+ghost use Rattle.std.specs.Prelude.{◌≡◌, ◌≤◌, ◌<◌, ◌∷◌, [], IfOk, IfSome, IsNone, MatchOption, length, take};
+ghost use Rattle.std.specs.Str.{is_utf8};
+ghost use Rattle.login_model.specs.Objects.{decoded, has_no_zero, is_label, is_object, is_text, named_object, seat_at, session_at, user_at};
+
+use crate::property::{ManagerProperty, SeatProperty, SessionProperty, UserProperty};
+use crate::rule::Rule;
+use login_base::{NoMemory, SeatName, SessId, Uid, escape, hex_value, read_number};
+use std::alloc::Global;
+use std::str;
+
+const MANAGER: &[u8] = b"/org/freedesktop/login1";
+
+const SESSIONS: &[u8] = b"/org/freedesktop/login1/session/";
+
+const SEATS: &[u8] = b"/org/freedesktop/login1/seat/";
+
+const USERS: &[u8] = b"/org/freedesktop/login1/user/_";
+
+/// The longest name of a seat, in bytes. No session's id is longer.
+const LONGEST_NAME: usize = 255;
+
+/// An object with properties, whether there is such a one or not.
+#[derive(Clone, Copy, Debug)]
+pub enum Object {
+    Manager,
+    Session(SessId),
+    Seat(SeatName),
+    User(Uid),
+}
+
+impl Object {
+    ghost use Rattle.std.specs.Prelude.{◌≡◌};
+    ghost use Rattle.login_model.specs.Objects.{has_named, has_property, is_own_interface, own_interface};
+
+    /// The interface that is its own.
+    fn interface(&self) -> &'static [u8]
+        ensures { result.now ≡ own_interface self.now }
+    {
+        match self {
+            Object::Manager => b"org.freedesktop.login1.Manager",
+            Object::Session(_) => b"org.freedesktop.login1.Session",
+            Object::Seat(_) => b"org.freedesktop.login1.Seat",
+            Object::User(_) => b"org.freedesktop.login1.User",
+        }
+    }
+
+    /// Whether a text names its own interface. The empty one does.
+    pub fn is_own_interface(&self, interface: &[u8]) -> bool
+        ensures { result ≡ is_own_interface self.now interface.now }
+    {
+        interface.is_empty() || interface == self.interface()
+    }
+
+    /// Whether it has a property of this name.
+    fn has_named(&self, name: &[u8]) -> bool
+        ensures { result ≡ has_named self.now name.now }
+    {
+        match self {
+            Object::Manager => ManagerProperty::read(name).is_some(),
+            Object::Session(_) => SessionProperty::read(name).is_some(),
+            Object::Seat(_) => SeatProperty::read(name).is_some(),
+            Object::User(_) => UserProperty::read(name).is_some(),
+        }
+    }
+
+    /// Whether it has a property of this name under an interface.
+    pub fn has_property(&self, interface: &[u8], name: &[u8]) -> bool
+        ensures { result ≡ has_property self.now interface.now name.now }
+    {
+        self.is_own_interface(interface) && self.has_named(name)
+    }
+}
+
+/// The first byte of the text of which an element is the escape, and what is behind it: an underscore and two
+/// digits are one byte, and an underscore at the end is none.
+fn first_decoded(element: &[u8]) -> Option<(u8, &[u8])>
+    ensures value { MatchOption result (decoded element.now ≡ []) (λ it. decoded element.now ≡ it.0 ∷ decoded it.1.now) }
+    ensures shorter { IfSome result (λ it. length it.1.now < length element.now) }
+{
+    match element {
+        [] | [b'_'] => None,
+        [b'_', high, low, rest @ ..] => {
+            let high = hex_value(*high).unwrap_or(0);
+            let low = hex_value(*low).unwrap_or(0);
+            Some((16 * high + low, rest))
+        }
+        [byte, rest @ ..] => Some((*byte, rest)),
+    }
+}
+
+/// The text of which an element may be the escape.
+fn decoded(alloc: Global, element: &[u8]) -> Result<Vec<u8>, NoMemory>
+    ensures { IfOk result (λ text. text.items ≡ decoded element.now) }
+{
+    let mut text = Vec::new(alloc);
+    let mut rest = element;
+    while let Some((byte, behind)) = first_decoded(rest) {
+        text.push(byte)?;
+        rest = behind;
+    }
+    Ok(text)
+}
+
+/// Puts the text of which an element may be the escape at the front of memory, and tells how long it is; none where
+/// it is longer than any name.
+fn decode(element: &[u8], text: &mut [u8; 255]) -> Option<usize>
+    ensures within { IfSome result (λ size. size ≤ 255) }
+    ensures text { IfSome result (λ size. take size text.new ≡ decoded element.now) }
+    ensures long { IsNone result → 255 < length (decoded element.now) }
+{
+    let mut size = 0;
+    let mut rest = element;
+    while let Some((byte, behind)) = first_decoded(rest) {
+        if size == LONGEST_NAME {
+            return None;
+        }
+        text[size] = byte;
+        size += 1;
+        rest = behind;
+    }
+    Some(size)
+}
+
+/// The session with the id that an element has.
+fn session_at(element: &[u8]) -> Option<Object>
+    ensures { result ≡ session_at element.now }
+{
+    let mut text = [0; 255];
+    let size = decode(element, &mut text)?;
+    Some(Object::Session(SessId::read(&text[..size])?))
+}
+
+/// The seat with the name that an element has.
+fn seat_at(element: &[u8]) -> Option<Object>
+    ensures { result ≡ seat_at element.now }
+{
+    let mut text = [0; 255];
+    let size = decode(element, &mut text)?;
+    match SeatName::read(&text[..size]) {
+        Ok(seat) => Some(Object::Seat(seat)),
+        Err(_) => None,
+    }
+}
+
+/// The user with this number.
+fn user_at(digits: &[u8]) -> Option<Object>
+    ensures { result ≡ user_at digits.now }
+{
+    Some(Object::User(Uid(read_number(digits)?)))
+}
+
+/// The object that a path names, or the rule that is broken since what it names can't be there. It takes no memory.
+#[tactic(auto, unfolding(crate::specs::Objects::named_object))]
+pub fn named_object(path: &[u8]) -> Result<Object, Rule>
+    ensures { result ≡ named_object path.now }
+{
+    if path == MANAGER {
+        Ok(Object::Manager)
+    } else if let Some(element) = path.strip_prefix(SESSIONS) {
+        session_at(element).ok_or(Rule::NoSuchSession)
+    } else if let Some(element) = path.strip_prefix(SEATS) {
+        seat_at(element).ok_or(Rule::NoSuchSeat)
+    } else if let Some(digits) = path.strip_prefix(USERS) {
+        user_at(digits).ok_or(Rule::NoSuchUser)
+    } else {
+        Err(Rule::UnknownObject)
+    }
+}
+
+/// Whether a text is UTF-8.
+fn is_utf8(text: &[u8]) -> bool
+    ensures { result ≡ is_utf8 text.now }
+{
+    str::from_utf8(text).is_ok()
+}
+
+/// Whether no byte is NUL.
+fn has_no_zero(text: &[u8]) -> bool
+    ensures { result ≡ has_no_zero text.now }
+{
+    text.iter().all(|byte| *byte != 0)
+}
+
+/// Whether a text is UTF-8 without NUL.
+fn is_text(text: &[u8]) -> bool
+    ensures { result ≡ is_text text.now }
+{
+    is_utf8(text) && has_no_zero(text)
+}
+
+/// Whether an element is the escape of a text.
+fn is_label(alloc: Global, element: &[u8]) -> Result<bool, NoMemory>
+    ensures { IfOk result (λ is. is ≡ is_label element.now) }
+{
+    let text = decoded(alloc, element)?;
+    if !is_text(text.as_slice()) {
+        return Ok(false);
+    }
+    Ok(escape(alloc, text.as_slice())?.as_slice() == element)
+}
+
+/// Whether a path is that of the manager, a session, a seat or a user, whether there is such a one or not.
+#[tactic(auto, unfolding(crate::specs::Objects::is_object))]
+pub fn is_object(alloc: Global, path: &[u8]) -> Result<bool, NoMemory>
+    ensures { IfOk result (λ is. is ≡ is_object path.now) }
+{
+    if path == MANAGER {
+        Ok(true)
+    } else if let Some(element) = path.strip_prefix(SESSIONS) {
+        is_label(alloc, element)
+    } else if let Some(element) = path.strip_prefix(SEATS) {
+        is_label(alloc, element)
+    } else if let Some(digits) = path.strip_prefix(USERS) {
+        Ok(read_number(digits).is_some())
+    } else {
+        Ok(false)
+    }
+}

@@ -1,0 +1,115 @@
+// The properties of sessions.
+
+ghost use Rattle.std.specs.Prelude.{◌≡◌, IfOk};
+ghost use Rattle.login_model.specs.Properties.{data_value, is_active_state, is_in_use, scope_name, session_state, session_value};
+ghost use Rattle.login_model.specs.declared.property.Property.TheVariants.{Session as SessionName};
+
+use crate::kind::OfKind;
+use crate::values::{enclosed, seat, text};
+use login_base::{NoMemory, SessId};
+use login_model::{
+    Fact, Key, Look, Property, PropertyValue, Session, SessionProperty, Setup, State,
+};
+use login_table::{is_active, seat_of_session};
+use std::alloc::Global;
+
+/// Whether an open session is active on its seat, or needs none.
+pub(crate) fn is_in_use<F: Look>(facts: &F, session: SessId) -> bool
+    ensures { result ≡ is_in_use (F.trail facts.now) session }
+{
+    seat_of_session(facts, session).is_none() || is_active(facts, session)
+}
+
+/// The state of a session.
+fn session_state<F: Look>(facts: &F, session: SessId) -> State
+    ensures { result ≡ session_state (F.trail facts.now) session }
+{
+    if !facts.fact(&Key::Sess(session)).is_open() {
+        State::Closing
+    } else if is_in_use(facts, session) {
+        State::Active
+    } else {
+        State::Online
+    }
+}
+
+fn is_active_state(state: State) -> bool
+    ensures { result ≡ is_active_state state }
+{
+    matches!(state, State::Active)
+}
+
+/// The name of a session's scope unit.
+fn scope(alloc: Global, session: SessId) -> Result<PropertyValue, NoMemory>
+    ensures { IfOk result (λ value. value ≡ PropertyValue.Text (scope_name session)) }
+{
+    let id = session.text(alloc)?;
+    enclosed(alloc, b"session-", id.as_slice(), b".scope")
+}
+
+/// A property of a session that was made.
+fn data_value<F: Look>(
+    alloc: Global,
+    facts: &F,
+    setup: &Setup,
+    session: SessId,
+    data: &Session,
+    property: SessionProperty,
+) -> Result<PropertyValue, NoMemory>
+    ensures { IfOk result (λ value. value ≡ data_value setup.now (F.trail facts.now) session data.now property) }
+{
+    match property {
+        SessionProperty::Id => Ok(PropertyValue::Text(session.text(alloc)?)),
+        SessionProperty::User => Ok(PropertyValue::User(data.uid)),
+        SessionProperty::Name => text(alloc, setup.user_name(data.uid.0)),
+        SessionProperty::Vt => Ok(PropertyValue::Number(data.vt)),
+        SessionProperty::Seat => seat(alloc, data.seat),
+        SessionProperty::Tty => text(alloc, data.texts.tty.as_slice()),
+        SessionProperty::Display => text(alloc, data.texts.display.as_slice()),
+        SessionProperty::Remote => Ok(PropertyValue::Flag(data.remote)),
+        SessionProperty::RemoteHost => text(alloc, data.texts.remote_host.as_slice()),
+        SessionProperty::RemoteUser => text(alloc, data.texts.remote_user.as_slice()),
+        SessionProperty::Service => text(alloc, data.texts.service.as_slice()),
+        SessionProperty::Desktop => text(alloc, data.texts.desktop.as_slice()),
+        SessionProperty::Scope => scope(alloc, session),
+        SessionProperty::Leader => Ok(PropertyValue::Number(data.leader.0)),
+        SessionProperty::Type => text(alloc, data.session_type.name()),
+        SessionProperty::Class => text(alloc, data.class.name()),
+        SessionProperty::Active => {
+            let is_active = is_active_state(session_state(facts, session));
+            Ok(PropertyValue::Flag(is_active))
+        }
+        SessionProperty::State => text(alloc, session_state(facts, session).name()),
+        SessionProperty::IdleHint => {
+            let is_idle = facts.fact(&Key::Idle(session)).is_set();
+            Ok(PropertyValue::Flag(is_idle))
+        }
+        SessionProperty::LockedHint => {
+            let is_locked = facts.fact(&Key::Locked(session)).is_set();
+            Ok(PropertyValue::Flag(is_locked))
+        }
+    }
+}
+
+impl OfKind<SessId> for SessionProperty {
+    ghost value = { session_value };
+
+    ghost property = { SessionName };
+
+    fn property(self) -> Property {
+        Property::Session(self)
+    }
+
+    fn value<F: Look>(
+        self,
+        alloc: Global,
+        facts: &F,
+        setup: &Setup,
+        name: SessId,
+    ) -> Result<PropertyValue, NoMemory> {
+        match facts.fact(&Key::Sess(name)) {
+            Fact::Session(data) => data_value(alloc, facts, setup, name, data.get(), self),
+            _ => Ok(PropertyValue::Flag(false)),
+        }
+    }
+}
