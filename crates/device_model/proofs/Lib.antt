@@ -1,2 +1,2 @@
-mod Listening
+pub mod Listening
 mod Places

@@ -200,6 +200,3 @@ impl DeviceModel {
         self.ears.drain(handle, out);
     }
 }
-
-#[cfg(test)]
-mod tests;

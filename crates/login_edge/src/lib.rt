@@ -22,11 +22,6 @@ mod writing;
 ghost use Rattle.std.specs.Prelude.{◌<◌, ℕ, List, length, Option};
 ghost use Rattle.login_edge.specs.Edge.{ReadGives, ReadCause, ReadFalls, WriteGives, WriteCause};
 
-#[cfg(test)]
-mod tests;
-#[cfg(test)]
-mod thread_tests;
-
 pub use bell::Bell;
 pub use clock::{Clock, Reading};
 pub use gate::{Gate, Leave, OpenGate};

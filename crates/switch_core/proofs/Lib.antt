@@ -8,4 +8,3 @@ pub mod Growing
 pub mod Going
 pub mod Appending
 mod PausesLeft
-mod BlankLaws

@@ -14,6 +14,3 @@ mod rounds;
 mod setting;
 
 pub use calls::{acknowledge, ask, force, resume, settle, withdraw};
-
-#[cfg(test)]
-mod tests;

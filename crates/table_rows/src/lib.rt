@@ -1,4 +1,5 @@
-//! Tests of the tables of facts, of the table of actions, and of texts of ids and seats, through public calls.
+//! Tests of the tables of facts, of the table of actions, of configurations, of switches, and of texts of ids and seats,
+//! through public calls.
 //!
 //! They stand in a crate of their own, since a crate with tests is proved a second time with them.
 #![tactic(auto)]
@@ -6,7 +7,11 @@
 #[cfg(test)]
 mod actions;
 #[cfg(test)]
+mod confs;
+#[cfg(test)]
 mod connections;
+#[cfg(test)]
+mod devices;
 #[cfg(test)]
 mod hints;
 #[cfg(test)]
@@ -15,6 +20,8 @@ mod locks;
 mod operations;
 #[cfg(test)]
 mod seats;
+#[cfg(test)]
+mod switches;
 #[cfg(test)]
 mod takes;
 #[cfg(test)]

@@ -1,0 +1,17 @@
+//! Tests of `login_edge`, through its public calls.
+//!
+//! They stand in a crate of their own, since a crate with tests is proved a second time with them.
+#![tactic(auto)]
+
+#[cfg(test)]
+mod clocks;
+#[cfg(test)]
+mod gates;
+#[cfg(test)]
+mod links;
+#[cfg(test)]
+mod listeners;
+#[cfg(test)]
+mod streams;
+#[cfg(test)]
+mod threads;

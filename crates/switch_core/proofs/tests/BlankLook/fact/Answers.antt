@@ -1,6 +1,0 @@
-use Rattle.std.proofs.Common.{sym, ◌∙◌}
-use Rattle.login_table.proofs.Standing.{value-start}
-use Rattle.switch_core.proofs.tests.BlankLook.fact.Goals as goal
-
-pub returns : goal.returns
-returns c = c.fact.ensures ∙ sym (value-start c.args.key.now)
