@@ -1,10 +1,10 @@
 // A stream of messages, fed in pieces.
 
-ghost use Rattle.std.specs.Prelude.{◌≡◌, ◌++◌, ◌≤◌, ℕ, [], length, drop, None, Some, Ok, OnErr, IfOk};
+ghost use Rattle.std.specs.Prelude.{◌≡◌, ◌≤◌, ℕ, [], length, drop, None, Some, Ok, OnErr, IfOk};
 ghost use Rattle.std.specs.Fn.{FnOnceReturnsAt};
 ghost use Rattle.bus_value.specs.Faults.{told};
 ghost use Rattle.bus_message.specs.Feeding.{AreMessages, Feeds, HasFed, IsEnded, IsKept};
-ghost use Rattle.bus_message.specs.Outcomes.{IsCutFrom, Gives, before, ended, cut_at};
+ghost use Rattle.bus_message.specs.Outcomes.{IsCutFrom, Gives, ended, cut_at};
 
 use crate::cutting::{Pieces, cut_messages};
 use crate::fault::{Fault, Malformed};

@@ -1,8 +1,8 @@
 // The fields of a message.
 
-ghost use Rattle.std.specs.Prelude.{◌≡◌, ◌<◌, ◌^◌, None, Some, is_some, IfOk, MatchOption};
+ghost use Rattle.std.specs.Prelude.{◌≡◌, ◌<◌, None, Some, is_some, IfOk, MatchOption};
 ghost use Rattle.bus_names.specs.Reading.{interface_fault, member_fault, bus_name_fault};
-ghost use Rattle.bus_message.specs.Fields.{found, plain, path_at, text_at, u32_at, types_at, name_at, signature, handles};
+ghost use Rattle.bus_message.specs.Fields.{found, plain, path_at, text_at, u32_at, types_at, name_at, signature};
 ghost use Rattle.bus_message.specs.inner.Kept.{shown};
 ghost use Rattle.bus_message.specs.inner.Names.{Names};
 

@@ -1,6 +1,6 @@
 // The first 16 bytes of a message.
 
-ghost use Rattle.std.specs.Prelude.{◌≡◌, ◌≤◌, ◌<◌, ◌^◌, length, IfOk};
+ghost use Rattle.std.specs.Prelude.{◌≡◌, ◌≤◌, ◌<◌, length, IfOk};
 ghost use Rattle.bus_message.specs.Faults.{Gives};
 ghost use Rattle.bus_message.specs.Headers.{order_of, stated, header_of, fields_end, body_start, size, most, HasRoom};
 

@@ -11,6 +11,7 @@ mod fields;
 mod header;
 mod law;
 mod message;
+mod names;
 mod reading;
 
 pub use cutter::{Cut, Cutter};
@@ -21,3 +22,4 @@ pub use law::{
     one_message, prefix_free,
 };
 pub use message::Message;
+pub use names::{made_bus_name, made_interface, made_member, made_path};

@@ -57,3 +57,7 @@ escape_element [] h = (refl, refl)
 escape_element (b ∷ bs) h =
     let some = begins_with (is_letter b) b (flat_map later_byte bs) in
     element_of (escape (b ∷ bs)) some.0 some.1 some.2 (words_append (first_byte b) (flat_map later_byte bs) (piece_stands (is_letter b) b (letter_stands b) h.0) (later_stands bs h.1))
+
+pub escape_words : (text : List ℕ) → AreBytes text → AreWords (escape text)
+escape_words [] h = refl
+escape_words (b ∷ bs) h = words_append (first_byte b) (flat_map later_byte bs) (piece_stands (is_letter b) b (letter_stands b) h.0) (later_stands bs h.1)

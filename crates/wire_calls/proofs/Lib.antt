@@ -5,3 +5,4 @@ pub mod MethodNames
 pub mod SentCalls
 pub mod Standing
 pub mod Naming
+pub mod PropertyPaths

@@ -11,8 +11,14 @@ use Rattle.wire_calls.specs.declared.seat.SeatMethod.TheVariants as seat
 use Rattle.wire_calls.specs.declared.user.UserMethod.TheVariants as user
 use Rattle.wire_calls.specs.declared.machine.MachineMethod.TheVariants as machine
 use Rattle.wire_calls.specs.declared.method.Method.{Method}
-use Rattle.wire_calls.specs.declared.method.Method.TheVariants.{Manager, Session, Seat, User, Machine}
-use Rattle.wire_calls.specs.Methods.{method_named, object_of, signed}
+use Rattle.wire_calls.specs.declared.method.Method.TheVariants.{Manager, Session, Seat, User, Machine, Bus}
+use Rattle.wire_calls.specs.declared.method.AnyMethod.{AnyMethod}
+use Rattle.wire_calls.specs.declared.method.AnyMethod.TheVariants.{Own, Properties, Peer}
+use Rattle.wire_calls.specs.declared.bus.BusMethod.TheVariants as bus
+use Rattle.wire_calls.specs.declared.bus.PropertiesMethod.TheVariants as properties
+use Rattle.wire_calls.specs.declared.bus.PeerMethod.TheVariants as peer
+use Rattle.wire_calls.specs.Methods.{method_named, object_of, signed, signed_any}
+use Rattle.wire_calls.specs.Sending.{interface_at}
 use Rattle.wire_calls.specs.Objects.{interface_of}
 
 -- a method is the one with its name
@@ -73,6 +79,10 @@ named_again (User u user.Kill) = refl
 named_again (Machine machine.Read) = refl
 named_again (Machine machine.SetMode) = refl
 named_again (Machine machine.Close) = refl
+named_again (Bus bus.Hello) = refl
+named_again (Bus bus.GetNameOwner) = refl
+named_again (Bus bus.AddMatch) = refl
+named_again (Bus bus.RemoveMatch) = refl
 
 -- the names of methods are names of members
 pub name_fault : (m : Method) → member_fault (signed m).name ≡ None
@@ -133,6 +143,20 @@ name_fault (User u user.Kill) = refl
 name_fault (Machine machine.Read) = refl
 name_fault (Machine machine.SetMode) = refl
 name_fault (Machine machine.Close) = refl
+name_fault (Bus bus.Hello) = refl
+name_fault (Bus bus.GetNameOwner) = refl
+name_fault (Bus bus.AddMatch) = refl
+name_fault (Bus bus.RemoveMatch) = refl
+
+-- those of any interface
+pub any_name_fault : (m : AnyMethod) → member_fault (signed_any m).name ≡ None
+unfolding member_fault fault_from
+any_name_fault (Own m) = name_fault m
+any_name_fault (Properties path properties.Get) = refl
+any_name_fault (Properties path properties.GetAll) = refl
+any_name_fault (Properties path properties.Set) = refl
+any_name_fault (Peer peer.Ping) = refl
+any_name_fault (Peer peer.GetMachineId) = refl
 
 -- the interfaces have names of interfaces
 pub interface_fault-of : (o : Object) → interface_fault (interface_of o) ≡ None
@@ -142,3 +166,10 @@ interface_fault-of (object.Session id) = refl
 interface_fault-of (object.Seat name) = refl
 interface_fault-of (object.User u) = refl
 interface_fault-of object.Machine = refl
+interface_fault-of object.Bus = refl
+
+pub interface_fault-at : (m : AnyMethod) → interface_fault (interface_at m) ≡ None
+unfolding interface_fault fault_from
+interface_fault-at (Own m) = interface_fault-of (object_of m)
+interface_fault-at (Properties path m) = refl
+interface_fault-at (Peer m) = refl

@@ -11,7 +11,7 @@ use Rattle.bus_names.specs.Unescape.{candidate, unescaped}
 use Rattle.bus_value.specs.Texts.{is_text}
 use Rattle.wire_calls.specs.declared.object.Object.{Object}
 use Rattle.wire_calls.specs.declared.object.Object.TheVariants.{Session, Seat, User}
-use Rattle.wire_calls.specs.Objects.{HasName, begins, behind, if_text, machine_path, manager_path, object_of, path_of, seat_front, session_front, text_of, user_front}
+use Rattle.wire_calls.specs.Objects.{HasName, begins, behind, if_text, bus_path, machine_path, manager_path, object_of, path_of, seat_front, session_front, text_of, user_front}
 use Rattle.wire_calls.proofs.ObjectPaths.{object_of-path}
 
 -- the object is the path's, if there is one
@@ -20,7 +20,7 @@ IsOf path None = Unit {0}
 IsOf path (Some o) = (path ≡ path_of o) × HasName o
 
 -- what stands behind a front
-whole : (front path : List ℕ) → begins front path ≡ true → path ≡ front ++ behind front path
+pub whole : (front path : List ℕ) → begins front path ≡ true → path ≡ front ++ behind front path
 whole front path h =
     let same : take (length front) path ≡ front = (bytes_eq-Decides (take (length front) path) front).0 h in
     sym (take-append-drop (length front) path) ∙ ap (λ (xs : List ℕ). xs ++ drop (length front) path) same
@@ -55,9 +55,10 @@ unfolding object_of
 is_of path =
     choose path (bytes_eq path manager_path) _ _ (λ e. ((bytes_eq-Decides path manager_path).0 e, tt)) (
     choose path (bytes_eq path machine_path) _ _ (λ e. ((bytes_eq-Decides path machine_path).0 e, tt)) (
+    choose path (bytes_eq path bus_path) _ _ (λ e. ((bytes_eq-Decides path bus_path).0 e, tt)) (
     choose path (begins session_front path) _ _ (λ e. labelled path (behind session_front path) Session (λ x is h. (whole session_front path e ∙ ap (λ (l : List ℕ). session_front ++ l) (sym is), h))) (
     choose path (begins seat_front path) _ _ (λ e. labelled path (behind seat_front path) Seat (λ x is h. (whole seat_front path e ∙ ap (λ (l : List ℕ). seat_front ++ l) (sym is), h))) (
-    choose path (begins user_front path) _ _ (λ e. numbered path (behind user_front path) (number_of (behind user_front path)) refl (whole user_front path e)) tt))))
+    choose path (begins user_front path) _ _ (λ e. numbered path (behind user_front path) (number_of (behind user_front path)) refl (whole user_front path e)) tt)))))
 
 pub one_path : (path : List ℕ) (o : Object) → (object_of path ≡ Some o) ↔ ((path ≡ path_of o) × HasName o)
 one_path path o = (

@@ -16,7 +16,7 @@ use Rattle.bus_names.proofs.Labels.{unescaped-escape}
 use Rattle.bus_names.proofs.NameLaws.{path_law}
 use Rattle.bus_value.specs.Texts.{is_text}
 use Rattle.wire_calls.specs.declared.object.Object.{Object}
-use Rattle.wire_calls.specs.declared.object.Object.TheVariants.{Manager, Session, Seat, User, Machine}
+use Rattle.wire_calls.specs.declared.object.Object.TheVariants.{Manager, Session, Seat, User, Machine, Bus}
 use Rattle.wire_calls.specs.Objects.{HasName, object_of, path_of, seat_front, session_front, text_of, user_front, user_of}
 use Rattle.wire_calls.proofs.TextBytes.{byte_at, text_utf8, utf8_bytes}
 use Rattle.wire_calls.proofs.Labels.{escape_element}
@@ -50,16 +50,20 @@ digits_stand (d ∷ ds) h = rw (stands d (h 0 (omega arith)), digits_stand ds (�
     stands : (d : ℕ) → IsInRange 48 57 d → is_word_byte d ≡ true
     stands d h = grind (arith, nat_tests, h.0, h.1)
 
-number_element : (n : ℕ) → n < 2 ^ 32 → IsElement words (95 ∷ decimal n)
-number_element n small =
+pub number_words : (n : ℕ) → n < 2 ^ 32 → list_all is_word_byte (decimal n) ≡ true
+number_words n small =
     let h : IsNumeral 10 (decimal n) × (digits_value 10 (decimal n) ≡ n) = decimal_is_IsNumeral n (omega arith) in
-    (refl, digits_stand (decimal n) (λ k below. digit_at (decimal n) k h.0.1 below))
+    digits_stand (decimal n) (λ k below. digit_at (decimal n) k h.0.1 below)
+
+number_element : (n : ℕ) → n < 2 ^ 32 → IsElement words (95 ∷ decimal n)
+number_element n small = (refl, number_words n small)
 
 is_path : (o : Object) → HasName o → IsPath (path_of o)
 is_path Manager h = three (codes "org") (codes "freedesktop") (codes "login1") (refl, refl) (refl, refl) (refl, refl)
 is_path (Session id) h = login_path (codes "session") (escape id) (refl, refl) (escape_element id (utf8_bytes id (text_utf8 id h)))
 is_path (Seat name) h = login_path (codes "seat") (escape name) (refl, refl) (escape_element name (utf8_bytes name (text_utf8 name h)))
 is_path (User u) h = login_path (codes "user") (95 ∷ decimal u.0) (refl, refl) (number_element u.0 h)
+is_path Bus h = three (codes "org") (codes "freedesktop") (codes "DBus") (refl, refl) (refl, refl) (refl, refl)
 is_path Machine h = three (codes "login") (codes "model") (codes "machine") (refl, refl) (refl, refl) (refl, refl)
 
 -- the path of an object is a path
@@ -89,3 +93,4 @@ object_of-path (Session id) h = session_at (escape id) ∙ ap (option_map Sessio
 object_of-path (Seat name) h = seat_at (escape name) ∙ ap (option_map Seat) (text_again name h)
 object_of-path (User u) h = user_at (decimal u.0) ∙ ap (λ (n : Option ℕ). option_map User (option_map (λ n. record { 0 = n }) n)) (number_of-decimal u.0 h)
 object_of-path Machine h = refl
+object_of-path Bus h = refl

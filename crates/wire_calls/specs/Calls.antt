@@ -19,9 +19,17 @@ use Rattle.wire_calls.specs.declared.user.UserMethod.TheVariants as user
 use Rattle.wire_calls.specs.declared.machine.MachineMethod.{MachineMethod}
 use Rattle.wire_calls.specs.declared.machine.MachineMethod.TheVariants as machine
 use Rattle.wire_calls.specs.declared.method.Method.{Method}
-use Rattle.wire_calls.specs.declared.method.Method.TheVariants.{Manager, Session, Seat, User, Machine}
+use Rattle.wire_calls.specs.declared.method.Method.TheVariants.{Manager, Session, Seat, User, Machine, Bus}
+use Rattle.wire_calls.specs.declared.method.AnyMethod.{AnyMethod}
+use Rattle.wire_calls.specs.declared.method.AnyMethod.TheVariants.{Own, Properties, Peer}
+use Rattle.wire_calls.specs.declared.bus.BusMethod.{BusMethod}
+use Rattle.wire_calls.specs.declared.bus.BusMethod.TheVariants as bus
+use Rattle.wire_calls.specs.declared.bus.PropertiesMethod.{PropertiesMethod}
+use Rattle.wire_calls.specs.declared.bus.PropertiesMethod.TheVariants as properties
+use Rattle.wire_calls.specs.declared.bus.PeerMethod.{PeerMethod}
+use Rattle.wire_calls.specs.declared.bus.PeerMethod.TheVariants as peer
 use Rattle.wire_calls.specs.Arguments.{signature_of, text_at, number_at, signed_at, flag_at, device_in, is_short, are_short}
-use Rattle.wire_calls.specs.Methods.{signed}
+use Rattle.wire_calls.specs.Methods.{signed_any}
 
 -- the user, or the handle, whose number stands in front
 abbrev pub user_in : List Val → Uid
@@ -107,6 +115,22 @@ machine_call machine.Read vs = call.ReadInput (handle_in vs)
 machine_call machine.SetMode vs = call.SetMode (handle_in vs) (number_at 1 vs)
 machine_call machine.Close vs = call.Close (handle_in vs)
 
+abbrev pub bus_call : BusMethod → List Val → Call
+bus_call bus.Hello vs = call.Hello
+bus_call bus.GetNameOwner vs = call.GetNameOwner (text_at 0 vs)
+bus_call bus.AddMatch vs = call.AddMatch (text_at 0 vs)
+bus_call bus.RemoveMatch vs = call.RemoveMatch (text_at 0 vs)
+
+-- the value that would be set, the last argument of `Set`, is not kept
+abbrev pub properties_call : List ℕ → PropertiesMethod → List Val → Call
+properties_call path properties.Get vs = call.GetProperty (record { path = path; interface = text_at 0 vs; name = text_at 1 vs })
+properties_call path properties.GetAll vs = call.GetAllProperties path (text_at 0 vs)
+properties_call path properties.Set vs = call.SetProperty (record { path = path; interface = text_at 0 vs; name = text_at 1 vs })
+
+abbrev pub peer_call : PeerMethod → Call
+peer_call peer.Ping = call.Ping
+peer_call peer.GetMachineId = call.GetMachineId
+
 -- the call that a method is with arguments of its signature
 abbrev pub method_call : Method → List Val → Call
 method_call (Manager m) vs = manager_call m vs
@@ -114,6 +138,12 @@ method_call (Session id m) vs = session_call id m vs
 method_call (Seat name m) vs = seat_call name m vs
 method_call (User u m) vs = user_call u m vs
 method_call (Machine m) vs = machine_call m vs
+method_call (Bus m) vs = bus_call m vs
+
+abbrev pub any_call : AnyMethod → List Val → Call
+any_call (Own m) vs = method_call m vs
+any_call (Properties path m) vs = properties_call path m vs
+any_call (Peer m) vs = peer_call m
 
 -- the text that a method's path names is within the limit
 abbrev pub is_short_method : Method → Bool
@@ -121,8 +151,14 @@ is_short_method (Session id m) = is_short id
 is_short_method (Seat name m) = is_short name
 is_short_method _ = true
 
+-- so is the path that a property's call has
+abbrev pub is_short_any : AnyMethod → Bool
+is_short_any (Own m) = is_short_method m
+is_short_any (Properties path m) = is_short path
+is_short_any (Peer m) = true
+
 -- the call that a method is with any arguments: those of another signature, or with a text beyond the limit, are bad
-unfoldable pub call_with : Method → List Val → Call
+unfoldable pub call_with : AnyMethod → List Val → Call
 call_with m vs =
-    if bytes_eq (signature_of vs) (signed m).takes && (is_short_method m && are_short vs) then method_call m vs
+    if bytes_eq (signature_of vs) (signed_any m).takes && (is_short_any m && are_short vs) then any_call m vs
     else call.BadArguments

@@ -2,7 +2,6 @@
 use Rattle.std.specs.Prelude.{ℕ, ◌≡◌, ◌<◌, ◌↔◌, true, List, Some}
 use Rattle.login_base.specs.declared.ids.ConnId.{ConnId}
 use Rattle.login_model.specs.declared.event.Request.{Request}
-use Rattle.login_model.specs.Built.{is_built_call}
 use Rattle.login_model.specs.Texts.{has_object}
 use Rattle.bus_message.specs.declared.message.Message.{Message}
 use Rattle.bus_message.specs.Grammar.{IsMessage}
@@ -18,7 +17,6 @@ OnePath = (path : List ℕ) (o : Object) → (object_of path ≡ Some o) ↔ ((p
 -- a request that a journal may have of a client that is connected
 pub record MayStand (r : Request) : Type 0 where
   pub serial : 0 < r.serial
-  pub built : is_built_call r.call ≡ true
   pub texts : HasTexts r.call
   pub object : has_object r.call ≡ true
 

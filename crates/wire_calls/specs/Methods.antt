@@ -1,4 +1,5 @@
--- The methods of the objects' own interfaces, with the signatures of their arguments (org.freedesktop.login1(5)).
+-- The methods of the objects' interfaces, with the signatures of their arguments (org.freedesktop.login1(5), D-Bus
+-- Specification).
 use Rattle.std.specs.Prelude.{ℕ, Option, List, [], ◌∷◌, ◌++◌, codes, map}
 use Rattle.std.specs.Option.{option_map}
 use Rattle.login_model.specs.declared.operation.OpKind.{OpKind}
@@ -17,7 +18,15 @@ use Rattle.wire_calls.specs.declared.user.UserMethod.TheVariants as user
 use Rattle.wire_calls.specs.declared.machine.MachineMethod.{MachineMethod}
 use Rattle.wire_calls.specs.declared.machine.MachineMethod.TheVariants as machine
 use Rattle.wire_calls.specs.declared.method.Method.{Method}
-use Rattle.wire_calls.specs.declared.method.Method.TheVariants.{Manager, Session, Seat, User, Machine}
+use Rattle.wire_calls.specs.declared.method.Method.TheVariants.{Manager, Session, Seat, User, Machine, Bus}
+use Rattle.wire_calls.specs.declared.method.AnyMethod.{AnyMethod}
+use Rattle.wire_calls.specs.declared.method.AnyMethod.TheVariants.{Own, Properties, Peer}
+use Rattle.wire_calls.specs.declared.bus.BusMethod.{BusMethod}
+use Rattle.wire_calls.specs.declared.bus.BusMethod.TheVariants as bus
+use Rattle.wire_calls.specs.declared.bus.PropertiesMethod.{PropertiesMethod}
+use Rattle.wire_calls.specs.declared.bus.PropertiesMethod.TheVariants as properties
+use Rattle.wire_calls.specs.declared.bus.PeerMethod.{PeerMethod}
+use Rattle.wire_calls.specs.declared.bus.PeerMethod.TheVariants as peer
 
 -- a method: its name, and the signature of its arguments
 pub record Signed : Type 0 where
@@ -123,6 +132,33 @@ machine_method machine.Close = method (codes "Close") (codes "u")
 abbrev pub machine_methods : List MachineMethod
 machine_methods = machine.Read ∷ machine.SetMode ∷ machine.Close ∷ []
 
+-- org.freedesktop.DBus
+abbrev pub bus_method : BusMethod → Signed
+bus_method bus.Hello = method (codes "Hello") []
+bus_method bus.GetNameOwner = method (codes "GetNameOwner") (codes "s")
+bus_method bus.AddMatch = method (codes "AddMatch") (codes "s")
+bus_method bus.RemoveMatch = method (codes "RemoveMatch") (codes "s")
+
+abbrev pub bus_methods : List BusMethod
+bus_methods = bus.Hello ∷ bus.GetNameOwner ∷ bus.AddMatch ∷ bus.RemoveMatch ∷ []
+
+-- org.freedesktop.DBus.Properties
+abbrev pub properties_method : PropertiesMethod → Signed
+properties_method properties.Get = method (codes "Get") (codes "ss")
+properties_method properties.GetAll = method (codes "GetAll") (codes "s")
+properties_method properties.Set = method (codes "Set") (codes "ssv")
+
+abbrev pub properties_methods : List PropertiesMethod
+properties_methods = properties.Get ∷ properties.GetAll ∷ properties.Set ∷ []
+
+-- org.freedesktop.DBus.Peer
+abbrev pub peer_method : PeerMethod → Signed
+peer_method peer.Ping = method (codes "Ping") []
+peer_method peer.GetMachineId = method (codes "GetMachineId") []
+
+abbrev pub peer_methods : List PeerMethod
+peer_methods = peer.Ping ∷ peer.GetMachineId ∷ []
+
 -- the method of an object's own interface that has a name
 abbrev pub method_named : Object → List ℕ → Option Method
 method_named object.Manager name = option_map Manager (named (λ m. (manager_method m).name) manager_methods name)
@@ -130,6 +166,14 @@ method_named (object.Session id) name = option_map (Session id) (named (λ m. (s
 method_named (object.Seat s) name = option_map (Seat s) (named (λ m. (seat_method m).name) seat_methods name)
 method_named (object.User u) name = option_map (User u) (named (λ m. (user_method m).name) user_methods name)
 method_named object.Machine name = option_map Machine (named (λ m. (machine_method m).name) machine_methods name)
+method_named object.Bus name = option_map Bus (named (λ m. (bus_method m).name) bus_methods name)
+
+-- the method of properties, of the object with this path, that has a name, and that of peers
+abbrev pub properties_named : List ℕ → List ℕ → Option AnyMethod
+properties_named path name = option_map (Properties path) (named (λ m. (properties_method m).name) properties_methods name)
+
+abbrev pub peer_named : List ℕ → Option AnyMethod
+peer_named name = option_map Peer (named (λ m. (peer_method m).name) peer_methods name)
 
 -- a method's name and signature
 abbrev pub signed : Method → Signed
@@ -138,6 +182,13 @@ signed (Session id m) = session_method m
 signed (Seat s m) = seat_method m
 signed (User u m) = user_method m
 signed (Machine m) = machine_method m
+signed (Bus m) = bus_method m
+
+-- the same of a method of any interface
+abbrev pub signed_any : AnyMethod → Signed
+signed_any (Own m) = signed m
+signed_any (Properties path m) = properties_method m
+signed_any (Peer m) = peer_method m
 
 -- the object that a method is of
 abbrev pub object_of : Method → Object
@@ -146,3 +197,4 @@ object_of (Session id m) = object.Session id
 object_of (Seat s m) = object.Seat s
 object_of (User u m) = object.User u
 object_of (Machine m) = object.Machine
+object_of (Bus m) = object.Bus

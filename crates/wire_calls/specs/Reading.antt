@@ -1,6 +1,6 @@
 -- Which call a message is.
-use Rattle.std.specs.Prelude.{ℕ, ◌==◌, ◌%◌, not, Bool, true, false, if◌then◌else◌, Option, Some, None, List, codes, map}
-use Rattle.std.specs.Option.{option_and_then}
+use Rattle.std.specs.Prelude.{ℕ, ◌==◌, ◌%◌, ◌&&◌, not, Bool, true, false, if◌then◌else◌, Option, Some, None, List, codes, map}
+use Rattle.std.specs.Option.{option_and_then, option_map, option_or}
 use Rattle.std.specs.Str.{bytes_eq}
 use Rattle.login_base.specs.declared.ids.ConnId.{ConnId}
 use Rattle.login_model.specs.declared.call.Call.{Call}
@@ -9,12 +9,16 @@ use Rattle.login_model.specs.declared.event.Request.{Request}
 use Rattle.bus_value.specs.Values.{Val}
 use Rattle.bus_message.specs.declared.message.Message.{Message}
 use Rattle.wire_calls.specs.declared.object.Object.{Object}
-use Rattle.wire_calls.specs.declared.method.Method.{Method}
-use Rattle.wire_calls.specs.Objects.{interface_of, object_of}
-use Rattle.wire_calls.specs.Methods.{method_named}
+use Rattle.wire_calls.specs.declared.method.AnyMethod.{AnyMethod}
+use Rattle.wire_calls.specs.declared.method.AnyMethod.TheVariants.{Own}
+use Rattle.wire_calls.specs.Objects.{has_properties, interface_of, object_of}
+use Rattle.wire_calls.specs.Methods.{method_named, peer_named, properties_named}
 use Rattle.wire_calls.specs.Calls.{call_with}
 
--- the interface that every path has
+-- the interface of properties, and that of peers, which every path has
+abbrev pub properties : List ℕ
+properties = codes "org.freedesktop.DBus.Properties"
+
 abbrev pub peer : List ℕ
 peer = codes "org.freedesktop.DBus.Peer"
 
@@ -27,26 +31,44 @@ abbrev pub lets : Option (List ℕ) → List ℕ → Bool
 lets None own = true
 lets (Some interface) own = bytes_eq interface own
 
--- the method of an object that an interface and a member name
-abbrev pub method_of : Option (List ℕ) → Option (List ℕ) → Object → Option Method
-method_of interface None o = None
-method_of interface (Some member) o = if lets interface (interface_of o) then method_named o member else None
+-- the method with this name of an object's own interface, of its properties, and of peers
+abbrev pub own_method : Option (List ℕ) → List ℕ → Object → Option AnyMethod
+own_method interface member o = if lets interface (interface_of o) then option_map Own (method_named o member) else None
 
-abbrev pub on_method : List Val → Option Method → Call
+abbrev pub properties_method : List ℕ → Option (List ℕ) → List ℕ → Object → Option AnyMethod
+properties_method path interface member o =
+    if has_properties o && lets interface properties then properties_named path member else None
+
+abbrev pub peer_method : Option (List ℕ) → List ℕ → Option AnyMethod
+peer_method interface member = if lets interface peer then peer_named member else None
+
+-- the method of the object with this path that an interface and a member name: without an interface it is looked for in
+-- the object's own, then in that of properties, and then in that of peers
+abbrev pub method_of : List ℕ → Option (List ℕ) → Option (List ℕ) → Object → Option AnyMethod
+method_of path interface None o = None
+method_of path interface (Some member) o =
+    option_or (own_method interface member o)
+    (option_or (properties_method path interface member o) (peer_method interface member))
+
+abbrev pub on_method : List Val → Option AnyMethod → Call
 on_method vs None = NoMethod
 on_method vs (Some m) = call_with m vs
 
-abbrev pub on_object : Message → Option Object → Call
-on_object m None = NoObject
-on_object m (Some o) = on_method m.body (method_of m.interface m.member o)
+abbrev pub on_object : Message → List ℕ → Option Object → Call
+on_object m path None = NoObject
+on_object m path (Some o) = on_method m.body (method_of path m.interface m.member o)
 
--- The call that a message is: none, of no object, of no method, with bad arguments, or one of the calls. Methods of
--- Properties and of Peer, and those of the bus, are not built.
+abbrev pub at_path : Message → Option (List ℕ) → Call
+at_path m None = NoObject
+at_path m (Some path) = on_object m path (object_of path)
+
+-- The call that a message is: none, of no object, of no method, with bad arguments, or one of the calls. The interface of
+-- peers, where it is named, is on every path.
 unfoldable pub call_of : Message → Call
 call_of m =
     if not (m.kind == 1) then NoCall
-    else if is_peer m.interface then NoMethod
-    else on_object m (option_and_then object_of m.path)
+    else if is_peer m.interface then on_method m.body (option_and_then (peer_method m.interface) m.member)
+    else at_path m m.path
 
 -- whether no reply is expected: the lowest flag, whatever the kind
 abbrev pub is_quiet : Message → Bool

@@ -1,18 +1,20 @@
 -- The message that a call is sent as.
 use Rattle.std.specs.Prelude.{ℕ, ℤ, ◌≡◌, Bool, Option, Some, None, List, [], ◌∷◌, ◌++◌, true, false}
 use Rattle.std.specs.List.{AllByRecursion}
+use Rattle.std.specs.Option.{option_map}
 use Rattle.login_base.specs.declared.ids.DevNo.{DevNo}
 use Rattle.login_model.specs.declared.call.Call.{Call}
 use Rattle.login_model.specs.declared.call.Call.TheVariants as call
 use Rattle.login_model.specs.declared.call.Creation.{Creation}
 use Rattle.login_model.specs.declared.call.Inhibition.{Inhibition}
+use Rattle.login_model.specs.declared.call.PropertyName.{PropertyName}
 use Rattle.login_model.specs.Limits.{text_limit}
 use Rattle.login_model.specs.Texts.{IsText, texts}
 use Rattle.bus_names.specs.declared.basic.Basic.TheVariants as types
 use Rattle.bus_names.specs.Types.{Shape, basic as basic_type, struct, variant, more, none as no_fields}
 use Rattle.bus_value.specs.declared.basic_value.BasicValue.TheVariants.{Str, U32, I32, Bool as Flag}
 use Rattle.bus_value.specs.declared.order.Order.TheVariants.{Little}
-use Rattle.bus_value.specs.Values.{Val, basic, array, none}
+use Rattle.bus_value.specs.Values.{Val, basic, array, none, variant as variant_of}
 use Rattle.bus_message.specs.declared.message.Message.{Message}
 use Rattle.wire_calls.specs.declared.manager.ManagerMethod.TheVariants as manager
 use Rattle.wire_calls.specs.declared.session.SessionMethod.TheVariants as session
@@ -20,50 +22,68 @@ use Rattle.wire_calls.specs.declared.seat.SeatMethod.TheVariants as seat
 use Rattle.wire_calls.specs.declared.user.UserMethod.TheVariants as user
 use Rattle.wire_calls.specs.declared.machine.MachineMethod.TheVariants as machine
 use Rattle.wire_calls.specs.declared.method.Method.{Method}
-use Rattle.wire_calls.specs.declared.method.Method.TheVariants.{Manager, Session, Seat, User, Machine}
-use Rattle.wire_calls.specs.Objects.{interface_of, path_of}
-use Rattle.wire_calls.specs.Methods.{object_of, signed}
+use Rattle.wire_calls.specs.declared.method.AnyMethod.{AnyMethod}
+use Rattle.wire_calls.specs.declared.method.AnyMethod.TheVariants.{Own, Properties, Peer}
+use Rattle.wire_calls.specs.declared.bus.BusMethod.TheVariants as bus
+use Rattle.wire_calls.specs.declared.bus.PropertiesMethod.TheVariants as properties
+use Rattle.wire_calls.specs.declared.bus.PeerMethod.TheVariants as peer
+use Rattle.wire_calls.specs.declared.method.Method.TheVariants.{Manager, Session, Seat, User, Machine, Bus}
+use Rattle.wire_calls.specs.Objects.{interface_of, manager_path, path_of}
+use Rattle.wire_calls.specs.Reading.{peer as peer_interface, properties as properties_interface}
+use Rattle.wire_calls.specs.Methods.{object_of, signed_any}
 
--- The method as which a call is sent: the manager's where it has one. The others are sent as none, being not built or no
--- calls.
-unfoldable pub sent_as : Call → Option Method
-sent_as (call.Create x) = Some (Manager manager.CreateSession)
-sent_as (call.GetSession id) = Some (Manager manager.GetSession)
-sent_as (call.GetUser u) = Some (Manager manager.GetUser)
-sent_as (call.GetSeat name) = Some (Manager manager.GetSeat)
-sent_as call.ListSessions = Some (Manager manager.ListSessions)
-sent_as call.ListUsers = Some (Manager manager.ListUsers)
-sent_as call.ListSeats = Some (Manager manager.ListSeats)
-sent_as call.ListInhibitors = Some (Manager manager.ListInhibitors)
-sent_as (call.Activate id) = Some (Manager manager.ActivateSession)
-sent_as (call.ActivateOnSeat id name) = Some (Manager manager.ActivateSessionOnSeat)
-sent_as (call.Lock id) = Some (Manager manager.LockSession)
-sent_as (call.Unlock id) = Some (Manager manager.UnlockSession)
-sent_as call.LockAll = Some (Manager manager.LockSessions)
-sent_as call.UnlockAll = Some (Manager manager.UnlockSessions)
-sent_as (call.Kill id whom n) = Some (Manager manager.KillSession)
-sent_as (call.Terminate id) = Some (Manager manager.TerminateSession)
-sent_as (call.TerminateUser u) = Some (Manager manager.TerminateUser)
-sent_as (call.TerminateSeat name) = Some (Manager manager.TerminateSeat)
-sent_as (call.SetLinger u on) = Some (Manager manager.SetUserLinger)
-sent_as (call.Power k) = Some (Manager (manager.Power k))
-sent_as (call.Can k) = Some (Manager (manager.Can k))
-sent_as (call.Inhibit x) = Some (Manager manager.Inhibit)
-sent_as (call.SetIdle id on) = Some (Session id session.SetIdleHint)
-sent_as (call.SetLocked id on) = Some (Session id session.SetLockedHint)
-sent_as (call.Control id force) = Some (Session id session.TakeControl)
-sent_as (call.Uncontrol id) = Some (Session id session.ReleaseControl)
-sent_as (call.TakeDevice id d) = Some (Session id session.TakeDevice)
-sent_as (call.ReleaseDevice id d) = Some (Session id session.ReleaseDevice)
-sent_as (call.PauseComplete id d) = Some (Session id session.PauseDeviceComplete)
-sent_as (call.SwitchTo name vt) = Some (Seat name seat.SwitchTo)
-sent_as (call.SwitchToNext name) = Some (Seat name seat.SwitchToNext)
-sent_as (call.SwitchToPrevious name) = Some (Seat name seat.SwitchToPrevious)
-sent_as (call.KillUser u n) = Some (User u user.Kill)
-sent_as (call.ReadInput h) = Some (Machine machine.Read)
-sent_as (call.SetMode h mode) = Some (Machine machine.SetMode)
-sent_as (call.Close h) = Some (Machine machine.Close)
-sent_as _ = None
+-- the method of an object's own interface as which a call is sent: the manager's where it has one
+unfoldable pub own_sent_as : Call → Option Method
+own_sent_as (call.Create x) = Some (Manager manager.CreateSession)
+own_sent_as (call.GetSession id) = Some (Manager manager.GetSession)
+own_sent_as (call.GetUser u) = Some (Manager manager.GetUser)
+own_sent_as (call.GetSeat name) = Some (Manager manager.GetSeat)
+own_sent_as call.ListSessions = Some (Manager manager.ListSessions)
+own_sent_as call.ListUsers = Some (Manager manager.ListUsers)
+own_sent_as call.ListSeats = Some (Manager manager.ListSeats)
+own_sent_as call.ListInhibitors = Some (Manager manager.ListInhibitors)
+own_sent_as (call.Activate id) = Some (Manager manager.ActivateSession)
+own_sent_as (call.ActivateOnSeat id name) = Some (Manager manager.ActivateSessionOnSeat)
+own_sent_as (call.Lock id) = Some (Manager manager.LockSession)
+own_sent_as (call.Unlock id) = Some (Manager manager.UnlockSession)
+own_sent_as call.LockAll = Some (Manager manager.LockSessions)
+own_sent_as call.UnlockAll = Some (Manager manager.UnlockSessions)
+own_sent_as (call.Kill id whom n) = Some (Manager manager.KillSession)
+own_sent_as (call.Terminate id) = Some (Manager manager.TerminateSession)
+own_sent_as (call.TerminateUser u) = Some (Manager manager.TerminateUser)
+own_sent_as (call.TerminateSeat name) = Some (Manager manager.TerminateSeat)
+own_sent_as (call.SetLinger u on) = Some (Manager manager.SetUserLinger)
+own_sent_as (call.Power k) = Some (Manager (manager.Power k))
+own_sent_as (call.Can k) = Some (Manager (manager.Can k))
+own_sent_as (call.Inhibit x) = Some (Manager manager.Inhibit)
+own_sent_as (call.SetIdle id on) = Some (Session id session.SetIdleHint)
+own_sent_as (call.SetLocked id on) = Some (Session id session.SetLockedHint)
+own_sent_as (call.Control id force) = Some (Session id session.TakeControl)
+own_sent_as (call.Uncontrol id) = Some (Session id session.ReleaseControl)
+own_sent_as (call.TakeDevice id d) = Some (Session id session.TakeDevice)
+own_sent_as (call.ReleaseDevice id d) = Some (Session id session.ReleaseDevice)
+own_sent_as (call.PauseComplete id d) = Some (Session id session.PauseDeviceComplete)
+own_sent_as (call.SwitchTo name vt) = Some (Seat name seat.SwitchTo)
+own_sent_as (call.SwitchToNext name) = Some (Seat name seat.SwitchToNext)
+own_sent_as (call.SwitchToPrevious name) = Some (Seat name seat.SwitchToPrevious)
+own_sent_as (call.KillUser u n) = Some (User u user.Kill)
+own_sent_as (call.ReadInput h) = Some (Machine machine.Read)
+own_sent_as (call.SetMode h mode) = Some (Machine machine.SetMode)
+own_sent_as (call.Close h) = Some (Machine machine.Close)
+own_sent_as call.Hello = Some (Bus bus.Hello)
+own_sent_as (call.GetNameOwner name) = Some (Bus bus.GetNameOwner)
+own_sent_as (call.AddMatch rule) = Some (Bus bus.AddMatch)
+own_sent_as (call.RemoveMatch rule) = Some (Bus bus.RemoveMatch)
+own_sent_as _ = None
+
+-- The method as which a call is sent. The words for other messages are sent as none.
+unfoldable pub sent_as : Call → Option AnyMethod
+sent_as (call.GetProperty x) = Some (Properties x.path properties.Get)
+sent_as (call.GetAllProperties path interface) = Some (Properties path properties.GetAll)
+sent_as (call.SetProperty x) = Some (Properties x.path properties.Set)
+sent_as call.Ping = Some (Peer peer.Ping)
+sent_as call.GetMachineId = Some (Peer peer.GetMachineId)
+sent_as c = option_map Own (own_sent_as c)
 
 -- values of the types of arguments
 abbrev pub text : List ℕ → Val
@@ -101,6 +121,13 @@ creation_values x = purpose_values x ++ (place_values x ++ array property_type n
 abbrev pub inhibition_values : Inhibition → List Val
 inhibition_values x = text x.what ∷ text x.who ∷ text x.why ∷ text x.mode ∷ []
 
+-- a property, and a value to which it would be set
+abbrev pub property_values : PropertyName → List Val
+property_values x = text x.interface ∷ text x.name ∷ []
+
+abbrev pub setting_values : PropertyName → List Val
+setting_values x = text x.interface ∷ text x.name ∷ variant_of (flag false) ∷ []
+
 -- the arguments with which a call is sent; nobody is asked to authenticate
 unfoldable pub arguments_of : Call → List Val
 arguments_of (call.Create x) = creation_values x
@@ -129,18 +156,35 @@ arguments_of (call.KillUser u n) = signal n ∷ []
 arguments_of (call.ReadInput h) = number h.0 ∷ []
 arguments_of (call.SetMode h mode) = number h.0 ∷ number mode ∷ []
 arguments_of (call.Close h) = number h.0 ∷ []
+arguments_of (call.GetProperty x) = property_values x
+arguments_of (call.GetAllProperties path interface) = text interface ∷ []
+arguments_of (call.SetProperty x) = setting_values x
+arguments_of (call.GetNameOwner name) = text name ∷ []
+arguments_of (call.AddMatch rule) = text rule ∷ []
+arguments_of (call.RemoveMatch rule) = text rule ∷ []
 arguments_of _ = []
 
+-- the path and the interface of a method
+abbrev pub path_at : AnyMethod → List ℕ
+path_at (Own m) = path_of (object_of m)
+path_at (Properties path m) = path
+path_at (Peer m) = manager_path
+
+abbrev pub interface_at : AnyMethod → List ℕ
+interface_at (Own m) = interface_of (object_of m)
+interface_at (Properties path m) = properties_interface
+interface_at (Peer m) = peer_interface
+
 -- the call of a method, with no field that is not needed
-abbrev pub message_with : Method → List Val → ℕ → Message
+abbrev pub message_with : AnyMethod → List Val → ℕ → Message
 message_with m vs serial = record {
   order = Little;
   kind = 1;
   flags = 0;
   serial = serial;
-  path = Some (path_of (object_of m));
-  interface = Some (interface_of (object_of m));
-  member = Some (signed m).name;
+  path = Some (path_at m);
+  interface = Some (interface_at m);
+  member = Some (signed_any m).name;
   error = None;
   reply_to = None;
   destination = None;
@@ -150,7 +194,7 @@ message_with m vs serial = record {
 
 -- the message is this call, with this serial
 abbrev pub IsSent : Call → ℕ → Message → Type 0
-IsSent c serial message = (m : Method) × (sent_as c ≡ Some m) × (message ≡ message_with m (arguments_of c) serial)
+IsSent c serial message = (m : AnyMethod) × (sent_as c ≡ Some m) × (message ≡ message_with m (arguments_of c) serial)
 
 -- the words for messages that are none of the calls
 abbrev pub is_other : Call → Bool

@@ -3,6 +3,7 @@
 #![tactic(auto)]
 
 mod arguments;
+mod bus;
 mod law;
 mod machine;
 mod manager;

@@ -6,16 +6,26 @@ ghost use Rattle.wire_calls.specs.Arguments.{signature_of};
 ghost use Rattle.wire_calls.specs.Calls.{call_with};
 
 use crate::arguments::{are_short, is_short};
+use crate::bus::{BusMethod, PeerMethod, PropertiesMethod, bus_call, peer_call, properties_call};
 use crate::machine::{MachineMethod, machine_call};
 use crate::manager::{ManagerMethod, manager_call};
 use crate::object::Object;
 use crate::seat::{SeatMethod, seat_call};
 use crate::session::{SessionMethod, session_call};
 use crate::user::{UserMethod, user_call};
+use bus_message::made_path;
+use bus_names::ObjectPath;
 use bus_value::{Value, Values};
 use login_base::{NoMemory, Uid, Word};
 use login_model::Call;
 use std::alloc::Global;
+
+/// The interface of properties, which some objects have beside their own (D-Bus Specification, "Standard
+/// Interfaces").
+pub(crate) const PROPERTIES: &[u8] = b"org.freedesktop.DBus.Properties";
+
+/// The interface of peers, which every path has.
+pub(crate) const PEER: &[u8] = b"org.freedesktop.DBus.Peer";
 
 /// A method of an object's own interface.
 #[derive(Debug, Drop)]
@@ -27,6 +37,7 @@ pub enum Method {
     Seat(Word, SeatMethod),
     User(Uid, UserMethod),
     Machine(MachineMethod),
+    Bus(BusMethod),
 }
 
 impl Method {
@@ -44,6 +55,7 @@ impl Method {
             Object::Seat(seat) => Some(Method::Seat(seat, SeatMethod::named(name)?)),
             Object::User(uid) => Some(Method::User(uid, UserMethod::named(name)?)),
             Object::Machine => Some(Method::Machine(MachineMethod::named(name)?)),
+            Object::Bus => Some(Method::Bus(BusMethod::named(name)?)),
         }
     }
 
@@ -57,6 +69,7 @@ impl Method {
             Method::Seat(_, method) => method.name(),
             Method::User(_, method) => method.name(),
             Method::Machine(method) => method.name(),
+            Method::Bus(method) => method.name(),
         }
     }
 
@@ -70,6 +83,7 @@ impl Method {
             Method::Seat(seat, _) => Object::Seat(seat),
             Method::User(uid, _) => Object::User(uid),
             Method::Machine(_) => Object::Machine,
+            Method::Bus(_) => Object::Bus,
         }
     }
 
@@ -83,6 +97,7 @@ impl Method {
             Method::Seat(_, method) => method.takes(),
             Method::User(_, method) => method.takes(),
             Method::Machine(method) => method.takes(),
+            Method::Bus(method) => method.takes(),
         }
     }
 
@@ -93,7 +108,7 @@ impl Method {
         match self {
             Method::Session(name, _) => is_short(name),
             Method::Seat(name, _) => is_short(name),
-            Method::Manager(_) | Method::User(..) | Method::Machine(_) => true,
+            Method::Manager(_) | Method::User(..) | Method::Machine(_) | Method::Bus(_) => true,
         }
     }
 
@@ -107,6 +122,87 @@ impl Method {
             Method::Seat(seat, method) => seat_call(alloc, seat, method, values),
             Method::User(uid, method) => Ok(user_call(uid, method, values)),
             Method::Machine(method) => Ok(machine_call(method, values)),
+            Method::Bus(method) => bus_call(alloc, method, values),
+        }
+    }
+}
+
+/// A method of any interface.
+#[derive(Debug, Drop)]
+pub enum AnyMethod {
+    /// Of an object's own interface.
+    Own(Method),
+    /// Of the properties of the object with this path.
+    Properties(Word, PropertiesMethod),
+    /// Of peers, on whatever path.
+    Peer(PeerMethod),
+}
+
+impl AnyMethod {
+    ghost use Rattle.std.specs.Prelude.{◌≡◌, IfOk, None};
+    ghost use Rattle.bus_names.specs.Reading.{path_fault};
+    ghost use Rattle.wire_calls.specs.Calls.{any_call, is_short_any};
+    ghost use Rattle.wire_calls.specs.Methods.{signed_any};
+    ghost use Rattle.wire_calls.specs.Sending.{interface_at, path_at};
+
+    /// The method's name.
+    pub(crate) fn name(&self) -> &'static [u8]
+        ensures { result.now ≡ (signed_any self.now).name }
+    {
+        match self {
+            AnyMethod::Own(method) => method.name(),
+            AnyMethod::Properties(_, method) => method.name(),
+            AnyMethod::Peer(method) => method.name(),
+        }
+    }
+
+    /// The signature of its arguments.
+    fn takes(&self) -> &'static [u8]
+        ensures { result.now ≡ (signed_any self.now).takes }
+    {
+        match self {
+            AnyMethod::Own(method) => method.takes(),
+            AnyMethod::Properties(_, method) => method.takes(),
+            AnyMethod::Peer(method) => method.takes(),
+        }
+    }
+
+    /// Whether the text that its path names, or the path of a property's call, is within the limit.
+    fn is_short(&self) -> bool
+        ensures { result ≡ is_short_any self.now }
+    {
+        match self {
+            AnyMethod::Own(method) => method.is_short(),
+            AnyMethod::Properties(path, _) => is_short(path),
+            AnyMethod::Peer(_) => true,
+        }
+    }
+
+    /// The call that it is with arguments of its signature.
+    fn call(self, alloc: Global, values: &[Value]) -> Result<Call, NoMemory>
+        ensures { IfOk result (λ call. call ≡ any_call self values.now) }
+    {
+        match self {
+            AnyMethod::Own(method) => method.call(alloc, values),
+            AnyMethod::Properties(path, method) => properties_call(alloc, path, method, values),
+            AnyMethod::Peer(method) => Ok(peer_call(method)),
+        }
+    }
+
+    /// The path of its object and its interface.
+    pub(crate) fn into_place(self, alloc: Global) -> Result<(ObjectPath, &'static [u8]), NoMemory>
+        requires { path_fault (path_at self) ≡ None }
+        ensures path { IfOk result (λ place. place.0 ≡ path_at self) }
+        ensures interface { IfOk result (λ place. place.1.now ≡ interface_at self) }
+    {
+        match self {
+            AnyMethod::Own(method) => {
+                let object = method.into_object();
+                let interface = object.interface();
+                Ok((object.path(alloc)?, interface))
+            }
+            AnyMethod::Properties(path, _) => Ok((made_path(alloc, path.as_slice())?, PROPERTIES)),
+            AnyMethod::Peer(_) => Ok((Object::Manager.path(alloc)?, PEER)),
         }
     }
 }
@@ -120,7 +216,7 @@ fn is_of(alloc: Global, body: &Values, takes: &[u8]) -> Result<bool, NoMemory>
 
 /// The call that a method is with any arguments. No values are made for those of another signature.
 #[tactic(auto, unfolding(crate::specs::Calls::call_with))]
-pub(crate) fn call_with(alloc: Global, method: Method, body: &Values) -> Result<Call, NoMemory>
+pub(crate) fn call_with(alloc: Global, method: AnyMethod, body: &Values) -> Result<Call, NoMemory>
     ensures { IfOk result (λ call. call ≡ call_with method body.now) }
 {
     if !is_of(alloc, body, method.takes())? {

@@ -5,6 +5,7 @@ ghost use Rattle.std.specs.Fmt.{decimal};
 ghost use Rattle.login_base.specs.Labels.{escape};
 ghost use Rattle.wire_calls.specs.Objects.{object_of, text_of, user_front, user_of};
 
+use bus_message::made_path;
 use bus_names::{NameFault, ObjectPath, unescape_label};
 use bus_value::is_text;
 use login_base::{NoMemory, Uid, Word, escape, read_number};
@@ -13,6 +14,8 @@ use std::alloc::Global;
 const MANAGER: &[u8] = b"/org/freedesktop/login1";
 
 const MACHINE: &[u8] = b"/login/model/machine";
+
+const BUS: &[u8] = b"/org/freedesktop/DBus";
 
 const SESSIONS: &[u8] = b"/org/freedesktop/login1/session/";
 
@@ -31,12 +34,14 @@ pub enum Object {
     User(Uid),
     /// The modelled machine.
     Machine,
+    /// The bus itself (D-Bus Specification, "Message Bus Messages").
+    Bus,
 }
 
 impl Object {
     ghost use Rattle.std.specs.Prelude.{◌≡◌, IfOk, None};
     ghost use Rattle.bus_names.specs.Reading.{path_fault};
-    ghost use Rattle.wire_calls.specs.Objects.{interface_of, path_of};
+    ghost use Rattle.wire_calls.specs.Objects.{has_properties, interface_of, path_of};
 
     /// The interface that is its own.
     pub(crate) fn interface(&self) -> &'static [u8]
@@ -48,6 +53,17 @@ impl Object {
             Object::Seat(_) => b"org.freedesktop.login1.Seat",
             Object::User(_) => b"org.freedesktop.login1.User",
             Object::Machine => b"login.model.Machine1",
+            Object::Bus => b"org.freedesktop.DBus",
+        }
+    }
+
+    /// Whether it has properties.
+    pub(crate) fn has_properties(&self) -> bool
+        ensures { result ≡ has_properties self.now }
+    {
+        match self {
+            Object::Manager | Object::Session(_) | Object::Seat(_) | Object::User(_) => true,
+            Object::Machine | Object::Bus => false,
         }
     }
 
@@ -61,6 +77,7 @@ impl Object {
             Object::Seat(seat) => escaped(alloc, SEATS, seat),
             Object::User(uid) => user_path(alloc, *uid),
             Object::Machine => Ok(Vec::from_slice(alloc, MACHINE)?),
+            Object::Bus => Ok(Vec::from_slice(alloc, BUS)?),
         }
     }
 
@@ -70,11 +87,7 @@ impl Object {
         ensures { IfOk result (λ path. path ≡ path_of self.now) }
     {
         let bytes = self.path_bytes(alloc)?;
-        match ObjectPath::read(alloc, bytes.as_slice()) {
-            Ok(path) => Ok(path),
-            Err(NameFault::NoMemory) => Err(NoMemory),
-            Err(_) => unreachable!(),
-        }
+        made_path(alloc, bytes.as_slice())
     }
 }
 
@@ -131,6 +144,8 @@ pub(crate) fn object_of(alloc: Global, path: &[u8]) -> Result<Option<Object>, No
         Ok(Some(Object::Manager))
     } else if path == MACHINE {
         Ok(Some(Object::Machine))
+    } else if path == BUS {
+        Ok(Some(Object::Bus))
     } else if let Some(label) = path.strip_prefix(SESSIONS) {
         Ok(text_of(alloc, label)?.map(Object::Session))
     } else if let Some(label) = path.strip_prefix(SEATS) {

@@ -2,28 +2,27 @@
 
 ghost use Rattle.std.specs.Prelude.{◌≡◌, ◌++◌, [], ◌∷◌, false, true, IfOk, IfSome, None, OnOk};
 ghost use Rattle.bus_value.specs.Values.{array, none};
-ghost use Rattle.bus_names.specs.Reading.{interface_fault, member_fault, path_fault};
-ghost use Rattle.login_model.specs.Built.{is_built_call};
+ghost use Rattle.bus_names.specs.Reading.{path_fault};
+ghost use Rattle.login_model.specs.Texts.{has_object};
 ghost use Rattle.wire_calls.specs.declared.method.Method.TheVariants.{User};
 ghost use Rattle.wire_calls.specs.declared.user.UserMethod.TheVariants.{Kill};
-ghost use Rattle.wire_calls.specs.Methods.{object_of};
-ghost use Rattle.wire_calls.specs.inner.Fitting.{FitsMethod};
-ghost use Rattle.wire_calls.specs.Objects.{path_of};
+ghost use Rattle.wire_calls.specs.inner.Fitting.{FitsAny, FitsMethod};
 ghost use Rattle.wire_calls.specs.Reading.{call_of};
-ghost use Rattle.wire_calls.specs.Sending.{HasTexts, IsSent, arguments_of, creation_values, device_values, flag, inhibition_values, is_other, message_with, number, place_values, property_type, purpose_values, sent_as, signal, text};
+ghost use Rattle.wire_calls.specs.Sending.{HasTexts, IsSent, arguments_of, creation_values, device_values, flag, inhibition_values, is_other, message_with, number, own_sent_as, path_at, place_values, property_type, purpose_values, sent_as, setting_values, signal, text};
 
+use crate::bus::{BusMethod, PeerMethod, PropertiesMethod};
 use crate::machine::MachineMethod;
 use crate::manager::ManagerMethod;
-use crate::method::Method;
+use crate::method::{AnyMethod, Method};
 use crate::reading::METHOD_CALL;
 use crate::seat::SeatMethod;
 use crate::session::SessionMethod;
 use crate::user::UserMethod;
-use bus_message::Message;
-use bus_names::{Basic, Interface, Member, NameFault, Type};
+use bus_message::{Message, made_interface, made_member};
+use bus_names::{Basic, Type};
 use bus_value::{BasicValue, Order, Value, Values};
 use login_base::{DevNo, Items, NoMemory, Uid, Word};
-use login_model::{Call, Creation, Inhibition};
+use login_model::{Call, Creation, Inhibition, PropertyName};
 use std::alloc::Global;
 
 /// The method that sends a signal to the processes of a user.
@@ -34,10 +33,10 @@ fn kill_of(uid: Uid) -> Method
     Method::User(uid, UserMethod::Kill)
 }
 
-/// The method as which a call is sent: the manager's where it has one.
-#[tactic(auto, unfolding(crate::specs::Sending::sent_as))]
-fn sent_as(call: &Call) -> Result<Option<Method>, NoMemory>
-    ensures method { IfOk result (λ method. method ≡ sent_as call.now) }
+/// The method of an object's own interface as which a call is sent: the manager's where it has one.
+#[tactic(auto, unfolding(crate::specs::Sending::own_sent_as))]
+fn own_sent_as(call: &Call) -> Result<Option<Method>, NoMemory>
+    ensures method { IfOk result (λ method. method ≡ own_sent_as call.now) }
     ensures fits { IfOk result (λ method. IfSome method FitsMethod) }
 {
     Ok(Some(match call {
@@ -79,12 +78,33 @@ fn sent_as(call: &Call) -> Result<Option<Method>, NoMemory>
         Call::ReadInput(_) => Method::Machine(MachineMethod::Read),
         Call::SetMode(..) => Method::Machine(MachineMethod::SetMode),
         Call::Close(_) => Method::Machine(MachineMethod::Close),
+        Call::Hello => Method::Bus(BusMethod::Hello),
+        Call::GetNameOwner(_) => Method::Bus(BusMethod::GetNameOwner),
+        Call::AddMatch(_) => Method::Bus(BusMethod::AddMatch),
+        Call::RemoveMatch(_) => Method::Bus(BusMethod::RemoveMatch),
         Call::GetProperty(_) | Call::GetAllProperties(..) | Call::SetProperty(_) => {
             return Ok(None);
         }
-        Call::Ping | Call::GetMachineId | Call::Hello | Call::GetNameOwner(_) => return Ok(None),
-        Call::AddMatch(_) | Call::RemoveMatch(_) => return Ok(None),
+        Call::Ping | Call::GetMachineId => return Ok(None),
         Call::NoCall | Call::NoObject | Call::NoMethod | Call::BadArguments => return Ok(None),
+    }))
+}
+
+/// The method as which a call is sent.
+#[tactic(auto, unfolding(crate::specs::Sending::sent_as))]
+fn sent_as(call: &Call) -> Result<Option<AnyMethod>, NoMemory>
+    ensures method { IfOk result (λ method. method ≡ sent_as call.now) }
+    ensures fits { IfOk result (λ method. IfSome method FitsAny) }
+{
+    Ok(Some(match call {
+        Call::GetProperty(x) => AnyMethod::Properties(x.path.copied()?, PropertiesMethod::Get),
+        Call::GetAllProperties(path, _) => {
+            AnyMethod::Properties(path.copied()?, PropertiesMethod::GetAll)
+        }
+        Call::SetProperty(x) => AnyMethod::Properties(x.path.copied()?, PropertiesMethod::Set),
+        Call::Ping => AnyMethod::Peer(PeerMethod::Ping),
+        Call::GetMachineId => AnyMethod::Peer(PeerMethod::GetMachineId),
+        _ => return Ok(own_sent_as(call)?.map(AnyMethod::Own)),
     }))
 }
 
@@ -228,6 +248,15 @@ fn linger_values(alloc: Global, uid: u32, on: bool) -> Result<Vec<Value>, NoMemo
     Ok(Vec::from_array(alloc, [number(uid), flag(on), flag(false)])?)
 }
 
+/// A property, and a value to which it would be set.
+fn setting_values(alloc: Global, x: &PropertyName) -> Result<Vec<Value>, NoMemory>
+    ensures { IfOk result (λ values. values.items ≡ setting_values x.now) }
+{
+    let mut out = two_texts(alloc, &x.interface, &x.name)?;
+    out.push(Value::variant(alloc, flag(false))?)?;
+    Ok(out)
+}
+
 /// The arguments with which a call is sent.
 #[tactic(auto, unfolding(crate::specs::Sending::arguments_of))]
 fn arguments_of(alloc: Global, call: &Call) -> Result<Vec<Value>, NoMemory>
@@ -268,53 +297,29 @@ fn arguments_of(alloc: Global, call: &Call) -> Result<Vec<Value>, NoMemory>
         }
         Call::LockAll | Call::UnlockAll | Call::Can(_) | Call::Uncontrol(_) => Ok(Vec::new(alloc)),
         Call::SwitchToNext(_) | Call::SwitchToPrevious(_) => Ok(Vec::new(alloc)),
-        Call::GetProperty(_) | Call::GetAllProperties(..) | Call::SetProperty(_) => {
-            Ok(Vec::new(alloc))
-        }
+        Call::GetProperty(x) => two_texts(alloc, &x.interface, &x.name),
+        Call::GetAllProperties(_, interface) => alone(alloc, text(interface)?),
+        Call::SetProperty(x) => setting_values(alloc, x),
+        Call::GetNameOwner(name) => alone(alloc, text(name)?),
+        Call::AddMatch(rule) | Call::RemoveMatch(rule) => alone(alloc, text(rule)?),
         Call::Ping | Call::GetMachineId | Call::Hello => Ok(Vec::new(alloc)),
-        Call::GetNameOwner(_) | Call::AddMatch(_) | Call::RemoveMatch(_) => Ok(Vec::new(alloc)),
         Call::NoCall | Call::NoObject | Call::NoMethod | Call::BadArguments => Ok(Vec::new(alloc)),
-    }
-}
-
-/// The name of an interface.
-fn made_interface(alloc: Global, name: &[u8]) -> Result<Interface, NoMemory>
-    requires { interface_fault name.now ≡ None }
-    ensures { IfOk result (λ interface. interface ≡ name.now) }
-{
-    match Interface::read(alloc, name) {
-        Ok(interface) => Ok(interface),
-        Err(NameFault::NoMemory) => Err(NoMemory),
-        Err(_) => unreachable!(),
-    }
-}
-
-/// The name of a member.
-fn made_member(alloc: Global, name: &[u8]) -> Result<Member, NoMemory>
-    requires { member_fault name.now ≡ None }
-    ensures { IfOk result (λ member. member ≡ name.now) }
-{
-    match Member::read(alloc, name) {
-        Ok(member) => Ok(member),
-        Err(NameFault::NoMemory) => Err(NoMemory),
-        Err(_) => unreachable!(),
     }
 }
 
 /// The call of a method with these arguments.
 fn message_with(
     alloc: Global,
-    method: Method,
+    method: AnyMethod,
     arguments: Vec<Value>,
     serial: u32,
 ) -> Result<Message, NoMemory>
-    requires { path_fault (path_of (object_of method)) ≡ None }
+    requires { path_fault (path_at method) ≡ None }
     ensures { IfOk result (λ message. message ≡ message_with method arguments.items serial) }
 {
     let member = made_member(alloc, method.name())?;
-    let object = method.into_object();
-    let interface = made_interface(alloc, object.interface())?;
-    let path = object.path(alloc)?;
+    let (path, interface) = method.into_place(alloc)?;
+    let interface = made_interface(alloc, interface)?;
     Ok(Message {
         order: Order::Little,
         kind: METHOD_CALL,
@@ -332,11 +337,12 @@ fn message_with(
 }
 
 /// The message that a call is sent as, which is read as the call again: the method of the manager where it has one, else
-/// that of the session, the seat, the user or the machine.
+/// that of the session, the seat, the user, the machine or the bus, or of properties. What asks a peer is sent to the
+/// manager.
 pub fn message_of(alloc: Global, call: &Call, serial: u32) -> Result<Message, NoMemory>
-    requires built { is_built_call call.now ≡ true }
     requires ordinary { is_other call.now ≡ false }
     requires texts { HasTexts call.now }
+    requires object { has_object call.now ≡ true }
     ensures sent { IfOk result (λ message. IsSent call.now serial message) }
     ensures read { IfOk result (λ message. call_of message ≡ call.now) }
 {

@@ -1,11 +1,11 @@
 // What no clause can show: that the calls succeed where there is memory, and what they answer to bytes of other programs.
 
 ghost use Rattle.std.specs.Prelude.{◌≡◌, false, true};
-ghost use Rattle.login_model.specs.Built.{is_built_call};
+ghost use Rattle.login_model.specs.Texts.{has_object};
 ghost use Rattle.wire_calls.specs.Sending.{HasTexts, is_other};
 
 use crate::clients::CLIENTS;
-use crate::glib::{ARGUMENTS, Case, MANAGER, MESSAGES, NO_METHODS, NO_OBJECTS, OBJECTS};
+use crate::glib::{ARGUMENTS, Case, MANAGER, MESSAGES, NO_METHODS, NO_OBJECTS, OBJECTS, STANDARD};
 use bus_message::{Cutter, Message};
 use login_base::{ConnId, HandleNo, Items, NoMemory};
 use login_model::{Answer, Call, Entry, Event, OpKind, Verdict};
@@ -89,6 +89,15 @@ fn names_of_no_method(rt: HostRuntime) -> Result<(), NoMemory> {
 }
 
 #[test]
+fn methods_beside_the_own_ones(rt: HostRuntime) -> Result<(), NoMemory> {
+    let alloc = rt.alloc();
+    for (index, case) in STANDARD.iter().enumerate() {
+        assert!(rt; is_call(alloc, case)?, "case {index}");
+    }
+    Ok(())
+}
+
+#[test]
 fn signatures_and_limits(rt: HostRuntime) -> Result<(), NoMemory> {
     let alloc = rt.alloc();
     for (index, case) in ARGUMENTS.iter().enumerate() {
@@ -117,9 +126,9 @@ fn messages_of_clients(rt: HostRuntime) -> Result<(), NoMemory> {
 
 /// The message that a call is sent as.
 fn sent(alloc: Global, call: Call) -> Result<Message, NoMemory>
-    requires built { is_built_call call ≡ true }
     requires ordinary { is_other call ≡ false }
     requires texts { HasTexts call }
+    requires object { has_object call ≡ true }
 {
     let message = message_of(alloc, &call, 7);
     drop(call);
@@ -131,6 +140,14 @@ fn mode_is_sent(rt: HostRuntime) -> Result<(), NoMemory> {
     let alloc = rt.alloc();
     let message = sent(alloc, Call::SetMode(HandleNo(4), 1))?;
     assert!(rt; is_message(alloc, &message, b"call 2 7 set-mode 4 1")?);
+    Ok(())
+}
+
+#[test]
+fn ping_is_sent(rt: HostRuntime) -> Result<(), NoMemory> {
+    let alloc = rt.alloc();
+    let message = sent(alloc, Call::Ping)?;
+    assert!(rt; is_message(alloc, &message, b"call 2 7 ping")?);
     Ok(())
 }
 

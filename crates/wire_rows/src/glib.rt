@@ -404,18 +404,14 @@ pub const NO_OBJECTS: &[Case] = &[
         bytes: b"l\x01\0\x01\0\0\0\0\x07\0\0\0=\0\0\0\x01\x01o\0#\0\0\0/org/freedesktop/login1/session1/c1\0\0\0\0\0\x03\x01s\0\x04\0\0\0Ping\0\0\0\0",
         event: b"call 2 7 no-object",
     },
-    Case {
-        bytes: b"l\x01\0\x01\0\0\0\0\x07\0\0\0]\0\0\0\x01\x01o\0\x15\0\0\0/org/freedesktop/DBus\0\0\0\x02\x01s\0\x1e\0\0\0org.freedesktop.login1.Manager\0\0\x03\x01s\0\x0c\0\0\0ListSessions\0\0\0\0",
-        event: b"call 2 7 no-object",
-    },
-    Case {
-        bytes: b"l\x01\0\x01\0\0\0\0\x07\0\0\0-\0\0\0\x01\x01o\0\x15\0\0\0/org/freedesktop/DBus\0\0\0\x03\x01s\0\x04\0\0\0Ping\0\0\0\0",
-        event: b"call 2 7 no-object",
-    },
 ];
 
 /// Interfaces and members that an object has not, and calls without an interface.
 pub const NO_METHODS: &[Case] = &[
+    Case {
+        bytes: b"l\x01\0\x01\0\0\0\0\x07\0\0\0]\0\0\0\x01\x01o\0\x15\0\0\0/org/freedesktop/DBus\0\0\0\x02\x01s\0\x1e\0\0\0org.freedesktop.login1.Manager\0\0\x03\x01s\0\x0c\0\0\0ListSessions\0\0\0\0",
+        event: b"call 2 7 no-method",
+    },
     Case {
         bytes: b"l\x01\0\x01\0\0\0\0\x07\0\0\0U\0\0\0\x01\x01o\0\x17\0\0\0/org/freedesktop/login1\0\x02\x01s\0\x1e\0\0\0org.freedesktop.login1.Session\0\0\x03\x01s\0\x04\0\0\0Lock\0\0\0\0",
         event: b"call 2 7 no-method",
@@ -449,34 +445,6 @@ pub const NO_METHODS: &[Case] = &[
         event: b"call 2 7 no-method",
     },
     Case {
-        bytes: b"l\x01\0\x01\0\0\0\0\x07\0\0\0U\0\0\0\x01\x01o\0\x17\0\0\0/org/freedesktop/login1\0\x02\x01s\0\x19\0\0\0org.freedesktop.DBus.Peer\0\0\0\0\0\0\0\x03\x01s\0\x04\0\0\0Ping\0\0\0\0",
-        event: b"call 2 7 no-method",
-    },
-    Case {
-        bytes: b"l\x01\0\x01\0\0\0\0\x07\0\0\0e\0\0\0\x01\x01o\0\"\0\0\0/org/freedesktop/login1/session/c1\0\0\0\0\0\0\x02\x01s\0\x19\0\0\0org.freedesktop.DBus.Peer\0\0\0\0\0\0\0\x03\x01s\0\x04\0\0\0Ping\0\0\0\0",
-        event: b"call 2 7 no-method",
-    },
-    Case {
-        bytes: b"l\x01\0\x01\0\0\0\0\x07\0\0\0E\0\0\0\x01\x01o\0\x02\0\0\0/x\0\0\0\0\0\0\x02\x01s\0\x19\0\0\0org.freedesktop.DBus.Peer\0\0\0\0\0\0\0\x03\x01s\0\x04\0\0\0Ping\0\0\0\0",
-        event: b"call 2 7 no-method",
-    },
-    Case {
-        bytes: b"l\x01\0\x01\0\0\0\0\x07\0\0\0U\0\0\0\x01\x01o\0\x15\0\0\0/org/freedesktop/DBus\0\0\0\x02\x01s\0\x19\0\0\0org.freedesktop.DBus.Peer\0\0\0\0\0\0\0\x03\x01s\0\x04\0\0\0Ping\0\0\0\0",
-        event: b"call 2 7 no-method",
-    },
-    Case {
-        bytes: b"l\x01\0\x01+\0\0\0\x07\0\0\0l\0\0\0\x01\x01o\0\"\0\0\0/org/freedesktop/login1/session/c1\0\0\0\0\0\0\x02\x01s\0\x1f\0\0\0org.freedesktop.DBus.Properties\0\x08\x01g\0\x02ss\0\x03\x01s\0\x03\0\0\0Get\0\0\0\0\0\x1e\0\0\0org.freedesktop.login1.Session\0\0\x02\0\0\0Id\0",
-        event: b"call 2 7 no-method",
-    },
-    Case {
-        bytes: b"l\x01\0\x01#\0\0\0\x07\0\0\07\0\0\0\x01\x01o\0\x17\0\0\0/org/freedesktop/login1\0\x08\x01g\0\x01s\0\0\x03\x01s\0\x06\0\0\0GetAll\0\0\x1e\0\0\0org.freedesktop.login1.Manager\0",
-        event: b"call 2 7 no-method",
-    },
-    Case {
-        bytes: b"l\x01\0\x01\0\0\0\0\x07\0\0\0-\0\0\0\x01\x01o\0\x17\0\0\0/org/freedesktop/login1\0\x03\x01s\0\x04\0\0\0Ping\0\0\0\0",
-        event: b"call 2 7 no-method",
-    },
-    Case {
         bytes: b"l\x01\0\x01\0\0\0\0\x07\0\0\05\0\0\0\x01\x01o\0\x17\0\0\0/org/freedesktop/login1\0\x03\x01s\0\x0c\0\0\0ListSessions\0\0\0\0",
         event: b"call 2 7 list-sessions",
     },
@@ -487,6 +455,42 @@ pub const NO_METHODS: &[Case] = &[
     Case {
         bytes: b"l\x01\0\x01\x04\0\0\0\x07\0\0\06\0\0\0\x01\x01o\0\x14\0\0\0/login/model/machine\0\0\0\0\x08\x01g\0\x01u\0\0\x03\x01s\0\x05\0\0\0Close\0\0\0\x01\0\0\0",
         event: b"call 2 7 close 1",
+    },
+];
+
+/// Methods of the interfaces that objects have beside their own, with an interface and without.
+pub const STANDARD: &[Case] = &[
+    Case {
+        bytes: b"l\x01\0\x01\0\0\0\0\x07\0\0\0-\0\0\0\x01\x01o\0\x15\0\0\0/org/freedesktop/DBus\0\0\0\x03\x01s\0\x04\0\0\0Ping\0\0\0\0",
+        event: b"call 2 7 ping",
+    },
+    Case {
+        bytes: b"l\x01\0\x01\0\0\0\0\x07\0\0\0U\0\0\0\x01\x01o\0\x17\0\0\0/org/freedesktop/login1\0\x02\x01s\0\x19\0\0\0org.freedesktop.DBus.Peer\0\0\0\0\0\0\0\x03\x01s\0\x04\0\0\0Ping\0\0\0\0",
+        event: b"call 2 7 ping",
+    },
+    Case {
+        bytes: b"l\x01\0\x01\0\0\0\0\x07\0\0\0e\0\0\0\x01\x01o\0\"\0\0\0/org/freedesktop/login1/session/c1\0\0\0\0\0\0\x02\x01s\0\x19\0\0\0org.freedesktop.DBus.Peer\0\0\0\0\0\0\0\x03\x01s\0\x04\0\0\0Ping\0\0\0\0",
+        event: b"call 2 7 ping",
+    },
+    Case {
+        bytes: b"l\x01\0\x01\0\0\0\0\x07\0\0\0E\0\0\0\x01\x01o\0\x02\0\0\0/x\0\0\0\0\0\0\x02\x01s\0\x19\0\0\0org.freedesktop.DBus.Peer\0\0\0\0\0\0\0\x03\x01s\0\x04\0\0\0Ping\0\0\0\0",
+        event: b"call 2 7 ping",
+    },
+    Case {
+        bytes: b"l\x01\0\x01\0\0\0\0\x07\0\0\0U\0\0\0\x01\x01o\0\x15\0\0\0/org/freedesktop/DBus\0\0\0\x02\x01s\0\x19\0\0\0org.freedesktop.DBus.Peer\0\0\0\0\0\0\0\x03\x01s\0\x04\0\0\0Ping\0\0\0\0",
+        event: b"call 2 7 ping",
+    },
+    Case {
+        bytes: b"l\x01\0\x01+\0\0\0\x07\0\0\0l\0\0\0\x01\x01o\0\"\0\0\0/org/freedesktop/login1/session/c1\0\0\0\0\0\0\x02\x01s\0\x1f\0\0\0org.freedesktop.DBus.Properties\0\x08\x01g\0\x02ss\0\x03\x01s\0\x03\0\0\0Get\0\0\0\0\0\x1e\0\0\0org.freedesktop.login1.Session\0\0\x02\0\0\0Id\0",
+        event: b"call 2 7 get /org/freedesktop/login1/session/c1 org.freedesktop.login1.Session Id",
+    },
+    Case {
+        bytes: b"l\x01\0\x01#\0\0\0\x07\0\0\07\0\0\0\x01\x01o\0\x17\0\0\0/org/freedesktop/login1\0\x08\x01g\0\x01s\0\0\x03\x01s\0\x06\0\0\0GetAll\0\0\x1e\0\0\0org.freedesktop.login1.Manager\0",
+        event: b"call 2 7 get-all /org/freedesktop/login1 org.freedesktop.login1.Manager",
+    },
+    Case {
+        bytes: b"l\x01\0\x01\0\0\0\0\x07\0\0\0-\0\0\0\x01\x01o\0\x17\0\0\0/org/freedesktop/login1\0\x03\x01s\0\x04\0\0\0Ping\0\0\0\0",
+        event: b"call 2 7 ping",
     },
 ];
 
