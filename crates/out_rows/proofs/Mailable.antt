@@ -1,6 +1,5 @@
 -- Mail of a journal that goes on.
 use Rattle.std.proofs.Common.{◌≡◌, List, ◌++◌, subst, sym}
-use Rattle.login_base.specs.declared.ids.ConnId.{ConnId}
 use Rattle.login_model.specs.declared.mark.Entry.{Entry}
 use Rattle.wire_out.specs.Places.{IsPlaceIn, Place, place_of}
 use Rattle.wire_out.proofs.Growing.{place_grows}

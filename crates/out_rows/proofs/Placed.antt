@@ -28,4 +28,4 @@ named_fits J (Tick m) f n = tt
 named_fits J Stop f n = tt
 
 pub placed : (J : List Entry) (e : Event) → IsEventLine e → stopped J e ≡ None → IsNamed J e → IsPlaced J e
-placed J e l s n = (named_fits J e l.fits n, s, l.built)
+placed J e l s n = (named_fits J e l n, s)

@@ -517,4 +517,55 @@ l\x03\0\x01\x16\0\0\0\x11\0\0\0G\0\0\0\x04\x01s\0\x1e\0\0\0org.freedesktop.login
 l\x03\0\x01\x18\0\0\0\x12\0\0\0O\0\0\0\x04\x01s\0 \0\0\0org.freedesktop.login1.WrongKind\0\0\0\0\0\0\0\0\x05\x01u\0\x07\0\0\0\x07\x01s\0\x04\0\0\0:1.0\0\0\0\0\x08\x01g\0\x01s\0\0\x13\0\0\0rule P29 wrong-kind\0\
 l\x03\0\x01\x1d\0\0\0\x13\0\0\0O\0\0\0\x04\x01s\0%\0\0\0org.freedesktop.login1.SessionClosing\0\0\0\x05\x01u\0\x08\0\0\0\x07\x01s\0\x04\0\0\0:1.0\0\0\0\0\x08\x01g\0\x01s\0\0\x18\0\0\0rule P13 session-closing\0",
     },
+    Case {
+        name: "properties, and calls of peers and of the bus",
+        events: b"\
+connect 1 0\n\
+call 1 1 create 1000 1 login tty user gnome seat0 1 tty1 % false % %\n\
+call 1 2 create 0 0 cron mir background % % 0 % % false % %\n\
+connect 2 1000\n\
+call 2 1 get /org/freedesktop/login1/session/c1 % User\n\
+call 2 2 get /org/freedesktop/login1/session/c2 % Seat\n\
+call 2 3 get /org/freedesktop/login1/seat/seat0 % ActiveSession\n\
+call 2 4 get /org/freedesktop/login1 % InhibitDelayMaxUSec\n\
+call 2 5 get /org/freedesktop/login1 % NCurrentSessions\n\
+call 2 6 get /org/freedesktop/login1 % Docked\n\
+call 2 7 get /org/freedesktop/login1/user/_1000 % Sessions\n\
+call 2 8 get /org/freedesktop/login1/session/c1 % Leader\n\
+call 2 9 get /org/freedesktop/login1 % BlockInhibited\n\
+call 2 10 get-all /org/freedesktop/login1/session/c1 %\n\
+call 2 11 get-all /org/freedesktop/login1/session/c1 org.freedesktop.login1.Seat\n\
+call 2 12 set /org/freedesktop/login1/session/c1 % IdleHint\n\
+call 2 13 get /org/freedesktop/login1/session/c1 % UID\n\
+call 2 14 ping\n\
+call 2 15 machine-id\n\
+call 2 16 hello\n\
+call 2 17 owner org.freedesktop.login1\n\
+call 2 18 owner x\n\
+call 2 19 add-match type='signal'\n\
+call 2 20 remove-match %",
+        who: 2,
+        from: 0,
+        messages: b"\
+l\x02\0\x013\0\0\0\x01\0\0\0\x1f\0\0\0\x05\x01u\0\x01\0\0\0\x07\x01s\0\x04\0\0\0:1.0\0\0\0\0\x08\x01g\0\x01v\0\0\x04(uo)\0\0\0\xe8\x03\0\0\"\0\0\0/org/freedesktop/login1/user/_1000\0\
+l\x02\0\x01\x16\0\0\0\x02\0\0\0\x1f\0\0\0\x05\x01u\0\x02\0\0\0\x07\x01s\0\x04\0\0\0:1.0\0\0\0\0\x08\x01g\0\x01v\0\0\x04(so)\0\0\0\0\0\0\0\0\0\0\0\x01\0\0\0/\0\
+l\x02\0\x017\0\0\0\x03\0\0\0\x1f\0\0\0\x05\x01u\0\x03\0\0\0\x07\x01s\0\x04\0\0\0:1.0\0\0\0\0\x08\x01g\0\x01v\0\0\x04(so)\0\0\0\x02\0\0\0c1\0\0\"\0\0\0/org/freedesktop/login1/session/c1\0\
+l\x02\0\x01\x10\0\0\0\x04\0\0\0\x1f\0\0\0\x05\x01u\0\x04\0\0\0\x07\x01s\0\x04\0\0\0:1.0\0\0\0\0\x08\x01g\0\x01v\0\0\x01t\0\0\0\0\0\0@KL\0\0\0\0\0\
+l\x02\0\x01\x10\0\0\0\x05\0\0\0\x1f\0\0\0\x05\x01u\0\x05\0\0\0\x07\x01s\0\x04\0\0\0:1.0\0\0\0\0\x08\x01g\0\x01v\0\0\x01t\0\0\0\0\0\0\x02\0\0\0\0\0\0\0\
+l\x02\0\x01\x08\0\0\0\x06\0\0\0\x1f\0\0\0\x05\x01u\0\x06\0\0\0\x07\x01s\0\x04\0\0\0:1.0\0\0\0\0\x08\x01g\0\x01v\0\0\x01b\0\0\0\0\0\0\
+l\x02\0\x01?\0\0\0\x07\0\0\0\x1f\0\0\0\x05\x01u\0\x07\0\0\0\x07\x01s\0\x04\0\0\0:1.0\0\0\0\0\x08\x01g\0\x01v\0\0\x05a(so)\0\0/\0\0\0\0\0\0\0\x02\0\0\0c1\0\0\"\0\0\0/org/freedesktop/login1/session/c1\0\
+l\x02\0\x01\x08\0\0\0\x08\0\0\0\x1f\0\0\0\x05\x01u\0\x08\0\0\0\x07\x01s\0\x04\0\0\0:1.0\0\0\0\0\x08\x01g\0\x01v\0\0\x01u\0\0\x01\0\0\0\
+l\x02\0\x01\x09\0\0\0\x09\0\0\0\x1f\0\0\0\x05\x01u\0\x09\0\0\0\x07\x01s\0\x04\0\0\0:1.0\0\0\0\0\x08\x01g\0\x01v\0\0\x01s\0\0\0\0\0\0\0\
+l\x02\0\x01x\x02\0\0\x0a\0\0\0#\0\0\0\x05\x01u\0\x0a\0\0\0\x07\x01s\0\x04\0\0\0:1.0\0\0\0\0\x08\x01g\0\x05a{sv}\0\0\0\0\0\0p\x02\0\0\0\0\0\0\x02\0\0\0Id\0\x01s\0\0\0\x02\0\0\0c1\0\0\0\0\0\0\x04\0\0\0User\0\x04(uo)\0\0\xe8\x03\0\0\"\0\0\0/org/freedesktop/login1/user/_1000\0\0\0\0\0\0\x04\0\0\0Name\0\x01s\0\x05\0\0\0alice\0\0\0\x04\0\0\0VTNr\0\x01u\0\x01\0\0\0\x04\0\0\0Seat\0\x04(so)\0\0\x05\0\0\0seat0\0\0\0\"\0\0\0/org/freedesktop/login1/seat/seat0\0\0\0\0\0\0\x03\0\0\0TTY\0\x01s\0\0\x04\0\0\0tty1\0\0\0\0\x07\0\0\0Display\0\x01s\0\0\0\0\0\0\0\0\0\0\x06\0\0\0Remote\0\x01b\0\0\0\0\0\0\0\0\0\0\0\x0a\0\0\0RemoteHost\0\x01s\0\0\0\0\0\0\0\0\0\0\0\0\0\0\0\x0a\0\0\0RemoteUser\0\x01s\0\0\0\0\0\0\0\0\0\0\0\0\0\0\0\x07\0\0\0Service\0\x01s\0\0\x05\0\0\0login\0\0\0\0\0\0\0\x07\0\0\0Desktop\0\x01s\0\0\x05\0\0\0gnome\0\0\0\0\0\0\0\x05\0\0\0Scope\0\x01s\0\0\0\0\x10\0\0\0session-c1.scope\0\0\0\0\x06\0\0\0Leader\0\x01u\0\0\0\x01\0\0\0\0\0\0\0\x04\0\0\0Type\0\x01s\0\x03\0\0\0tty\0\0\0\0\0\x05\0\0\0Class\0\x01s\0\0\0\0\x04\0\0\0user\0\0\0\0\0\0\0\0\x06\0\0\0Active\0\x01b\0\0\0\x01\0\0\0\0\0\0\0\x05\0\0\0State\0\x01s\0\0\0\0\x06\0\0\0active\0\0\0\0\0\0\x08\0\0\0IdleHint\0\x01b\0\0\0\0\0\0\0\0\0\x0a\0\0\0LockedHint\0\x01b\0\0\0\0\0\0\0\
+l\x02\0\x01\x08\0\0\0\x0b\0\0\0#\0\0\0\x05\x01u\0\x0b\0\0\0\x07\x01s\0\x04\0\0\0:1.0\0\0\0\0\x08\x01g\0\x05a{sv}\0\0\0\0\0\0\0\0\0\0\0\0\0\0\
+l\x03\0\x01 \0\0\0\x0c\0\0\0W\0\0\0\x04\x01s\0+\0\0\0org.freedesktop.DBus.Error.PropertyReadOnly\0\0\0\0\0\x05\x01u\0\x0c\0\0\0\x07\x01s\0\x04\0\0\0:1.0\0\0\0\0\x08\x01g\0\x01s\0\0\x1b\0\0\0rule P22 read-only-property\0\
+l\x03\0\x01\x1e\0\0\0\x0d\0\0\0W\0\0\0\x04\x01s\0*\0\0\0org.freedesktop.DBus.Error.UnknownProperty\0\0\0\0\0\0\x05\x01u\0\x0d\0\0\0\x07\x01s\0\x04\0\0\0:1.0\0\0\0\0\x08\x01g\0\x01s\0\0\x19\0\0\0rule P22 unknown-property\0\
+l\x02\0\x01\0\0\0\0\x0e\0\0\0\x15\0\0\0\x05\x01u\0\x0e\0\0\0\x07\x01s\0\x04\0\0\0:1.0\0\0\0\0\
+l\x02\0\x01%\0\0\0\x0f\0\0\0\x1f\0\0\0\x05\x01u\0\x0f\0\0\0\x07\x01s\0\x04\0\0\0:1.0\0\0\0\0\x08\x01g\0\x01s\0\0 \0\0\00123456789abcdef0123456789abcdef\0\
+l\x02\0\x01\x09\0\0\0\x10\0\0\0\x1f\0\0\0\x05\x01u\0\x10\0\0\0\x07\x01s\0\x04\0\0\0:1.0\0\0\0\0\x08\x01g\0\x01s\0\0\x04\0\0\0:1.2\0\
+l\x02\0\x01\x09\0\0\0\x11\0\0\0\x1f\0\0\0\x05\x01u\0\x11\0\0\0\x07\x01s\0\x04\0\0\0:1.0\0\0\0\0\x08\x01g\0\x01s\0\0\x04\0\0\0:1.0\0\
+l\x03\0\x01\x14\0\0\0\x12\0\0\0W\0\0\0\x04\x01s\0)\0\0\0org.freedesktop.DBus.Error.NameHasNoOwner\0\0\0\0\0\0\0\x05\x01u\0\x12\0\0\0\x07\x01s\0\x04\0\0\0:1.0\0\0\0\0\x08\x01g\0\x01s\0\0\x0f\0\0\0rule P35 nobody\0\
+l\x02\0\x01\0\0\0\0\x13\0\0\0\x15\0\0\0\x05\x01u\0\x13\0\0\0\x07\x01s\0\x04\0\0\0:1.0\0\0\0\0\
+l\x02\0\x01\0\0\0\0\x14\0\0\0\x15\0\0\0\x05\x01u\0\x14\0\0\0\x07\x01s\0\x04\0\0\0:1.0\0\0\0\0",
+    },
 ];

@@ -176,11 +176,13 @@ pub fn play(alloc: Global, core: &mut Core, line: &[u8]) -> bool
     }
 }
 
-/// Whether a configuration lets there be no more sessions and locks than any may.
+/// Whether a configuration lets there be no more sessions and locks, and wait no longer, than any may.
 fn is_allowed(conf: &Conf) -> bool
     ensures { IsTrue result → IsAllowed conf.now }
 {
-    conf.sessions_max <= 32768 && conf.inhibitors_max <= 32768
+    conf.sessions_max <= 32768
+        && conf.inhibitors_max <= 32768
+        && conf.inhibit_delay_max.0 <= 4_000_000_000_000
 }
 
 /// Whether there is mail of a core's journal.

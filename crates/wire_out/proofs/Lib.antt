@@ -1,4 +1,3 @@
-pub mod Joined
 pub mod Connected
 pub mod Growing
 pub mod Delivering
@@ -7,10 +6,13 @@ pub mod Texts
 pub mod Parts
 pub mod Writable
 pub mod Words
+pub mod ValueParts
+pub mod Properties
 pub mod Bodies
 pub mod Signalled
 pub mod Journals
 pub mod Named
 pub mod Reasons
 pub mod Replied
+pub mod SentValues
 pub mod Sending

@@ -52,6 +52,8 @@ error_fault c rule.DeviceAbsent = refl
 error_fault c rule.NoJob = refl
 error_fault c (rule.ClockBackwards m) = refl
 error_fault c rule.KeyIgnored = refl
+error_fault c rule.UnknownProperty = refl
+error_fault c rule.ReadOnlyProperty = refl
 error_fault c rule.Nobody = nobody_fault c
 
 pub error_short : (c : Call) (r : Rule) → length (error_name c r) ≤ 255
@@ -89,4 +91,6 @@ error_short c rule.DeviceAbsent = omega arith
 error_short c rule.NoJob = omega arith
 error_short c (rule.ClockBackwards m) = omega arith
 error_short c rule.KeyIgnored = omega arith
+error_short c rule.UnknownProperty = omega arith
+error_short c rule.ReadOnlyProperty = omega arith
 error_short c rule.Nobody = nobody_short c

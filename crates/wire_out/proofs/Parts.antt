@@ -1,18 +1,21 @@
 -- Values that can be written, and how long they are at most.
-use Rattle.std.proofs.Common.{◌≡◌, ℕ, ◌+◌, ◌-◌, ◌*◌, ◌%◌, ◌^◌, ◌<◌, ◌≤◌, List, [], ◌∷◌, length, replicate, Bool, true, refl, ap, sym, subst, arith, FitsSigned, w32}
+use Rattle.std.proofs.Common.{◌≡◌, ℕ, ◌+◌, ◌-◌, ◌*◌, ◌%◌, ◌^◌, ◌<◌, ◌≤◌, List, [], ◌∷◌, ◌++◌, length, length-append, replicate, Bool, true, refl, ap, sym, subst, arith, FitsSigned, w32}
 use Rattle.std.proofs.Math.Nat.{suc-mul}
 use Rattle.login_base.specs.Names.{IsPath}
 use Rattle.bus_names.specs.Types.{Shape, fields_of, listed, struct_of}
-use Rattle.bus_value.specs.declared.basic_value.BasicValue.TheVariants.{U16, I32}
+use Rattle.bus_names.specs.Types as types
+use Rattle.bus_names.specs.declared.basic.Basic.TheVariants as kinds
+use Rattle.bus_value.specs.declared.basic_value.BasicValue.TheVariants.{U16, U64, I32}
 use Rattle.bus_value.specs.declared.order.Order.TheVariants.{Little}
 use Rattle.bus_value.specs.Grammar as rules_of
-use Rattle.bus_value.specs.Lengths.{value_end, values_end}
+use Rattle.bus_value.specs.Lengths.{entries_end, value_end, values_end}
 use Rattle.bus_value.specs.Limits.{AllFit}
-use Rattle.bus_value.specs.Spelling.{first_element, spelling, spellings}
+use Rattle.bus_value.specs.Numbers.{number_bytes}
+use Rattle.bus_value.specs.Spelling.{behind_length, entry_spellings, first_element, padding, spelling, spellings}
 use Rattle.bus_value.specs.Texts.{is_text}
 use Rattle.bus_value.specs.Typed.{AreTyped, IsTyped}
 use Rattle.bus_value.specs.Typed as typed
-use Rattle.bus_value.specs.Values.{Val, basic, array, count, shape, shapes, vals}
+use Rattle.bus_value.specs.Values.{Entries, Val, basic, array, count, dict, shape, shapes, vals}
 use Rattle.bus_value.proofs.LengthLaws.{spelled_length}
 use Rattle.wire_out.specs.Messages.{flag, number, path, structure, text}
 use Rattle.wire_out.specs.inner.Parts.{AreParts, AreRows, IsPart}
@@ -50,6 +53,13 @@ flag_part b = record {
 pub half_part : (n : ℕ) → n < 2 ^ 16 → IsPart 8 (basic (U16 n))
 half_part n small = record {
   typed = λ depth. typed.basic Little _ (rules_of.uint16 small);
+  fits = λ at. omega arith;
+  short = λ at. omega arith;
+}
+
+pub long_part : (n : ℕ) → n < 2 ^ 64 → IsPart 16 (basic (U64 n))
+long_part n small = record {
+  typed = λ depth. typed.basic Little _ (rules_of.uint64 small);
   fits = λ at. omega arith;
   short = λ at. omega arith;
 }
@@ -119,3 +129,20 @@ array_part n t ts vs h small = record {
       (omega (arith, e, s, small), rows_fit n (struct_of (t ∷ ts)) vs h start);
   short = λ at. let s = rows_short n (struct_of (t ∷ ts)) vs h (first_element at 8) in omega (arith, s);
 }
+
+-- ---- dicts
+
+-- the entries of a dict of texts are no longer than where they end tells
+pub entries_room : (at most : ℕ) (es : Entries) → entries_end (first_element at 8) es ≤ at + most → most ≤ 2 ^ 26 → length (entry_spellings Little (first_element at 8) es) ≤ 2 ^ 26
+entries_room at most es bound small =
+    let d : Val = dict kinds.Str types.variant es in
+    let inner : List ℕ = entry_spellings Little (first_element at 8) es in
+    let e = spelled_length Little at (d ∷ []) (spellings Little at (vals (d ∷ []))) refl in
+    let front : List ℕ = padding at 4 in
+    let count : List ℕ = number_bytes Little 4 (length inner) in
+    let gap : List ℕ = padding (behind_length at) 8 in
+    let l0 = length-append (spelling Little at d) [] in
+    let l1 = length-append front (count ++ (gap ++ inner)) in
+    let l2 = length-append count (gap ++ inner) in
+    let l3 = length-append gap inner in
+    omega (arith, bound, small, e, l0, l1, l2, l3)

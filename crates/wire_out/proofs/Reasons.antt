@@ -21,7 +21,7 @@ use Rattle.wire_out.specs.Errors.{rule_text}
 use Rattle.wire_out.specs.Messages.{text}
 use Rattle.wire_out.specs.inner.Numbers.{HasLimitNumber, HasRuleNumber}
 use Rattle.wire_out.specs.inner.Parts.{IsBody, most_body}
-use Rattle.wire_out.proofs.Bodies.{body_of, one}
+use Rattle.wire_out.proofs.ValueParts.{body_of, one}
 use Rattle.wire_out.proofs.Parts.{text_part, weaker}
 use Rattle.wire_out.proofs.Texts.{ArePlain, decimal_plain, decimal_short, plain_append, plain_text, session_plain, session_short}
 use Rattle.wire_out.proofs.Words.{AllPlain, joined_plain, joined_short, total}
@@ -155,6 +155,8 @@ label_plain rule.DeviceAbsent = refl
 label_plain rule.NoJob = refl
 label_plain (rule.ClockBackwards m) = refl
 label_plain rule.KeyIgnored = refl
+label_plain rule.UnknownProperty = refl
+label_plain rule.ReadOnlyProperty = refl
 label_plain rule.Nobody = refl
 
 label_short : (r : Rule) → length (rule_label r) ≤ 40
@@ -192,6 +194,8 @@ label_short rule.DeviceAbsent = omega arith
 label_short rule.NoJob = omega arith
 label_short (rule.ClockBackwards m) = omega arith
 label_short rule.KeyIgnored = omega arith
+label_short rule.UnknownProperty = omega arith
+label_short rule.ReadOnlyProperty = omega arith
 label_short rule.Nobody = omega arith
 
 pub reason_body : (r : Rule) → HasRuleNumber r → IsBody most_body (text (rule_text r) ∷ [])

@@ -1,7 +1,6 @@
 -- Each entry of a legal journal can be sent.
-use Rattle.std.proofs.Common.{◌≡◌, ◌≤◌, ◌<◌, ◌+◌, ◌-◌, ◌==◌, inl, inr, cond, ℕ, Bool, true, false, Option, Some, None, List, [], ◌∷◌, codes, take, drop, get_or, length, length-drop, map, refl, ap, sym, ◌∙◌, subst, arith, rules}
+use Rattle.std.proofs.Common.{◌≡◌, ◌≤◌, ◌<◌, ◌+◌, ◌-◌, inl, inr, ℕ, true, Option, Some, None, List, [], ◌∷◌, take, drop, get_or, length, length-drop, refl, ap, sym, ◌∙◌, subst, arith}
 use Rattle.std.proofs.lemmas.List.{length-map, take-append-drop, take_more}
-use Rattle.std.proofs.lemmas.Str.{IsUtf8-nil}
 use Rattle.std.specs.List.{AllByRecursion}
 use Rattle.std.specs.Str.{bytes_eq}
 use Rattle.login_base.specs.SessionId.{session_of}
@@ -9,14 +8,15 @@ use Rattle.login_base.specs.declared.ids.ConnId.{ConnId}
 use Rattle.login_base.specs.declared.ids.HandleNo.{HandleNo}
 use Rattle.login_base.specs.declared.ids.LockNo.{LockNo}
 use Rattle.login_base.specs.declared.ids.SessId.{SessId}
-use Rattle.login_model.specs.Answers.{answer, call_answer, known_user, lock_row, lock_rows, marks_answer, name_among, read_by, seat_answer, session_answer, session_row, taken_answer, user_name}
+use Rattle.login_model.specs.Answers.{answer, call_answer, known_user, lock_row, lock_rows, marks_answer, read_by, seat_answer, session_answer, session_row, taken_answer}
 use Rattle.login_model.specs.Conf.{IsAllowed}
 use Rattle.login_model.specs.Creating.{seat_of}
 use Rattle.login_model.specs.Legal.{IsLegal, answered, trail_of}
-use Rattle.login_model.specs.Limits.{inputs_limit, name_limit}
+use Rattle.login_model.specs.Limits.{inputs_limit, name_limit, text_limit}
 use Rattle.login_model.specs.Names.{insert, names, seat_in, seat_lt}
+use Rattle.login_model.specs.Objects.{named_object}
 use Rattle.login_model.specs.Reading.{heard_by, last_few}
-use Rattle.login_model.specs.Setups.{IsSetup, IsUserRow}
+use Rattle.login_model.specs.Setups.{IsSetup}
 use Rattle.login_model.specs.Start.{seat0}
 use Rattle.login_model.specs.Texts.{IsText}
 use Rattle.login_model.specs.Trail.{Trail, after, value}
@@ -38,7 +38,6 @@ use Rattle.login_model.specs.declared.mark.Mark.TheVariants.{Set, Say}
 use Rattle.login_model.specs.declared.rule.Verdict.{Verdict}
 use Rattle.login_model.specs.declared.rule.Verdict.TheVariants.{Granted, Denied}
 use Rattle.login_model.specs.declared.setup.Setup.{Setup}
-use Rattle.login_model.specs.declared.setup.UserRow.{UserRow}
 use Rattle.login_model.proofs.InOrder.{IsIn, filter-gives}
 use Rattle.login_model.proofs.Keys.{same-bytes, test}
 use Rattle.login_laws.specs.Named.{AreNamed, IsNamed, IsNamedFact, IsNamedMark, IsSeatIf}
@@ -49,33 +48,10 @@ use Rattle.login_laws.proofs.NamedMarks.{seat_of-named, session-seat, value-name
 use Rattle.login_laws.proofs.SoundLaws.{after-more, sound-journal}
 use Rattle.wire_out.specs.inner.Sendable.{CanBeAnswered, CanBeMarked, IsLockRow, IsSeat, IsSendable, IsSessionRow}
 use Rattle.wire_out.proofs.Journals.{legal_at}
-use Rattle.wire_out.proofs.Texts.{plain_utf8}
-
--- ---- names of users
-
-root-named : IsText name_limit (codes "root")
-root-named = record { utf8 = plain_utf8 (codes "root") refl; no_nul = search rules; short = omega arith }
-
-no-name : IsText name_limit []
-no-name = record { utf8 = IsUtf8-nil; no_nul = tt; short = omega arith }
-
-if-text : (b : Bool) (x y : List ℕ) → IsText name_limit x → IsText name_limit y → IsText name_limit (cond b x y)
-if-text true x y p q = p
-if-text false x y p q = q
-
-among-named : (rows : List UserRow) (uid : ℕ) → AllByRecursion IsUserRow rows → IsText name_limit (name_among rows uid)
-among-named [] uid h = no-name
-among-named (row ∷ rows) uid h = if-text (row.uid.0 == uid) row.name (name_among rows uid) h.0.named (among-named rows uid h.1)
-
-user-named : (U : Setup) (uid : ℕ) → IsSetup U → IsText name_limit (user_name U uid)
-user-named U uid u = if-text (uid == 0) (codes "root") (name_among U.users uid) root-named (among-named U.users uid u.users)
+use Rattle.wire_out.proofs.SentValues.{each-row, get-all-sent, get-sent, guid-plain, named-well, user-named}
+use Rattle.wire_out.proofs.Texts.{plain_is_text}
 
 -- ---- lists
-
--- each of a list's values is like this
-each-row : {A B : Type 0} (P : B → Type 0) (f : A → B) → ((x : A) → P (f x)) → (xs : List A) → AllByRecursion P (map f xs)
-each-row P f h [] = tt
-each-row P f h (x ∷ xs) = (h x, each-row P f h xs)
 
 row-named : (U : Setup) (t : Trail) → IsSetup U → AreNamed U t → (s : SessId) → IsSessionRow (session_row U t s)
 row-named U t u h s = record { named = user-named U _ u; seat = session-seat U t s h }
@@ -149,6 +125,9 @@ marks-answered U t c call.ListInhibitors u a n s =
     let j = a.inhibitors in
     (omega arith, locks-named U t (locks t) n.marks))
 marks-answered U t c (call.TakeDevice id d) u a n s = taken-sent t (session_of id)
+marks-answered U t c (call.GetProperty x) u a n s = get-sent U t u a n x.name (named_object x.path) (named-well x.path)
+marks-answered U t c (call.GetAllProperties path interface) u a n s = get-all-sent U t u a n interface (named_object path) (named-well path)
+marks-answered U t c call.GetMachineId u a n s = plain_is_text text_limit U.guid (guid-plain U.guid u.guid.digits) (let l = u.guid.long in omega (arith, l))
 marks-answered U t c _ u a n s = tt
 
 all-in : {A : Type 0} (P : A → Type 0) (xs : List A) → ((x : A) → IsIn x xs → P x) → AllByRecursion P xs

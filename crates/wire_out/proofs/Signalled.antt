@@ -1,5 +1,5 @@
 -- The signals of a notice can be written.
-use Rattle.std.proofs.Common.{◌≡◌, ℕ, ◌+◌, ◌^◌, ◌≤◌, List, [], ◌∷◌, ◌++◌, length, length-append, Bool, true, false, Option, Some, None, refl, arith, codes}
+use Rattle.std.proofs.Common.{◌≡◌, ℕ, ◌+◌, ◌≤◌, List, [], ◌∷◌, ◌++◌, length, Bool, true, false, Option, Some, None, refl, arith, codes}
 use Rattle.std.specs.List.{AllByRecursion}
 use Rattle.login_base.specs.declared.ids.SessId.{SessId}
 use Rattle.login_base.specs.declared.ids.Uid.{Uid}
@@ -18,21 +18,21 @@ use Rattle.bus_value.specs.declared.order.Order.TheVariants.{Little}
 use Rattle.bus_value.specs.Grammar as rules_of
 use Rattle.bus_value.specs.Lengths.{basic_end, entries_end, value_end}
 use Rattle.bus_value.specs.Nesting.{nesting}
-use Rattle.bus_value.specs.Numbers.{number_bytes}
-use Rattle.bus_value.specs.Spelling.{behind_length, entry_spellings, first_element, key_at, padding, spelling, spellings}
+use Rattle.bus_value.specs.Spelling.{first_element, key_at, spelling}
 use Rattle.bus_value.specs.Texts.{is_text}
-use Rattle.bus_value.proofs.LengthLaws.{spelled_length}
 use Rattle.bus_value.specs.Typed as typed
 use Rattle.bus_value.specs.Values.{Val, array, dict, entry, no_entries, none, shape, shapes, vals, variant}
 use Rattle.bus_message.specs.declared.message.Message.{Message}
-use Rattle.wire_out.specs.Messages.{flag, number, path, structure, text}
-use Rattle.wire_out.specs.Signals.{active_changed, changed, manager_signal, pause_word, reference_or_none, seat_changed, session_reference, session_signal, signals}
+use Rattle.wire_out.specs.Messages.{flag, number, path, text}
+use Rattle.wire_out.specs.Signals.{active_changed, changed, manager_signal, pause_word, seat_changed, session_signal, signals}
+use Rattle.wire_out.specs.References.{session_reference}
 use Rattle.wire_out.specs.inner.Parts.{IsBody, IsPart, IsWritable, most_body}
 use Rattle.wire_out.specs.inner.Sendable.{CanBeTold, IsSeat}
 use Rattle.wire_out.specs.inner.Numbers.{HasNoticeNumbers, IsNumber, IsNumberIf}
-use Rattle.wire_out.proofs.Bodies.{body_of, id_part, one, seat_values_parts, session_part, user_part}
-use Rattle.wire_out.proofs.Parts.{flag_part, more_parts, no_parts, number_part, path_part, struct_part, text_part, weaker}
-use Rattle.wire_out.proofs.Texts.{plain_text, root_path_is, seat_path_short, session_path_short}
+use Rattle.wire_out.proofs.Properties.{reference_part}
+use Rattle.wire_out.proofs.ValueParts.{body_of, id_part, one, seat_reference_parts, session_part, user_part}
+use Rattle.wire_out.proofs.Parts.{entries_room, flag_part, more_parts, no_parts, number_part, text_part, weaker}
+use Rattle.wire_out.proofs.Texts.{plain_text, seat_path_short, session_path_short}
 use Rattle.wire_out.proofs.Writable.{signal_writable}
 
 -- ---- signals of sessions and of the manager
@@ -65,7 +65,7 @@ user_body u n =
 seat_body : (seat : List ℕ) → IsSeat seat → IsBody most_body (text seat ∷ path (seat_path seat) ∷ [])
 seat_body seat h =
     body_of 1071 (text seat ∷ path (seat_path seat) ∷ []) (record { nested = record { in_arrays = omega arith; in_structs = omega arith }; short = omega arith }) (omega arith)
-    (seat_values_parts seat h)
+    (seat_reference_parts seat h)
 
 flag_body : (b : Bool) → IsBody most_body (flag b ∷ [])
 flag_body b = body_of 8 (flag b ∷ []) (record { nested = record { in_arrays = omega arith; in_structs = omega arith }; short = omega arith }) (omega arith) (one 8 _ (flag_part b))
@@ -86,22 +86,6 @@ property_bound at m property v short w small p =
     let l = w.short in
     omega (arith, s, l, short, small)
 
--- the elements of a dict are no longer than the dict
-property_room : (at : ℕ) (property : List ℕ) (v : Val) → entries_end (first_element at 8) (entry (Str property) (variant v) no_entries) ≤ at + 1024
-    → length (entry_spellings Little (first_element at 8) (entry (Str property) (variant v) no_entries)) ≤ 2 ^ 26
-property_room at property v bound =
-    let d : Val = dict kinds.Str types.variant (entry (Str property) (variant v) no_entries) in
-    let inner : List ℕ = entry_spellings Little (first_element at 8) (entry (Str property) (variant v) no_entries) in
-    let e = spelled_length Little at (d ∷ []) (spellings Little at (vals (d ∷ []))) refl in
-    let front : List ℕ = padding at 4 in
-    let count : List ℕ = number_bytes Little 4 (length inner) in
-    let gap : List ℕ = padding (behind_length at) 8 in
-    let l0 = length-append (spelling Little at d) [] in
-    let l1 = length-append front (count ++ (gap ++ inner)) in
-    let l2 = length-append count (gap ++ inner) in
-    let l3 = length-append gap inner in
-    omega (arith, bound, e, l0, l1, l2, l3)
-
 property_body : (interface property : List ℕ) (v : Val) (m : ℕ) → is_text interface ≡ true → length interface ≤ 255 → is_text property ≡ true → length property ≤ 255
     → IsWithin (shapes (vals (changed_values interface property v))) → IsWithin (shape v ∷ []) → nesting (shape v) ≤ 8 → m ≤ 255 → IsPart m v
     → IsBody most_body (changed_values interface property v)
@@ -116,7 +100,7 @@ property_body interface property v m i long q short ws w deep small p = record {
       let bound = property_bound next m property v short w small p in (
         omega (arith, long),
         (
-          (property_room next property v bound, ((omega (arith, short), (w, p.fits _)), tt)),
+          (entries_room next 1024 (entry (Str property) (variant v) no_entries) bound (omega arith), ((omega (arith, short), (w, p.fits _)), tt)),
           ((omega arith, tt), tt),
         ),
       );
@@ -141,24 +125,18 @@ active_writable (Some s) b n =
       tt,
     )
 
-reference_part : (now : Option SessId) → IsNumberIf now → IsPart 148 (structure (reference_or_none now))
-reference_part (Some s) n = struct_part 140 _ _ (more_parts 32 108 _ _ (id_part s n) (one 108 _ (session_part s n)))
-reference_part None n =
-    weaker 25 148 (structure (text [] ∷ path (codes "/") ∷ [])) (omega arith)
-    (struct_part 17 _ _ (more_parts 8 9 _ _ (text_part [] (plain_text [] refl) (omega arith)) (one 9 _ (path_part (codes "/") root_path_is (omega arith)))))
-
 seat_writable : (seat : List ℕ) (now : Option SessId) → IsSeat seat → IsNumberIf now → IsWritable (seat_changed seat now)
 seat_writable seat (Some s) h n =
     let l = seat_path_short seat h in
     changed_writable (seat_path seat) (codes "org.freedesktop.login1.Seat") (codes "ActiveSession") _ (omega (arith, l))
-    (property_body (codes "org.freedesktop.login1.Seat") (codes "ActiveSession") _ 148 (plain_text (codes "org.freedesktop.login1.Seat") refl) (omega arith) (plain_text (codes "ActiveSession") refl) (omega arith)
+    (property_body (codes "org.freedesktop.login1.Seat") (codes "ActiveSession") _ 91 (plain_text (codes "org.freedesktop.login1.Seat") refl) (omega arith) (plain_text (codes "ActiveSession") refl) (omega arith)
     (record { nested = record { in_arrays = omega arith; in_structs = omega arith }; short = omega arith })
     (record { nested = record { in_arrays = omega arith; in_structs = omega arith }; short = omega arith })
     (omega arith) (omega arith) (reference_part (Some s) n))
 seat_writable seat None h n =
     let l = seat_path_short seat h in
     changed_writable (seat_path seat) (codes "org.freedesktop.login1.Seat") (codes "ActiveSession") _ (omega (arith, l))
-    (property_body (codes "org.freedesktop.login1.Seat") (codes "ActiveSession") _ 148 (plain_text (codes "org.freedesktop.login1.Seat") refl) (omega arith) (plain_text (codes "ActiveSession") refl) (omega arith)
+    (property_body (codes "org.freedesktop.login1.Seat") (codes "ActiveSession") _ 91 (plain_text (codes "org.freedesktop.login1.Seat") refl) (omega arith) (plain_text (codes "ActiveSession") refl) (omega arith)
     (record { nested = record { in_arrays = omega arith; in_structs = omega arith }; short = omega arith })
     (record { nested = record { in_arrays = omega arith; in_structs = omega arith }; short = omega arith })
     (omega arith) (omega arith) (reference_part None n))

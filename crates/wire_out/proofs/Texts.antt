@@ -120,6 +120,17 @@ no_nul (b ∷ bs) h = let e : eqb b 0 ≡ false = nonzero b h.0 in rw (e, no_nul
 pub text_is : (most : ℕ) (t : List ℕ) → IsText most t → is_text t ≡ true
 text_is most t h = rw (is_utf8-from_IsUtf8 t h.utf8, no_nul t h.no_nul) refl
 
+none_zero : (t : List ℕ) → ArePlain t → AllByRecursion (λ b. b ≢ 0) t
+none_zero [] h = tt
+none_zero (b ∷ bs) h = let p = both (is_plain b) (list_all is_plain bs) h in (positive b p.0, none_zero bs p.1)
+  where
+    positive : (b : ℕ) → is_plain b ≡ true → b ≢ 0
+    positive zero h e = cc
+    positive (suc b) h e = omega (arith, e)
+
+pub plain_is_text : (most : ℕ) (t : List ℕ) → ArePlain t → length t ≤ most → IsText most t
+plain_is_text most t h short = record { utf8 = plain_utf8 t h; no_nul = none_zero t h; short = short }
+
 -- ---- the escape of a text is an element of a path
 
 abbrev AreWords : List ℕ → Type 0
@@ -222,6 +233,25 @@ session_path_short s small =
     let e = escape_short (session_text s) in
     let l = session_short s small in
     omega (arith, e, l)
+
+-- letters and digits are not escaped
+digits_stay : (ds : List ℕ) → AllDigits 10 ds → length (flat_map later_byte ds) ≡ length ds
+digits_stay [] h = refl
+digits_stay (d ∷ ds) h =
+    let k : later_byte d ≡ d ∷ [] = ap (λ (b : Bool). cond b (d ∷ []) (escape_of d)) (stays d (digit_from_value d h.0)) in
+    ap (λ (t : List ℕ). length (t ++ flat_map later_byte ds)) k ∙ ap suc (digits_stay ds h.1)
+  where
+    stays : (d : ℕ) → IsInRange 48 57 d → (is_letter d || is_digit d) ≡ true
+    stays d h = grind (arith, nat_tests, h.0, h.1)
+
+-- the same bound, as near as it can be
+pub session_path_close : (s : SessId) → s.0 < 2 ^ 32 → length (session_path s) ≤ 43
+unfolding session_path
+session_path_close s small =
+    let e : length (escape (session_text s)) ≡ suc (length (flat_map later_byte (decimal s.0))) = refl in
+    let k = digits_stay (decimal s.0) (decimal_is_IsNumeral s.0 (omega (arith, small))).0.1 in
+    let d = decimal_short s.0 small in
+    omega (arith, e, k, d)
 
 pub seat_path_is : (seat : List ℕ) → is_seat_name seat ≡ true → IsPath (seat_path seat)
 unfolding seat_path

@@ -47,6 +47,8 @@ error_name c rule.DeviceAbsent = codes "org.freedesktop.login1.DeviceAbsent"
 error_name c rule.NoJob = codes "org.freedesktop.login1.NoJob"
 error_name c (rule.ClockBackwards m) = codes "org.freedesktop.login1.ClockBackwards"
 error_name c rule.KeyIgnored = codes "org.freedesktop.login1.KeyIgnored"
+error_name c rule.UnknownProperty = codes "org.freedesktop.DBus.Error.UnknownProperty"
+error_name c rule.ReadOnlyProperty = codes "org.freedesktop.DBus.Error.PropertyReadOnly"
 error_name c rule.Nobody = nobody_error c
 
 -- the text of an error: that it is a rule, which one, and its detail, with a space between any two

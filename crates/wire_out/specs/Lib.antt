@@ -1,4 +1,5 @@
 pub mod Messages
+pub mod References
 pub mod Replies
 pub mod Errors
 pub mod Signals

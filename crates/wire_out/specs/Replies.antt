@@ -1,26 +1,29 @@
 -- What calls are answered, as values (org.freedesktop.login1(5)).
-use Rattle.std.specs.Prelude.{ℕ, Bool, false, if◌then◌else◌, Option, List, [], ◌∷◌, ◌++◌, map, codes}
-use Rattle.std.specs.List.{join_with_byte}
+use Rattle.std.specs.Prelude.{ℕ, ◌*◌, false, Option, List, [], ◌∷◌, ◌++◌, map, codes}
+use Rattle.std.specs.Fmt.{decimal}
 use Rattle.std.specs.Option.{unwrap_or}
+use Rattle.login_base.specs.declared.ids.ConnId.{ConnId}
 use Rattle.login_base.specs.SessionId.{session_text}
 use Rattle.login_model.specs.Paths.{session_path, seat_path, user_path, runtime_path}
-use Rattle.login_model.specs.Words.{mode_word, shutdown_word, sleep_word, idle_word, handled_word}
+use Rattle.login_model.specs.PropertyNames.{property_name}
+use Rattle.login_model.specs.Words.{mode_word, say_word, what_text}
 use Rattle.login_model.specs.declared.answer.Created.{Created}
 use Rattle.login_model.specs.declared.answer.SessionRow.{SessionRow}
 use Rattle.login_model.specs.declared.answer.KnownUser.{KnownUser}
 use Rattle.login_model.specs.declared.answer.Input.{Input}
 use Rattle.login_model.specs.declared.answer.Answer.{Answer}
 use Rattle.login_model.specs.declared.answer.Answer.TheVariants as answer
-use Rattle.login_model.specs.declared.hardware.HardKey.TheVariants as hard
-use Rattle.login_model.specs.declared.lock.Inhibited.{Inhibited}
 use Rattle.login_model.specs.declared.lock.Lock.{Lock}
-use Rattle.login_model.specs.declared.table.Say.{Say}
-use Rattle.login_model.specs.declared.table.Say.TheVariants as says
+use Rattle.login_model.specs.declared.property.PropertyRow.{PropertyRow}
+use Rattle.login_model.specs.declared.property.PropertyValue.{PropertyValue}
+use Rattle.login_model.specs.declared.property.PropertyValue.TheVariants as property
 use Rattle.bus_names.specs.declared.basic.Basic.TheVariants as types
-use Rattle.bus_names.specs.Types.{Shape, basic as basic_type, struct_of}
-use Rattle.bus_value.specs.declared.basic_value.BasicValue.TheVariants.{U16, I32}
-use Rattle.bus_value.specs.Values.{Val, basic, array, vals}
+use Rattle.bus_names.specs.Types.{Shape, basic as basic_type, struct_of, variant as variant_type}
+use Rattle.bus_value.specs.declared.basic_value.BasicValue.{BasicValue}
+use Rattle.bus_value.specs.declared.basic_value.BasicValue.TheVariants.{Str, U16, I32, U64}
+use Rattle.bus_value.specs.Values.{Val, basic, array, dict, variant, vals, entries}
 use Rattle.wire_out.specs.Messages.{text, path, number, flag, structure}
+use Rattle.wire_out.specs.References.{reference_or_none, seat_or_none, seat_reference, session_reference, user_reference}
 
 -- a seat's name, or the empty text for none
 abbrev pub seat_text : Option (List ℕ) → List ℕ
@@ -49,30 +52,9 @@ user_values x = number x.uid.0 ∷ text x.name ∷ path (user_path x.uid) ∷ []
 abbrev pub user_type : Shape
 user_type = struct_of (basic_type types.U32 ∷ basic_type types.Str ∷ basic_type types.Path ∷ [])
 
--- a seat of a list
-abbrev pub seat_values : List ℕ → List Val
-seat_values seat = text seat ∷ path (seat_path seat) ∷ []
-
-abbrev pub seat_type : Shape
-seat_type = struct_of (basic_type types.Str ∷ basic_type types.Path ∷ [])
-
-abbrev pub word_if : Bool → List ℕ → List (List ℕ)
-word_if b word = if b then word ∷ [] else []
-
--- which of the operations and of idleness a lock holds up
-abbrev pub general_words : Inhibited → List (List ℕ)
-general_words x = word_if x.shutdown shutdown_word ++ (word_if x.sleep sleep_word ++ word_if x.idle idle_word)
-
--- which of the keys and the lid
-abbrev pub handled_words : Inhibited → List (List ℕ)
-handled_words x =
-    word_if x.handle_power_key (handled_word hard.Power)
-    ++ (word_if x.handle_suspend_key (handled_word hard.Suspend)
-    ++ (word_if x.handle_hibernate_key (handled_word hard.Hibernate) ++ word_if x.handle_lid_switch (handled_word hard.Lid)))
-
--- what a lock holds up: its words in their order, with colons between them
-abbrev pub what_text : Inhibited → List ℕ
-what_text x = join_with_byte 58 (general_words x ++ handled_words x)
+-- the type of a session or a seat that is referred to
+abbrev pub reference_type : Shape
+reference_type = struct_of (basic_type types.Str ∷ basic_type types.Path ∷ [])
 
 -- a lock of a list: what it holds up, who asked for it and why, how it holds up, whose it is
 abbrev pub lock_values : Lock → List Val
@@ -92,14 +74,32 @@ input_values x = basic (U16 x.kind) ∷ basic (U16 x.code) ∷ basic (I32 x.valu
 abbrev pub input_type : Shape
 input_type = struct_of (basic_type types.U16 ∷ basic_type types.U16 ∷ basic_type types.I32 ∷ [])
 
-abbrev pub say_word : Say → List ℕ
-say_word says.No = codes "no"
-say_word says.Challenge = codes "challenge"
-say_word says.Yes = codes "yes"
-
 -- rows as an array of structs
 abbrev pub rows : {T : Type 0} → Shape → (T → List Val) → List T → Val
 rows type values xs = array type (vals (map (λ x. structure (values x)) xs))
+
+-- ---- properties
+
+-- the value of a property
+abbrev pub property_value : PropertyValue → Val
+property_value (property.Text t) = text t
+property_value (property.Number n) = number n
+property_value (property.Count n) = basic (U64 n)
+property_value (property.Time m) = basic (U64 (m.0 * 1000))
+property_value (property.Flag b) = flag b
+property_value (property.Inhibited x) = text (what_text x)
+property_value (property.User u) = structure (user_reference u)
+property_value (property.Seat seat) = structure (seat_or_none seat)
+property_value (property.Session s) = structure (reference_or_none s)
+property_value (property.Sessions ss) = rows reference_type session_reference ss
+
+-- a property's name and its value
+abbrev pub property_entry : PropertyRow → BasicValue × Val
+property_entry r = (Str (property_name r.property), variant (property_value r.value))
+
+-- the unique name of a connection
+abbrev pub unique_name : ConnId → List ℕ
+unique_name c = codes ":1." ++ decimal c.0
 
 -- the values of a reply
 unfoldable pub answer_values : Answer → List Val
@@ -110,9 +110,13 @@ answer_values (answer.User u) = path (user_path u) ∷ []
 answer_values (answer.Seat seat) = path (seat_path seat) ∷ []
 answer_values (answer.Sessions xs) = rows session_type session_values xs ∷ []
 answer_values (answer.Users xs) = rows user_type user_values xs ∷ []
-answer_values (answer.Seats xs) = rows seat_type seat_values xs ∷ []
+answer_values (answer.Seats xs) = rows reference_type seat_reference xs ∷ []
 answer_values (answer.Inhibitors xs) = rows lock_type lock_values xs ∷ []
 answer_values (answer.Can say) = text (say_word say) ∷ []
 answer_values (answer.Inputs xs) = rows input_type input_values xs ∷ []
 answer_values (answer.Handle h) = number h.0 ∷ []
 answer_values (answer.Taken h inactive) = number h.0 ∷ flag inactive ∷ []
+answer_values (answer.Property x) = variant (property_value x) ∷ []
+answer_values (answer.Properties rs) = dict types.Str variant_type (entries (map property_entry rs)) ∷ []
+answer_values (answer.MachineId guid) = text guid ∷ []
+answer_values (answer.UniqueName c) = text (unique_name c) ∷ []

@@ -2,8 +2,9 @@
 -- Interfaces").
 use Rattle.std.specs.Prelude.{ℕ, Bool, true, false, Option, Some, None, List, [], ◌∷◌, ◌++◌, codes}
 use Rattle.login_base.specs.declared.ids.SessId.{SessId}
-use Rattle.login_base.specs.SessionId.{session_text}
-use Rattle.login_model.specs.Paths.{session_path, seat_path, user_path}
+pub use Rattle.login_model.specs.Objects.{manager_interface, session_interface, seat_interface}
+pub use Rattle.login_model.specs.Paths.{manager_path}
+use Rattle.login_model.specs.Paths.{session_path, seat_path}
 use Rattle.login_model.specs.declared.mark.PauseKind.{PauseKind}
 use Rattle.login_model.specs.declared.mark.PauseKind.TheVariants as pause
 use Rattle.login_model.specs.declared.mark.Notice.{Notice}
@@ -13,20 +14,8 @@ use Rattle.bus_names.specs.Types.{basic as basic_type, variant as variant_type}
 use Rattle.bus_value.specs.declared.basic_value.BasicValue.TheVariants.{Str}
 use Rattle.bus_value.specs.Values.{Val, array, dict, variant, none, no_entries, entry}
 use Rattle.bus_message.specs.declared.message.Message.{Message}
-use Rattle.wire_out.specs.Messages.{text, path, number, flag, structure, signal_message}
-
-abbrev pub manager_path : List ℕ
-manager_path = codes "/org/freedesktop/login1"
-
--- the interfaces of the manager, of sessions and of seats
-abbrev pub manager_interface : List ℕ
-manager_interface = codes "org.freedesktop.login1.Manager"
-
-abbrev pub session_interface : List ℕ
-session_interface = codes "org.freedesktop.login1.Session"
-
-abbrev pub seat_interface : List ℕ
-seat_interface = codes "org.freedesktop.login1.Seat"
+use Rattle.wire_out.specs.Messages.{text, number, flag, structure, signal_message}
+use Rattle.wire_out.specs.References.{reference_or_none, seat_reference, session_reference, user_reference}
 
 -- a signal of a session, and one of the manager
 abbrev pub session_signal : SessId → List ℕ → List Val → Message
@@ -39,14 +28,6 @@ abbrev pub pause_word : PauseKind → List ℕ
 pause_word pause.Pause = codes "pause"
 pause_word pause.Force = codes "force"
 pause_word pause.Gone = codes "gone"
-
-abbrev pub session_reference : SessId → List Val
-session_reference s = text (session_text s) ∷ path (session_path s) ∷ []
-
--- a session's id and path, or the empty id and the root path for none
-abbrev pub reference_or_none : Option SessId → List Val
-reference_or_none (Some s) = session_reference s
-reference_or_none None = text [] ∷ path (codes "/") ∷ []
 
 -- a property of an object has changed to this value, and no other has
 abbrev pub changed : List ℕ → List ℕ → List ℕ → Val → Message
@@ -71,10 +52,10 @@ signals (notice.Lock s) = session_signal s (codes "Lock") [] ∷ []
 signals (notice.Unlock s) = session_signal s (codes "Unlock") [] ∷ []
 signals (notice.SessionNew s) = manager_signal (codes "SessionNew") (session_reference s) ∷ []
 signals (notice.SessionRemoved s) = manager_signal (codes "SessionRemoved") (session_reference s) ∷ []
-signals (notice.UserNew u) = manager_signal (codes "UserNew") (number u.0 ∷ path (user_path u) ∷ []) ∷ []
-signals (notice.UserRemoved u) = manager_signal (codes "UserRemoved") (number u.0 ∷ path (user_path u) ∷ []) ∷ []
-signals (notice.SeatNew seat) = manager_signal (codes "SeatNew") (text seat ∷ path (seat_path seat) ∷ []) ∷ []
-signals (notice.SeatRemoved seat) = manager_signal (codes "SeatRemoved") (text seat ∷ path (seat_path seat) ∷ []) ∷ []
+signals (notice.UserNew u) = manager_signal (codes "UserNew") (user_reference u) ∷ []
+signals (notice.UserRemoved u) = manager_signal (codes "UserRemoved") (user_reference u) ∷ []
+signals (notice.SeatNew seat) = manager_signal (codes "SeatNew") (seat_reference seat) ∷ []
+signals (notice.SeatRemoved seat) = manager_signal (codes "SeatRemoved") (seat_reference seat) ∷ []
 signals (notice.PrepareShutdown begins) = manager_signal (codes "PrepareForShutdown") (flag begins ∷ []) ∷ []
 signals (notice.PrepareSleep begins) = manager_signal (codes "PrepareForSleep") (flag begins ∷ []) ∷ []
 signals (notice.Active seat before now) =

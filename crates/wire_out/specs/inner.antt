@@ -1,5 +1,5 @@
 -- What serves private functions.
-pub mod Prefixed
+pub mod Spaced
 pub mod Parts
 pub mod Numbers
 pub mod Delivered

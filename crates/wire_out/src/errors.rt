@@ -6,7 +6,7 @@ ghost use Rattle.login_base.specs.SessionId.{session_text};
 ghost use Rattle.login_model.specs.RuleWords.{detail_words, limit_words};
 ghost use Rattle.wire_out.specs.Errors.{error_name, nobody_error, rule_text};
 ghost use Rattle.wire_out.specs.inner.Numbers.{HasLimitNumber, HasRuleNumber, IsNumber};
-ghost use Rattle.wire_out.specs.inner.Prefixed.{spaced};
+ghost use Rattle.wire_out.specs.inner.Spaced.{spaced};
 
 use login_base::{NoMemory, SessId, Word};
 use login_model::{Call, Limit, Rule};
@@ -62,6 +62,8 @@ pub(crate) fn error_name(call: &Call, rule: Rule) -> &'static [u8]
         Rule::NoJob => b"org.freedesktop.login1.NoJob",
         Rule::ClockBackwards(_) => b"org.freedesktop.login1.ClockBackwards",
         Rule::KeyIgnored => b"org.freedesktop.login1.KeyIgnored",
+        Rule::UnknownProperty => b"org.freedesktop.DBus.Error.UnknownProperty",
+        Rule::ReadOnlyProperty => b"org.freedesktop.DBus.Error.PropertyReadOnly",
         Rule::Nobody => nobody_error(call),
     }
 }

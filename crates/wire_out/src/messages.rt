@@ -1,12 +1,12 @@
 // Messages as they are sent, yet without serials.
 
 ghost use Rattle.std.specs.Prelude.{◌≡◌, IfOk, None};
-ghost use Rattle.bus_names.specs.Reading.{bus_name_fault, interface_fault, member_fault};
+ghost use Rattle.bus_names.specs.Reading.{interface_fault, member_fault};
 ghost use Rattle.wire_out.specs.Messages.{error_message, return_message, sender, signal_message};
 
 use crate::values::{alone, text};
-use bus_message::Message;
-use bus_names::{BusName, Interface, Member, NameFault, ObjectPath};
+use bus_message::{Message, made_bus_name, made_interface, made_member};
+use bus_names::{BusName, ObjectPath};
 use bus_value::{Order, Value, Values};
 use login_base::{Items, NoMemory};
 use std::alloc::Global;
@@ -16,42 +16,6 @@ const METHOD_RETURN: u8 = 2;
 const ERROR: u8 = 3;
 
 const SIGNAL: u8 = 4;
-
-/// A text that is the name of an interface or of an error.
-fn made_interface(alloc: Global, name: &[u8]) -> Result<Interface, NoMemory>
-    requires { interface_fault name.now ≡ None }
-    ensures { IfOk result (λ interface. interface ≡ name.now) }
-{
-    match Interface::read(alloc, name) {
-        Ok(interface) => Ok(interface),
-        Err(NameFault::NoMemory) => Err(NoMemory),
-        Err(_) => unreachable!(),
-    }
-}
-
-/// A text that is the name of a member.
-fn made_member(alloc: Global, name: &[u8]) -> Result<Member, NoMemory>
-    requires { member_fault name.now ≡ None }
-    ensures { IfOk result (λ member. member ≡ name.now) }
-{
-    match Member::read(alloc, name) {
-        Ok(member) => Ok(member),
-        Err(NameFault::NoMemory) => Err(NoMemory),
-        Err(_) => unreachable!(),
-    }
-}
-
-/// A text that is the name of a connection.
-fn made_bus_name(alloc: Global, name: &[u8]) -> Result<BusName, NoMemory>
-    requires { bus_name_fault name.now ≡ None }
-    ensures { IfOk result (λ made. made ≡ name.now) }
-{
-    match BusName::read(alloc, name) {
-        Ok(made) => Ok(made),
-        Err(NameFault::NoMemory) => Err(NoMemory),
-        Err(_) => unreachable!(),
-    }
-}
 
 /// The name of the connection that sends the mail.
 fn sender(alloc: Global) -> Result<BusName, NoMemory>

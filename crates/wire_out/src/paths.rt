@@ -1,14 +1,14 @@
 // The paths of objects (org.freedesktop.login1(5)).
 
-ghost use Rattle.std.specs.Prelude.{◌≡◌, ◌++◌, IfOk, None, OnOk, true};
+ghost use Rattle.std.specs.Prelude.{◌≡◌, ◌++◌, IfOk, OnOk, true};
 ghost use Rattle.std.specs.Fmt.{decimal};
 ghost use Rattle.login_base.specs.Labels.{escape};
 ghost use Rattle.login_base.specs.Seat.{is_seat_name};
 ghost use Rattle.login_model.specs.Paths.{runtime_path, seat_path, session_path, user_path};
-ghost use Rattle.bus_names.specs.Reading.{path_fault};
 ghost use Rattle.wire_out.specs.inner.Numbers.{IsNumber};
 
-use bus_names::{NameFault, ObjectPath};
+use bus_message::made_path;
+use bus_names::ObjectPath;
 use login_base::{NoMemory, SeatName, SessId, Uid, Word, escape};
 use std::alloc::Global;
 
@@ -29,18 +29,6 @@ fn numbered(alloc: Global, front: &[u8], number: u32) -> Result<Vec<u8>, NoMemor
     joined(alloc, front, digits.as_bytes())
 }
 
-/// A text that is an object path.
-pub(crate) fn object_path(alloc: Global, text: &[u8]) -> Result<ObjectPath, NoMemory>
-    requires { path_fault text.now ≡ None }
-    ensures { IfOk result (λ path. path ≡ text.now) }
-{
-    match ObjectPath::read(alloc, text) {
-        Ok(path) => Ok(path),
-        Err(NameFault::NoMemory) => Err(NoMemory),
-        Err(_) => unreachable!(),
-    }
-}
-
 /// The bytes of the path of a session's object.
 #[tactic(auto, unfolding(login_model::specs::Paths::session_path))]
 fn session_bytes(alloc: Global, session: SessId) -> Result<Vec<u8>, NoMemory>
@@ -57,7 +45,7 @@ pub(crate) fn session_path(alloc: Global, session: SessId) -> Result<ObjectPath,
     ensures ranged { OnOk result (IsNumber session.0) }
 {
     let path = session_bytes(alloc, session)?;
-    object_path(alloc, path.as_slice())
+    made_path(alloc, path.as_slice())
 }
 
 /// The bytes of the path of a seat's object.
@@ -75,7 +63,7 @@ pub(crate) fn seat_path(alloc: Global, seat: &SeatName) -> Result<ObjectPath, No
     ensures { IfOk result (λ path. path ≡ seat_path seat.now) }
 {
     let path = seat_bytes(alloc, seat)?;
-    object_path(alloc, path.as_slice())
+    made_path(alloc, path.as_slice())
 }
 
 /// The bytes of the path of a user's object.
@@ -92,7 +80,7 @@ pub(crate) fn user_path(alloc: Global, uid: Uid) -> Result<ObjectPath, NoMemory>
     ensures ranged { OnOk result (IsNumber uid.0) }
 {
     let path = user_bytes(alloc, uid)?;
-    object_path(alloc, path.as_slice())
+    made_path(alloc, path.as_slice())
 }
 
 /// The path of a user's runtime directory.

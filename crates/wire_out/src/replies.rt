@@ -3,24 +3,30 @@
 ghost use Rattle.std.specs.Prelude.{◌≡◌, ◌++◌, ◌∷◌, ◌<◌, [], IfOk, OnOk, List, false, length, map};
 ghost use Rattle.std.specs.List.{AllByRecursion};
 ghost use Rattle.login_model.specs.Paths.{runtime_path, session_path};
-ghost use Rattle.bus_names.specs.Types.{basic as basic_type, struct_of};
-ghost use Rattle.bus_value.specs.Values.{Val};
+ghost use Rattle.bus_names.specs.Types.{basic as basic_type, struct_of, variant as variant_type};
+ghost use Rattle.bus_names.specs.declared.basic.Basic.TheVariants.{Str};
+ghost use Rattle.bus_value.specs.Values.{Val, basic, dict, entries, variant};
+ghost use Rattle.bus_value.specs.declared.basic_value.BasicValue.TheVariants.{U64};
+ghost use Rattle.login_model.specs.declared.property.PropertyRow.{PropertyRow as AnyRow};
 ghost use Rattle.wire_out.specs.Messages.{flag, number, path, structure, text};
-ghost use Rattle.login_model.specs.Words.{mode_word};
-ghost use Rattle.wire_out.specs.Replies.{answer_values, created_values, general_words, handled_words, input_values, lock_values, rows, say_word, seat_text, seat_values, session_values, user_values, what_text, word_if};
-ghost use Rattle.wire_out.specs.inner.Prefixed.{prefixed};
-ghost use Rattle.wire_out.specs.inner.Sendable.{CanBeAnswered, IsLockRow, IsSeat, IsSessionRow};
-ghost use Rattle.wire_out.specs.inner.Numbers.{HasAnswerNumbers, HasCreatedNumbers, HasInputNumbers, HasLockNumbers, HasSessionNumbers, IsNumber};
+ghost use Rattle.login_model.specs.Words.{mode_word, what_text};
+ghost use Rattle.wire_out.specs.Replies.{answer_values, created_values, input_values, lock_values, property_entry, property_value, rows, seat_text, session_values, unique_name, user_values};
+ghost use Rattle.wire_out.specs.References.{seat_reference, session_reference};
+ghost use Rattle.wire_out.specs.inner.Sendable.{CanBeAnswered, CanBeValue, IsLockRow, IsSeat, IsSessionRow};
+ghost use Rattle.wire_out.specs.inner.Numbers.{HasAnswerNumbers, HasCreatedNumbers, HasInputNumbers, HasLockNumbers, HasSessionNumbers, HasValueNumbers, IsNumber};
 
 use crate::paths::runtime_path;
 use crate::values::{
-    alone, flag, number, pair, push, seat_name, seat_object, seat_reference, session_id,
-    session_object, text, user_object,
+    alone, flag, number, pair, push, reference_or_none, seat_name, seat_object, seat_or_none,
+    seat_reference, session_id, session_object, session_reference, text, user_object,
+    user_reference,
 };
 use bus_names::{Basic, Type};
 use bus_value::{BasicValue, Value};
-use login_base::{NoMemory, SeatName};
-use login_model::{Answer, Created, Inhibited, Input, KnownUser, Lock, Say, SessionRow};
+use login_base::{ConnId, NoMemory, SeatName, SessId, Word};
+use login_model::{
+    Answer, Created, Inhibited, Input, KnownUser, Lock, PropertyRow, PropertyValue, SessionRow,
+};
 use std::alloc::Global;
 
 /// A row of a list, which is sent as a struct.
@@ -86,7 +92,7 @@ impl Row for KnownUser {
 }
 
 impl Row for SeatName {
-    ghost fields = { seat_values };
+    ghost fields = { seat_reference };
 
     ghost ready = { IsSeat };
 
@@ -97,55 +103,24 @@ impl Row for SeatName {
     }
 }
 
-/// Adds a colon and a word, if it is there.
-fn push_word_if(out: &mut Vec<u8>, there: bool, word: &[u8]) -> Result<(), NoMemory>
-    ensures { OnOk result (out.new.items ≡ out.old.items ++ prefixed 58 (word_if there word.now)) }
-{
-    if there {
-        out.push(b':')?;
-        out.extend_from_slice(word)?;
+impl Row for SessId {
+    ghost fields = { session_reference };
+
+    ghost ready = { λ x. Unit {0} };
+
+    ghost ranged = { λ x. IsNumber x.0 };
+
+    fn fields(&self, alloc: Global) -> Result<Vec<Value>, NoMemory> {
+        session_reference(alloc, *self)
     }
-    Ok(())
-}
-
-/// Adds which of the operations and of idleness a lock holds up.
-fn push_general(out: &mut Vec<u8>, what: &Inhibited) -> Result<(), NoMemory>
-    ensures { OnOk result (out.new.items ≡ out.old.items ++ prefixed 58 (general_words what.now)) }
-{
-    push_word_if(out, what.shutdown, b"shutdown")?;
-    push_word_if(out, what.sleep, b"sleep")?;
-    push_word_if(out, what.idle, b"idle")
-}
-
-/// Adds which of the keys and the lid.
-fn push_handled(out: &mut Vec<u8>, what: &Inhibited) -> Result<(), NoMemory>
-    ensures { OnOk result (out.new.items ≡ out.old.items ++ prefixed 58 (handled_words what.now)) }
-{
-    push_word_if(out, what.handle_power_key, b"handle-power-key")?;
-    push_word_if(out, what.handle_suspend_key, b"handle-suspend-key")?;
-    push_word_if(out, what.handle_hibernate_key, b"handle-hibernate-key")?;
-    push_word_if(out, what.handle_lid_switch, b"handle-lid-switch")
-}
-
-/// What a lock holds up, a colon before each word.
-fn what_words(alloc: Global, what: &Inhibited) -> Result<Vec<u8>, NoMemory>
-    ensures { IfOk result (λ words. words.items ≡ prefixed 58 (general_words what.now ++ handled_words what.now)) }
-{
-    let mut out = Vec::new(alloc);
-    push_general(&mut out, what)?;
-    push_handled(&mut out, what)?;
-    Ok(out)
 }
 
 /// What a lock holds up.
 fn what_value(alloc: Global, what: &Inhibited) -> Result<Value, NoMemory>
     ensures { IfOk result (λ value. value ≡ text (what_text what.now)) }
 {
-    let words = what_words(alloc, what)?;
-    match words.as_slice() {
-        [_, rest @ ..] => text(alloc, rest),
-        [] => text(alloc, b""),
-    }
+    let words = what.text(alloc)?;
+    text(alloc, words.as_slice())
 }
 
 /// Adds who asked for a lock, why, and how it holds up.
@@ -214,14 +189,24 @@ fn structs<T: Row>(alloc: Global, rows: &[T]) -> Result<Vec<Value>, NoMemory>
 }
 
 /// Rows as one array of structs, whose fields have these types.
+fn array<T: Row>(alloc: Global, kinds: &[Basic], items: &[T]) -> Result<Value, NoMemory>
+    requires some { 0 < length kinds.now }
+    requires ready { AllByRecursion T.ready items.now }
+    ensures value { IfOk result (λ value. value ≡ rows (struct_of (map basic_type kinds.now)) T.fields items.now) }
+    ensures ranged { OnOk result (AllByRecursion T.ranged items.now) }
+{
+    let elements = structs(alloc, items)?;
+    Ok(Value::array(struct_type(alloc, kinds)?, elements))
+}
+
+/// The same as the one value of a reply.
 fn rows<T: Row>(alloc: Global, kinds: &[Basic], items: &[T]) -> Result<Vec<Value>, NoMemory>
     requires some { 0 < length kinds.now }
     requires ready { AllByRecursion T.ready items.now }
     ensures values { IfOk result (λ values. values.items ≡ rows (struct_of (map basic_type kinds.now)) T.fields items.now ∷ []) }
     ensures ranged { OnOk result (AllByRecursion T.ranged items.now) }
 {
-    let elements = structs(alloc, items)?;
-    alone(alloc, Value::array(struct_type(alloc, kinds)?, elements))
+    alone(alloc, array(alloc, kinds, items)?)
 }
 
 /// Adds where a session that was created is found.
@@ -264,22 +249,12 @@ fn created_values(alloc: Global, x: &Created) -> Result<Vec<Value>, NoMemory>
     Ok(out)
 }
 
-/// What the policy says.
-fn say_word(say: Say) -> &'static [u8]
-    ensures { result.now ≡ say_word say }
-{
-    match say {
-        Say::No => b"no",
-        Say::Challenge => b"challenge",
-        Say::Yes => b"yes",
-    }
-}
-
 const SESSION: [Basic; 5] = [Basic::Str, Basic::U32, Basic::Str, Basic::Str, Basic::Path];
 
 const USER: [Basic; 3] = [Basic::U32, Basic::Str, Basic::Path];
 
-const SEAT: [Basic; 2] = [Basic::Str, Basic::Path];
+/// A text and the path of the object that it names.
+const REFERENCE: [Basic; 2] = [Basic::Str, Basic::Path];
 
 const LOCK: [Basic; 6] = [
     Basic::Str,
@@ -291,6 +266,92 @@ const LOCK: [Basic; 6] = [
 ];
 
 const INPUT: [Basic; 3] = [Basic::U16, Basic::U16, Basic::I32];
+
+/// A number of 64 bits.
+fn long(number: u64) -> Value
+    ensures { result ≡ basic (U64 number) }
+{
+    Value::basic(BasicValue::U64(number))
+}
+
+/// The value of a property.
+fn property_value(alloc: Global, value: &PropertyValue) -> Result<Value, NoMemory>
+    requires { CanBeValue value.now }
+    ensures value { IfOk result (λ made. made ≡ property_value value.now) }
+    ensures ranged { OnOk result (HasValueNumbers value.now) }
+{
+    match value {
+        PropertyValue::Text(word) => text(alloc, word.as_slice()),
+        PropertyValue::Number(n) => Ok(number(*n)),
+        PropertyValue::Count(n) => Ok(long(u64::from(*n))),
+        PropertyValue::Time(time) => Ok(long(time.0 * 1000)),
+        PropertyValue::Flag(on) => Ok(flag(*on)),
+        PropertyValue::Inhibited(what) => what_value(alloc, what),
+        PropertyValue::User(uid) => Ok(Value::structure(user_reference(alloc, *uid)?)),
+        PropertyValue::Seat(seat) => Ok(Value::structure(seat_or_none(alloc, seat)?)),
+        PropertyValue::Session(session) => {
+            Ok(Value::structure(reference_or_none(alloc, *session)?))
+        }
+        PropertyValue::Sessions(sessions) => array(alloc, &REFERENCE, sessions.as_slice()),
+    }
+}
+
+/// The value of a property as a variant.
+fn property_variant(alloc: Global, value: &PropertyValue) -> Result<Value, NoMemory>
+    requires { CanBeValue value.now }
+    ensures value { IfOk result (λ made. made ≡ variant (property_value value.now)) }
+    ensures ranged { OnOk result (HasValueNumbers value.now) }
+{
+    Value::variant(alloc, property_value(alloc, value)?)
+}
+
+/// A property's name and its value.
+fn property_entry(alloc: Global, row: &PropertyRow) -> Result<(BasicValue, Value), NoMemory>
+    requires { CanBeValue row.now.value }
+    ensures entry { IfOk result (λ entry. entry ≡ property_entry row.now) }
+    ensures ranged { OnOk result (HasValueNumbers row.now.value) }
+{
+    let value = property_variant(alloc, &row.value)?;
+    let name = Word::from_slice(alloc, row.property.name())?;
+    Ok((BasicValue::Str(name), value))
+}
+
+/// Properties by their names.
+fn property_entries(
+    alloc: Global,
+    rows: &[PropertyRow],
+) -> Result<Vec<(BasicValue, Value)>, NoMemory>
+    requires { AllByRecursion (λ (r : AnyRow). CanBeValue r.value) rows.now }
+    ensures entries { IfOk result (λ entries. entries.items ≡ map property_entry rows.now) }
+    ensures ranged { OnOk result (AllByRecursion (λ (r : AnyRow). HasValueNumbers r.value) rows.now) }
+{
+    let mut out = Vec::new(alloc);
+    for row in rows {
+        let entry = property_entry(alloc, row)?;
+        out.push(entry)?;
+    }
+    Ok(out)
+}
+
+/// All properties of an object.
+fn properties(alloc: Global, rows: &[PropertyRow]) -> Result<Vec<Value>, NoMemory>
+    requires { AllByRecursion (λ (r : AnyRow). CanBeValue r.value) rows.now }
+    ensures values { IfOk result (λ values. values.items ≡ dict Str variant_type (entries (map property_entry rows.now)) ∷ []) }
+    ensures ranged { OnOk result (AllByRecursion (λ (r : AnyRow). HasValueNumbers r.value) rows.now) }
+{
+    let pairs = property_entries(alloc, rows)?;
+    alone(alloc, Value::dict(Basic::Str, Type::variant(), pairs))
+}
+
+/// The unique name of a connection.
+fn unique_name(alloc: Global, who: ConnId) -> Result<Value, NoMemory>
+    ensures value { IfOk result (λ value. value ≡ text (unique_name who)) }
+    ensures ranged { OnOk result (IsNumber who.0) }
+{
+    let number = who.0;
+    let name = format!(in alloc; ":1.{number}")?;
+    text(alloc, name.as_bytes())
+}
 
 /// The values of a reply.
 #[tactic(auto, unfolding(crate::specs::Replies::answer_values))]
@@ -307,11 +368,15 @@ pub(crate) fn answer_values(alloc: Global, answer: &Answer) -> Result<Vec<Value>
         Answer::Seat(seat) => alone(alloc, seat_object(alloc, seat.get())?),
         Answer::Sessions(xs) => rows(alloc, &SESSION, xs.as_slice()),
         Answer::Users(xs) => rows(alloc, &USER, xs.as_slice()),
-        Answer::Seats(xs) => rows(alloc, &SEAT, xs.as_slice()),
+        Answer::Seats(xs) => rows(alloc, &REFERENCE, xs.as_slice()),
         Answer::Inhibitors(xs) => rows(alloc, &LOCK, xs.as_slice()),
-        Answer::Can(say) => alone(alloc, text(alloc, say_word(*say))?),
+        Answer::Can(say) => alone(alloc, text(alloc, say.name())?),
         Answer::Inputs(xs) => rows(alloc, &INPUT, xs.as_slice()),
         Answer::Handle(handle) => alone(alloc, number(handle.0)),
         Answer::Taken(handle, inactive) => pair(alloc, number(handle.0), flag(*inactive)),
+        Answer::Property(value) => alone(alloc, property_variant(alloc, value)?),
+        Answer::Properties(rows) => properties(alloc, rows.as_slice()),
+        Answer::MachineId(guid) => alone(alloc, text(alloc, guid.as_slice())?),
+        Answer::UniqueName(who) => alone(alloc, unique_name(alloc, *who)?),
     }
 }

@@ -2,26 +2,26 @@
 
 ghost use Rattle.std.specs.Prelude.{◌≡◌, ◌++◌, ◌∷◌, [], IfOk, OnOk, None, false, true};
 ghost use Rattle.login_base.specs.Seat.{is_seat_name};
-ghost use Rattle.login_model.specs.Paths.{user_path};
 ghost use Rattle.bus_names.specs.Reading.{member_fault};
 ghost use Rattle.bus_names.specs.Types.{variant as variant_type};
 ghost use Rattle.bus_names.specs.declared.basic.Basic.TheVariants.{Str};
 ghost use Rattle.bus_value.specs.Values.{dict, entry, no_entries, variant};
 ghost use Rattle.bus_value.specs.declared.basic_value.BasicValue.TheVariants.{Str as StrValue};
-ghost use Rattle.wire_out.specs.Signals.{active_changed, changed, manager_signal, pause_word, reference_or_none, seat_changed, session_signal, signals};
-ghost use Rattle.wire_out.specs.Messages.{number, path};
+ghost use Rattle.wire_out.specs.Signals.{active_changed, changed, manager_signal, pause_word, seat_changed, session_signal, signals};
+ghost use Rattle.wire_out.specs.Messages.{number};
 ghost use Rattle.wire_out.specs.inner.Sendable.{CanBeTold};
 ghost use Rattle.wire_out.specs.inner.Numbers.{HasNoticeNumbers, IsNumber, IsNumberIf};
 
 use crate::messages::signal_message;
-use crate::paths::{object_path, seat_path, session_path};
+use crate::paths::{seat_path, session_path};
 use crate::values::{
-    alone, flag, number, pair, push, seat_reference, session_reference, text, user_object,
+    alone, flag, number, pair, push, reference_or_none, seat_reference, session_reference, text,
+    user_reference,
 };
-use bus_message::Message;
+use bus_message::{Message, made_path};
 use bus_names::{Basic, ObjectPath, Type};
 use bus_value::{BasicValue, Value};
-use login_base::{DevNo, NoMemory, SeatName, SessId, Uid, Word};
+use login_base::{DevNo, NoMemory, SeatName, SessId, Word};
 use login_model::{Notice, PauseKind};
 use std::alloc::Global;
 
@@ -49,7 +49,7 @@ fn manager_signal(alloc: Global, member: &[u8], values: Vec<Value>) -> Result<Me
     requires { member_fault member.now ≡ None }
     ensures { IfOk result (λ message. message ≡ manager_signal member.now values.items) }
 {
-    let object = object_path(alloc, b"/org/freedesktop/login1")?;
+    let object = made_path(alloc, b"/org/freedesktop/login1")?;
     let interface = b"org.freedesktop.login1.Manager";
     signal_message(alloc, object, interface, member, values)
 }
@@ -72,27 +72,6 @@ fn device_values(alloc: Global, device: DevNo, last: Value) -> Result<Vec<Value>
     let mut out = pair(alloc, number(device.major), number(device.minor))?;
     push(&mut out, last)?;
     Ok(out)
-}
-
-/// A user's number and the path of its object.
-fn user_reference(alloc: Global, uid: Uid) -> Result<Vec<Value>, NoMemory>
-    ensures values { IfOk result (λ values. values.items ≡ number uid.0 ∷ path (user_path uid) ∷ []) }
-    ensures ranged { OnOk result (IsNumber uid.0) }
-{
-    pair(alloc, number(uid.0), user_object(alloc, uid)?)
-}
-
-/// A session's id and path, or the empty id and the root path for none.
-fn reference_or_none(alloc: Global, session: Option<SessId>) -> Result<Vec<Value>, NoMemory>
-    ensures { IfOk result (λ values. values.items ≡ reference_or_none session) }
-{
-    match session {
-        Some(session) => session_reference(alloc, session),
-        None => {
-            let root = Value::basic(BasicValue::Path(object_path(alloc, b"/")?));
-            pair(alloc, text(alloc, b"")?, root)
-        }
-    }
 }
 
 /// One property with its value.

@@ -6,11 +6,15 @@ ghost use Rattle.login_base.specs.SessionId.{session_text};
 ghost use Rattle.login_model.specs.Paths.{seat_path, session_path, user_path};
 ghost use Rattle.wire_out.specs.Messages.{flag, number, path, text};
 ghost use Rattle.wire_out.specs.Replies.{seat_text};
-ghost use Rattle.wire_out.specs.inner.Numbers.{IsNumber};
+ghost use Rattle.wire_out.specs.References.{no_reference, reference_or_none, seat_or_none, seat_reference, session_reference, user_reference};
+ghost use Rattle.wire_out.specs.inner.Sendable.{IsSeatIf};
+ghost use Rattle.wire_out.specs.inner.Numbers.{IsNumber, IsNumberIf};
 
 use crate::paths::{seat_path, session_path, user_path};
+use bus_message::made_path;
 use bus_value::{BasicValue, Value};
 use login_base::{NoMemory, SeatName, SessId, Uid, Word};
+use login_model::Boxed;
 use std::alloc::Global;
 
 /// A text.
@@ -91,7 +95,7 @@ pub(crate) fn pair(alloc: Global, first: Value, second: Value) -> Result<Vec<Val
 
 /// A session's id and the path of its object.
 pub(crate) fn session_reference(alloc: Global, session: SessId) -> Result<Vec<Value>, NoMemory>
-    ensures values { IfOk result (λ values. values.items ≡ text (session_text session) ∷ path (session_path session) ∷ []) }
+    ensures values { IfOk result (λ values. values.items ≡ session_reference session) }
     ensures ranged { OnOk result (IsNumber session.0) }
 {
     let id = session_id(alloc, session)?;
@@ -101,10 +105,54 @@ pub(crate) fn session_reference(alloc: Global, session: SessId) -> Result<Vec<Va
 /// A seat's name and the path of its object.
 pub(crate) fn seat_reference(alloc: Global, seat: &SeatName) -> Result<Vec<Value>, NoMemory>
     requires { is_seat_name seat.now ≡ true }
-    ensures { IfOk result (λ values. values.items ≡ text seat.now ∷ path (seat_path seat.now) ∷ []) }
+    ensures { IfOk result (λ values. values.items ≡ seat_reference seat.now) }
 {
     let name = text(alloc, seat.as_slice())?;
     pair(alloc, name, seat_object(alloc, seat)?)
+}
+
+/// A user's number and the path of its object.
+pub(crate) fn user_reference(alloc: Global, uid: Uid) -> Result<Vec<Value>, NoMemory>
+    ensures values { IfOk result (λ values. values.items ≡ user_reference uid) }
+    ensures ranged { OnOk result (IsNumber uid.0) }
+{
+    pair(alloc, number(uid.0), user_object(alloc, uid)?)
+}
+
+/// The empty text and the root path.
+fn no_reference(alloc: Global) -> Result<Vec<Value>, NoMemory>
+    ensures { IfOk result (λ values. values.items ≡ no_reference) }
+{
+    let root = Value::basic(BasicValue::Path(made_path(alloc, b"/")?));
+    pair(alloc, text(alloc, b"")?, root)
+}
+
+/// A session's id and path, or the empty id and the root path for none.
+pub(crate) fn reference_or_none(
+    alloc: Global,
+    session: Option<SessId>,
+) -> Result<Vec<Value>, NoMemory>
+    ensures values { IfOk result (λ values. values.items ≡ reference_or_none session) }
+    ensures ranged { OnOk result (IsNumberIf session) }
+{
+    match session {
+        Some(session) => session_reference(alloc, session),
+        None => no_reference(alloc),
+    }
+}
+
+/// A seat's name and path, or the empty name and the root path for none.
+pub(crate) fn seat_or_none(
+    alloc: Global,
+    seat: &Option<Boxed<SeatName>>,
+) -> Result<Vec<Value>, NoMemory>
+    requires { IsSeatIf seat.now }
+    ensures { IfOk result (λ values. values.items ≡ seat_or_none seat.now) }
+{
+    match seat {
+        Some(seat) => seat_reference(alloc, seat.get()),
+        None => no_reference(alloc),
+    }
 }
 
 /// Adds a value at the end.

@@ -11,6 +11,9 @@ use Rattle.login_model.specs.declared.answer.Input.{Input}
 use Rattle.login_model.specs.declared.answer.KnownUser.{KnownUser}
 use Rattle.login_model.specs.declared.answer.SessionRow.{SessionRow}
 use Rattle.login_model.specs.declared.lock.Lock.{Lock}
+use Rattle.login_model.specs.declared.property.PropertyRow.{PropertyRow}
+use Rattle.login_model.specs.declared.property.PropertyValue.{PropertyValue}
+use Rattle.login_model.specs.declared.property.PropertyValue.TheVariants as property
 use Rattle.login_model.specs.declared.rule.Limit.{Limit}
 use Rattle.login_model.specs.declared.rule.Limit.TheVariants as limit
 use Rattle.login_model.specs.declared.rule.Rule.{Rule}
@@ -40,6 +43,18 @@ pub record HasCreatedNumbers (x : Created) : Type 0 where
   pub uid : IsNumber x.uid.0
   pub vt : IsNumber x.vt
 
+abbrev pub IsNumberIf : Option SessId → Type 0
+IsNumberIf (Some s) = IsNumber s.0
+IsNumberIf None = Unit {0}
+
+abbrev pub HasValueNumbers : PropertyValue → Type 0
+HasValueNumbers (property.Number n) = IsNumber n
+HasValueNumbers (property.Count n) = IsNumber n
+HasValueNumbers (property.User u) = IsNumber u.0
+HasValueNumbers (property.Session s) = IsNumberIf s
+HasValueNumbers (property.Sessions ss) = AllByRecursion (λ (s : SessId). IsNumber s.0) ss
+HasValueNumbers _ = Unit {0}
+
 abbrev pub HasAnswerNumbers : Answer → Type 0
 HasAnswerNumbers (answer.Created x) = HasCreatedNumbers x
 HasAnswerNumbers (answer.Session s) = IsNumber s.0
@@ -50,11 +65,10 @@ HasAnswerNumbers (answer.Inhibitors xs) = AllByRecursion HasLockNumbers xs
 HasAnswerNumbers (answer.Inputs xs) = AllByRecursion HasInputNumbers xs
 HasAnswerNumbers (answer.Handle h) = IsNumber h.0
 HasAnswerNumbers (answer.Taken h inactive) = IsNumber h.0
+HasAnswerNumbers (answer.Property x) = HasValueNumbers x
+HasAnswerNumbers (answer.Properties rs) = AllByRecursion (λ (r : PropertyRow). HasValueNumbers r.value) rs
+HasAnswerNumbers (answer.UniqueName c) = IsNumber c.0
 HasAnswerNumbers _ = Unit {0}
-
-abbrev pub IsNumberIf : Option SessId → Type 0
-IsNumberIf (Some s) = IsNumber s.0
-IsNumberIf None = Unit {0}
 
 pub record HasDeviceNumbers (s : SessId) (d : DevNo) : Type 0 where
   pub session : IsNumber s.0

@@ -2,13 +2,16 @@
 -- Specification.
 use Rattle.std.specs.Prelude.{ℕ, ◌≤◌, ◌+◌, List, length}
 use Rattle.std.specs.List.{AllByRecursion}
-use Rattle.login_model.specs.Limits.{allowed_limit, devices_limit, inputs_limit, name_limit, text_limit, users_limit}
+use Rattle.login_model.specs.Limits.{allowed_limit, devices_limit, inputs_limit, name_limit, span_limit, text_limit, users_limit}
 use Rattle.login_model.specs.Texts.{IsText}
 use Rattle.login_model.specs.declared.answer.Answer.{Answer}
 use Rattle.login_model.specs.declared.answer.Answer.TheVariants as answer
 use Rattle.login_model.specs.declared.answer.KnownUser.{KnownUser}
 use Rattle.login_model.specs.declared.answer.SessionRow.{SessionRow}
 use Rattle.login_model.specs.declared.lock.Lock.{Lock}
+use Rattle.login_model.specs.declared.property.PropertyRow.{PropertyRow}
+use Rattle.login_model.specs.declared.property.PropertyValue.{PropertyValue}
+use Rattle.login_model.specs.declared.property.PropertyValue.TheVariants as property
 use Rattle.login_model.specs.declared.mark.Entry.{Entry}
 use Rattle.login_model.specs.declared.mark.Mark.{Mark}
 use Rattle.login_model.specs.declared.mark.Mark.TheVariants.{Set, Say}
@@ -37,6 +40,18 @@ most_seats = devices_limit + 1
 abbrev pub AreFew : {T : Type 0} → ℕ → (T → Type 0) → List T → Type 0
 AreFew most P xs = (length xs ≤ most) × AllByRecursion P xs
 
+-- the text of a property is one, its seat has a seat's name, its time is one of a configuration, and its sessions are few
+abbrev pub CanBeValue : PropertyValue → Type 0
+CanBeValue (property.Text t) = IsText text_limit t
+CanBeValue (property.Time m) = m.0 ≤ span_limit
+CanBeValue (property.Seat seat) = IsSeatIf seat
+CanBeValue (property.Sessions ss) = length ss ≤ allowed_limit
+CanBeValue _ = Unit {0}
+
+-- the most properties that an object has
+abbrev pub most_properties : ℕ
+most_properties = 20
+
 abbrev pub CanBeAnswered : Answer → Type 0
 CanBeAnswered (answer.Created x) = IsSeatIf x.seat
 CanBeAnswered (answer.Seat seat) = IsSeat seat
@@ -45,6 +60,9 @@ CanBeAnswered (answer.Users xs) = AreFew most_users (λ (x : KnownUser). IsText 
 CanBeAnswered (answer.Seats xs) = AreFew most_seats IsSeat xs
 CanBeAnswered (answer.Inhibitors xs) = AreFew allowed_limit IsLockRow xs
 CanBeAnswered (answer.Inputs xs) = length xs ≤ inputs_limit
+CanBeAnswered (answer.Property x) = CanBeValue x
+CanBeAnswered (answer.Properties rs) = AreFew most_properties (λ (r : PropertyRow). CanBeValue r.value) rs
+CanBeAnswered (answer.MachineId guid) = IsText text_limit guid
 CanBeAnswered _ = Unit {0}
 
 -- the seat of a notice has a seat's name

@@ -1,8 +1,8 @@
 use Rattle.std.proofs.Common.{refl}
 use Rattle.bus_names.specs.Grammar.{fault_from}
 use Rattle.bus_names.specs.Reading.{path_fault}
-use Rattle.wire_out.proofs.signals.reference_or_none.Goals as goal
+use Rattle.wire_out.proofs.values.no_reference.Goals as goal
 
-pub object_path-requires : goal.object_path-requires
+pub made_path-requires : goal.made_path-requires
 unfolding path_fault fault_from
-object_path-requires c = refl
+made_path-requires c = refl
