@@ -6,7 +6,7 @@ ghost use Rattle.login_base.specs.declared.ids.DevNo.{DevNo as AnyDevice};
 ghost use Rattle.login_model.specs.Fresh.{next_session, next_handle};
 ghost use Rattle.login_model.specs.Where.{locks, sessions, users, seats};
 ghost use Rattle.login_model.specs.Creating.{seat_of};
-ghost use Rattle.login_model.specs.Answers.{name_among, user_name, session_row, known_user, lock_row, lock_rows, session_answer, seat_answer, taken_answer, marks_answer, answer};
+ghost use Rattle.login_model.specs.Answers.{session_row, known_user, lock_row, lock_rows, session_answer, seat_answer, get_answer, get_all_answer, taken_answer, marks_answer, answer};
 ghost use Rattle.login_model.specs.Legal.{trail_of};
 ghost use Rattle.login_model.specs.declared.answer.Input.{Input as AnyInput};
 ghost use Rattle.login_model.specs.declared.mark.Entry.{Entry};
@@ -17,44 +17,12 @@ use crate::creating::created::seat_of;
 use login_base::{ConnId, HandleNo, Items, LockNo, NoMemory, SeatName, SessId, Uid, Word};
 use login_judge::can;
 use login_model::{
-    Answer, Boxed, Call, Created, Creation, Event, Fact, Key, KnownUser, Lock, Look, SessionRow,
-    Setup, UserRow,
+    Answer, Boxed, Call, Created, Creation, Event, Fact, Key, KnownUser, Lock, Look, Object, Rule,
+    SessionRow, Setup, named_object,
 };
 use login_table::{is_active, list, seat_of_session};
 use std::alloc::Global;
-
-/// The name of the first of these users that has the number.
-fn name_among(users: &[UserRow], uid: u32) -> &[u8]
-    ensures { result.now ≡ name_among users.now uid }
-{
-    for user in users {
-        if user.uid.0 == uid {
-            return user.name.as_slice();
-        }
-    }
-    b"".as_slice()
-}
-
-/// The name of a user in the setup; root's is known without.
-fn user_name(setup: &Setup, uid: u32) -> &[u8]
-    ensures { result.now ≡ user_name setup.now uid }
-{
-    if uid == 0 {
-        b"root".as_slice()
-    } else {
-        name_among(setup.users.as_slice(), uid)
-    }
-}
-
-/// A seat in memory of its own.
-fn boxed_seat(alloc: Global, seat: Option<SeatName>) -> Result<Option<Boxed<SeatName>>, NoMemory>
-    ensures { IfOk result (λ boxed. boxed ≡ seat) }
-{
-    match seat {
-        Some(seat) => Ok(Some(Boxed::new(alloc, seat)?)),
-        None => Ok(None),
-    }
-}
+use wire_props::{get, get_all};
 
 fn session_row<F: Look>(
     alloc: Global,
@@ -65,8 +33,8 @@ fn session_row<F: Look>(
     ensures { IfOk result (λ row. row ≡ session_row setup.now (F.trail facts.now) session) }
 {
     let uid = facts.fact(&Key::Sess(session)).user_or_root();
-    let name = Word::from_slice(alloc, user_name(setup, uid.0))?;
-    let seat = boxed_seat(alloc, seat_of_session(facts, session))?;
+    let name = Word::from_slice(alloc, setup.user_name(uid.0))?;
+    let seat = Boxed::of_option(alloc, seat_of_session(facts, session))?;
     Ok(SessionRow {
         session,
         uid,
@@ -78,7 +46,7 @@ fn session_row<F: Look>(
 fn known_user(alloc: Global, setup: &Setup, uid: Uid) -> Result<KnownUser, NoMemory>
     ensures { IfOk result (λ row. row ≡ known_user setup.now uid) }
 {
-    let name = Word::from_slice(alloc, user_name(setup, uid.0))?;
+    let name = Word::from_slice(alloc, setup.user_name(uid.0))?;
     Ok(KnownUser { uid, name })
 }
 
@@ -233,6 +201,44 @@ fn created<F: Look>(facts: &F, session: SessId, creation: &Creation) -> Created
     }
 }
 
+/// What Get answers of the object that a path names.
+fn get_answer<F: Look>(
+    alloc: Global,
+    facts: &F,
+    setup: &Setup,
+    name: &Word,
+    object: &Result<Object, Rule>,
+) -> Result<Answer, NoMemory>
+    ensures { IfOk result (λ a. a ≡ get_answer setup.now (F.trail facts.now) name.now object.now) }
+{
+    match object {
+        Ok(object) => Ok(get(alloc, facts, setup, object, name)?.unwrap_or(Answer::Nothing)),
+        Err(_) => Ok(Answer::Nothing),
+    }
+}
+
+/// What GetAll answers of the object that a path names: of another interface than its own nothing.
+fn get_all_answer<F: Look>(
+    alloc: Global,
+    facts: &F,
+    setup: &Setup,
+    interface: &Word,
+    object: &Result<Object, Rule>,
+) -> Result<Answer, NoMemory>
+    ensures { IfOk result (λ a. a ≡ get_all_answer setup.now (F.trail facts.now) interface.now object.now) }
+{
+    match object {
+        Ok(object) if object.is_own_interface(interface.as_slice()) => {
+            get_all(alloc, facts, setup, object)
+        }
+        Ok(_) => Ok(Answer::Properties(Items::new(alloc))),
+        Err(_) => Ok(Answer::Nothing),
+    }
+}
+
+/// The number of the login manager, as that of the connection that owns its name.
+const MANAGER: ConnId = ConnId(0);
+
 fn call_answer<F: Look>(
     alloc: Global,
     facts: &F,
@@ -259,6 +265,17 @@ fn call_answer<F: Look>(
         Call::ListInhibitors => list_inhibitors(alloc, facts),
         Call::Can(kind) => Ok(Answer::Can(can(facts, setup, who, *kind))),
         Call::Inhibit(_) => Ok(Answer::Handle(facts.fresh_handle())),
+        Call::GetProperty(x) => {
+            let object = named_object(x.path.as_slice());
+            get_answer(alloc, facts, setup, &x.name, &object)
+        }
+        Call::GetAllProperties(path, interface) => {
+            let object = named_object(path.as_slice());
+            get_all_answer(alloc, facts, setup, interface, &object)
+        }
+        Call::GetMachineId => Ok(Answer::MachineId(setup.guid.copied()?)),
+        Call::Hello => Ok(Answer::UniqueName(who)),
+        Call::GetNameOwner(_) => Ok(Answer::UniqueName(MANAGER)),
         _ => Ok(Answer::Nothing),
     }
 }

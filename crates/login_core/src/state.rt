@@ -4,7 +4,6 @@ ghost use Rattle.std.specs.Prelude.{◌≡◌, ◌≢◌, ◌+◌, ◌^◌, ◌�
 ghost use Rattle.std.specs.Borrow.{sem};
 ghost use Rattle.std.specs.Io.BufRead.{Rests};
 ghost use Rattle.login_model.specs.Answers.{answer};
-ghost use Rattle.login_model.specs.Built.{is_built};
 ghost use Rattle.login_model.specs.Full.{connected_after, full, mark_count, marks_needed};
 ghost use Rattle.login_laws.specs.Lawful.{IsLawful};
 ghost use Rattle.login_model.specs.Legal.{IsPlaced, IsAsked, answered, trail_of};
@@ -55,7 +54,6 @@ fn answer_for(event: &Event, ready: &mut Answer) -> Answer
 /// The verdict of an event: that which was found when room was made for it. A disconnect and the stop are
 /// judged here.
 fn verdict_for(draft: &Draft, setup: &Setup, ready: &Ready, event: &Event) -> Verdict
-    requires built { is_built event.now ≡ true }
     requires ready { always_fits event.now ≡ false → ready.now.verdict ≡ policy_verdict setup.now draft.now.trail event.now }
     ensures { result ≡ policy_verdict setup.now draft.now.trail event.now }
 {
@@ -145,7 +143,6 @@ impl Core {
     /// for a disconnect or the stop, whose room is kept.
     pub fn room(&mut self, event: &Event) -> Result<(), Refused>
         requires asked { IsAsked self.old.journal event.now }
-        requires built { is_built event.now ≡ true }
         ensures gives { RoomGives self.old self.new event.now result }
         ensures kept { result ≡ Err Refused.NoMemory → always_fits event.now ≡ false }
         ensures refused { IfErr result (λ why. why ≢ Refused.NoMemory → self.new ≡ self.old) }

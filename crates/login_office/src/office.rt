@@ -7,7 +7,6 @@ ghost use Rattle.std.specs.Io.BufRead.{Rests};
 ghost use Rattle.login_core.specs.Fullness.{always_fits};
 ghost use Rattle.login_core.specs.State.{IsReady, RoomGives};
 ghost use Rattle.login_laws.specs.Lawful.{IsLawful};
-ghost use Rattle.login_model.specs.Built.{is_built};
 ghost use Rattle.login_model.specs.Conf.{IsAllowed};
 ghost use Rattle.login_model.specs.Legal.{IsAsked, IsPlaced, trail_of};
 ghost use Rattle.login_model.specs.Setups.{IsSetup};
@@ -124,7 +123,6 @@ impl Office {
     /// Makes ready for an event, as the core does.
     pub fn room(&mut self, event: &Event) -> Result<(), Refused>
         requires asked { IsAsked self.old.core.journal event.now }
-        requires built { is_built event.now ≡ true }
         ensures gives { RoomGives self.old.core self.new.core event.now result }
         ensures kept { result ≡ Err Refused.NoMemory → always_fits event.now ≡ false }
         ensures refused { IfErr result (λ why. why ≢ Refused.NoMemory → self.new ≡ self.old) }

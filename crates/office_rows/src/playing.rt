@@ -9,9 +9,7 @@ ghost use Rattle.login_model.specs.Where.{is_connected};
 
 use login_base::{Bytes, ConnId, Items, NoMemory, Uid, Word};
 use login_core::Core;
-use login_model::{
-    Call, Conf, Creation, Entry, Event, Key, Look, Request, Setup, Table, UserRow, is_built,
-};
+use login_model::{Call, Conf, Creation, Entry, Event, Key, Look, Request, Setup, Table, UserRow};
 use login_office::{HeardPiece, Office};
 use std::alloc::Global;
 
@@ -170,7 +168,7 @@ fn fits(core: &Core, event: &Event) -> bool
 fn is_next(core: &Core, event: &Event) -> bool
     ensures { IsTrue result → IsPlaced core.now.journal event.now }
 {
-    is_built(event) && core.stopped(event).is_none() && fits(core, event)
+    core.stopped(event).is_none() && fits(core, event)
 }
 
 /// Makes room for an event, and steps it; whether it could.

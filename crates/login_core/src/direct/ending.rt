@@ -1,7 +1,7 @@
 // How the sessions of a user, of a seat and of a connection end.
 
 ghost use Rattle.std.specs.Prelude.{◌≡◌};
-ghost use Rattle.login_model.specs.Where.{is_open, is_on_seat, sessions_of, sessions_on};
+ghost use Rattle.login_model.specs.Where.{is_open, sessions_of, sessions_on};
 ghost use Rattle.login_model.specs.Procedure.{each, shut};
 ghost use Rattle.login_model.specs.Direct.{is_fifo_of, fifo_of, end_sessions};
 ghost use Rattle.login_core.specs.Kept.{AreClosing};
@@ -12,19 +12,7 @@ use crate::board::Draft;
 use crate::room::kept::Spares;
 use login_base::{ConnId, HandleNo, SeatName, SessId, Uid};
 use login_model::{Fact, Key, Look, Owner};
-use login_table::{OfUser, Test, is_on_seat};
-
-/// It is on a seat.
-#[derive(Drop)]
-struct OnSeat(pub SeatName);
-
-impl Test<SessId> for OnSeat {
-    ghost meets = { λ test t s. is_on_seat t test.0 s };
-
-    fn is_met<F: Look>(&self, facts: &F, session: SessId) -> bool {
-        is_on_seat(facts, self.0.as_slice(), session)
-    }
-}
+use login_table::{OfUser, OnSeat, Test};
 
 /// It is open, and a connection owns its fifo.
 #[derive(Drop)]

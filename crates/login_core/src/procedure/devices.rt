@@ -1,9 +1,7 @@
 // How devices come and go, and seats with them.
 
 ghost use Rattle.std.specs.Prelude.{◌≡◌};
-ghost use Rattle.login_model.specs.declared.fact.Key.TheVariants.{Dev};
-ghost use Rattle.login_model.specs.Facts.{is_graphics_on};
-ghost use Rattle.login_model.specs.Trail.{value, put, tell_all};
+ghost use Rattle.login_model.specs.Trail.{put, tell_all};
 ghost use Rattle.login_model.specs.Where.{sessions_on};
 ghost use Rattle.login_model.specs.Procedure.{each, revoke, shut};
 ghost use Rattle.login_model.specs.Taking.{add_device, appear_seat, has_graphics, lose_seat, remove_device, takers};
@@ -18,21 +16,7 @@ use crate::room::kept::Spares;
 use crate::room::slots::SeatSlots;
 use login_base::{DevNo, SeatName, SessId};
 use login_model::{DevKind, Fact, Key, Look, Notice};
-use login_table::Test;
-
-/// It is a graphics device on a seat.
-#[derive(Drop)]
-struct IsGraphicsOn(SeatName);
-
-impl Test<DevNo> for IsGraphicsOn {
-    ghost meets = { λ test t d. is_graphics_on test.0 (value t (Dev d)) };
-
-    fn is_met<F: Look>(&self, facts: &F, device: DevNo) -> bool {
-        facts
-            .fact(&Key::Dev(device))
-            .is_graphics_on(self.0.as_slice())
-    }
-}
+use login_table::IsGraphicsOn;
 
 /// A device goes from a session.
 #[derive(Drop)]

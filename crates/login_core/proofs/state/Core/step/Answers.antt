@@ -46,10 +46,12 @@ stepping U m x a stop now e v k w p r h =
     }
 
 -- the verdict that room was made with, if it was
-pub verdict_for-verdict-requires-clause-ready : goal.verdict_for-verdict-requires-clause-ready
-verdict_for-verdict-requires-clause-ready c = λ f.
-    judged-inside c.self.inside.board _ c.args.self.now c.self.inside.ready.verdict c.args.event c.self.invariant.no_marks refl c.self.view_is
-    (ap (λ (s : CoreState). s.ready.verdict) c.self.view_is ∙ ready-judged c.args.self.now c.args.event f c.requires.ready)
+pub verdict_for-verdict-requires : goal.verdict_for-verdict-requires
+verdict_for-verdict-requires c = record {
+  ready = λ f.
+      judged-inside c.self.inside.board _ c.args.self.now c.self.inside.ready.verdict c.args.event c.self.invariant.no_marks refl c.self.view_is
+      (ap (λ (s : CoreState). s.ready.verdict) c.self.view_is ∙ ready-judged c.args.self.now c.args.event f c.requires.ready);
+}
 
 pub perform-requires-clause-sound : goal.perform-requires-clause-sound
 perform-requires-clause-sound c =
