@@ -399,7 +399,7 @@ user_name = single_reading (record { is = name_is 255; again = name_again 255 (o
 pub session_name : IsReading (SessionId ∷ []) (single (name_of 512)) (λ x. spell_text x ∷ []) (IsText 512)
 session_name = single_reading (record { is = name_is 512; again = name_again 512 (omega arith); is_word = λ x h. spell_text_IsWord x; agrees = name_agrees 512 })
 
-decimal_one : decimal 1 ≡ codes "1"
+pub decimal_one : decimal 1 ≡ codes "1"
 decimal_one = decimal_digit 1 (omega arith)
 
 version_is : (word : List ℕ) (n : ℕ) → version_of word ≡ Some n → (word ≡ decimal n) × (n ≡ 1)

@@ -1,5 +1,5 @@
 -- The words of a call say the call, and nothing else; they say none exactly where they have a fault; and the
--- calls that are built are short.
+-- calls are short.
 use Rattle.std.proofs.Common.{◌≡◌, ℕ, ℤ, ◌<◌, ◌^◌, ◌≤◌, List, [], ◌∷◌, ◌++◌, refl, arith, rules, ap, sym, codes, Bool, true, cond, Option, Some}
 use Rattle.std.specs.Option.{option_map}
 use Rattle.std.specs.List.{AllByRecursion}
@@ -11,7 +11,6 @@ use Rattle.login_model.specs.declared.call.Creation.{Creation}
 use Rattle.login_model.specs.declared.call.Inhibition.{Inhibition}
 use Rattle.login_model.specs.declared.call.Call.{Call}
 use Rattle.login_model.specs.declared.call.Call.TheVariants as call
-use Rattle.login_model.specs.Built.{is_built_call}
 use Rattle.login_model.specs.Texts.{IsText, texts}
 use Rattle.std.specs.Fmt.{decimal}
 use Rattle.recording.specs.declared.argument.WordKind.{WordKind}
@@ -223,47 +222,55 @@ call_of-words call.NoObject fits t = refl
 call_of-words call.NoMethod fits t = refl
 call_of-words call.BadArguments fits t = refl
 
--- a call that is built is short
-pub call_short : (c : Call) → is_built_call c ≡ true → FitsCall c → AllByRecursion (IsText 512) (texts c) → size (call_words c) ≤ 16000
+-- a call is short
+pub call_short : (c : Call) → FitsCall c → AllByRecursion (IsText 512) (texts c) → size (call_words c) ≤ 16000
 unfolding call_words
-call_short (call.Create x) b f t = let a = decimal_short x.uid.0 f.0 in let d = decimal_short x.process f.1 in let e = spell_text_short 512 x.service t.0 in let g = spell_text_short 512 x.session_type t.1.0 in let h = spell_text_short 512 x.class t.1.1.0 in let i = spell_text_short 512 x.desktop t.1.1.1.0 in let j = spell_text_short 512 x.seat t.1.1.1.1.0 in let k = decimal_short x.vt f.2 in let l = spell_text_short 512 x.tty t.1.1.1.1.1.0 in let m = spell_text_short 512 x.display t.1.1.1.1.1.1.0 in let n = spell_flag_short x.remote in let o = spell_text_short 512 x.remote_user t.1.1.1.1.1.1.1.0 in let p = spell_text_short 512 x.remote_host t.1.1.1.1.1.1.1.1.0 in omega arith
-call_short (call.GetSession id) b f t = let a = spell_text_short 512 id t.0 in omega arith
-call_short (call.GetSeat id) b f t = let a = spell_text_short 512 id t.0 in omega arith
-call_short (call.Activate id) b f t = let a = spell_text_short 512 id t.0 in omega arith
-call_short (call.Lock id) b f t = let a = spell_text_short 512 id t.0 in omega arith
-call_short (call.Unlock id) b f t = let a = spell_text_short 512 id t.0 in omega arith
-call_short (call.Terminate id) b f t = let a = spell_text_short 512 id t.0 in omega arith
-call_short (call.TerminateSeat id) b f t = let a = spell_text_short 512 id t.0 in omega arith
-call_short (call.Uncontrol id) b f t = let a = spell_text_short 512 id t.0 in omega arith
-call_short (call.SwitchToNext id) b f t = let a = spell_text_short 512 id t.0 in omega arith
-call_short (call.SwitchToPrevious id) b f t = let a = spell_text_short 512 id t.0 in omega arith
-call_short (call.ActivateOnSeat id seat) b f t = let a = spell_text_short 512 id t.0 in let d = spell_text_short 512 seat t.1.0 in omega arith
-call_short (call.GetUser u) b f t = let a = decimal_short u.0 f in omega arith
-call_short (call.TerminateUser u) b f t = let a = decimal_short u.0 f in omega arith
-call_short (call.ReadInput h) b f t = let a = decimal_short h.0 f in omega arith
-call_short (call.SetMode h mode) b f t = let a = decimal_short h.0 f.0 in let d = decimal_short mode f.1 in omega arith
-call_short (call.Close h) b f t = let a = decimal_short h.0 f in omega arith
-call_short (call.TakeDevice id d) b f t = let a = spell_text_short 512 id t.0 in let e = decimal_short d.major f.0 in let g = decimal_short d.minor f.1 in omega arith
-call_short (call.ReleaseDevice id d) b f t = let a = spell_text_short 512 id t.0 in let e = decimal_short d.major f.0 in let g = decimal_short d.minor f.1 in omega arith
-call_short (call.PauseComplete id d) b f t = let a = spell_text_short 512 id t.0 in let e = decimal_short d.major f.0 in let g = decimal_short d.minor f.1 in omega arith
-call_short (call.Kill id who signal) b f t = let a = spell_text_short 512 id t.0 in let d = spell_text_short 512 who t.1.0 in let e = signed_short signal f in omega arith
-call_short (call.SetLinger u on) b f t = let a = decimal_short u.0 f in let d = spell_flag_short on in omega arith
-call_short (call.SetIdle id on) b f t = let a = spell_text_short 512 id t.0 in let d = spell_flag_short on in omega arith
-call_short (call.SetLocked id on) b f t = let a = spell_text_short 512 id t.0 in let d = spell_flag_short on in omega arith
-call_short (call.Control id on) b f t = let a = spell_text_short 512 id t.0 in let d = spell_flag_short on in omega arith
-call_short (call.SwitchTo seat vt) b f t = let a = spell_text_short 512 seat t.0 in let d = decimal_short vt f in omega arith
-call_short (call.KillUser u signal) b f t = let a = decimal_short u.0 f.0 in let d = signed_short signal f.1 in omega arith
-call_short call.ListSessions b f t = omega arith
-call_short call.ListUsers b f t = omega arith
-call_short call.ListSeats b f t = omega arith
-call_short call.ListInhibitors b f t = omega arith
-call_short (call.Power kind) b f t = let a = operation_short kind in omega arith
-call_short (call.Can kind) b f t = let a = operation_short kind in omega arith
-call_short (call.Inhibit x) b f t = let a = spell_text_short 512 x.what t.0 in let d = spell_text_short 512 x.who t.1.0 in let e = spell_text_short 512 x.why t.1.1.0 in let g = spell_text_short 512 x.mode t.1.1.1.0 in omega arith
-call_short call.LockAll b f t = omega arith
-call_short call.UnlockAll b f t = omega arith
-call_short call.NoCall b f t = omega arith
-call_short call.NoObject b f t = omega arith
-call_short call.NoMethod b f t = omega arith
-call_short call.BadArguments b f t = omega arith
-call_short _ b f t = cc
+call_short (call.Create x) f t = let a = decimal_short x.uid.0 f.0 in let d = decimal_short x.process f.1 in let e = spell_text_short 512 x.service t.0 in let g = spell_text_short 512 x.session_type t.1.0 in let h = spell_text_short 512 x.class t.1.1.0 in let i = spell_text_short 512 x.desktop t.1.1.1.0 in let j = spell_text_short 512 x.seat t.1.1.1.1.0 in let k = decimal_short x.vt f.2 in let l = spell_text_short 512 x.tty t.1.1.1.1.1.0 in let m = spell_text_short 512 x.display t.1.1.1.1.1.1.0 in let n = spell_flag_short x.remote in let o = spell_text_short 512 x.remote_user t.1.1.1.1.1.1.1.0 in let p = spell_text_short 512 x.remote_host t.1.1.1.1.1.1.1.1.0 in omega arith
+call_short (call.GetSession id) f t = let a = spell_text_short 512 id t.0 in omega arith
+call_short (call.GetSeat id) f t = let a = spell_text_short 512 id t.0 in omega arith
+call_short (call.Activate id) f t = let a = spell_text_short 512 id t.0 in omega arith
+call_short (call.Lock id) f t = let a = spell_text_short 512 id t.0 in omega arith
+call_short (call.Unlock id) f t = let a = spell_text_short 512 id t.0 in omega arith
+call_short (call.Terminate id) f t = let a = spell_text_short 512 id t.0 in omega arith
+call_short (call.TerminateSeat id) f t = let a = spell_text_short 512 id t.0 in omega arith
+call_short (call.Uncontrol id) f t = let a = spell_text_short 512 id t.0 in omega arith
+call_short (call.SwitchToNext id) f t = let a = spell_text_short 512 id t.0 in omega arith
+call_short (call.SwitchToPrevious id) f t = let a = spell_text_short 512 id t.0 in omega arith
+call_short (call.ActivateOnSeat id seat) f t = let a = spell_text_short 512 id t.0 in let d = spell_text_short 512 seat t.1.0 in omega arith
+call_short (call.GetUser u) f t = let a = decimal_short u.0 f in omega arith
+call_short (call.TerminateUser u) f t = let a = decimal_short u.0 f in omega arith
+call_short (call.ReadInput h) f t = let a = decimal_short h.0 f in omega arith
+call_short (call.SetMode h mode) f t = let a = decimal_short h.0 f.0 in let d = decimal_short mode f.1 in omega arith
+call_short (call.Close h) f t = let a = decimal_short h.0 f in omega arith
+call_short (call.TakeDevice id d) f t = let a = spell_text_short 512 id t.0 in let e = decimal_short d.major f.0 in let g = decimal_short d.minor f.1 in omega arith
+call_short (call.ReleaseDevice id d) f t = let a = spell_text_short 512 id t.0 in let e = decimal_short d.major f.0 in let g = decimal_short d.minor f.1 in omega arith
+call_short (call.PauseComplete id d) f t = let a = spell_text_short 512 id t.0 in let e = decimal_short d.major f.0 in let g = decimal_short d.minor f.1 in omega arith
+call_short (call.Kill id who signal) f t = let a = spell_text_short 512 id t.0 in let d = spell_text_short 512 who t.1.0 in let e = signed_short signal f in omega arith
+call_short (call.SetLinger u on) f t = let a = decimal_short u.0 f in let d = spell_flag_short on in omega arith
+call_short (call.SetIdle id on) f t = let a = spell_text_short 512 id t.0 in let d = spell_flag_short on in omega arith
+call_short (call.SetLocked id on) f t = let a = spell_text_short 512 id t.0 in let d = spell_flag_short on in omega arith
+call_short (call.Control id on) f t = let a = spell_text_short 512 id t.0 in let d = spell_flag_short on in omega arith
+call_short (call.SwitchTo seat vt) f t = let a = spell_text_short 512 seat t.0 in let d = decimal_short vt f in omega arith
+call_short (call.KillUser u signal) f t = let a = decimal_short u.0 f.0 in let d = signed_short signal f.1 in omega arith
+call_short call.ListSessions f t = omega arith
+call_short call.ListUsers f t = omega arith
+call_short call.ListSeats f t = omega arith
+call_short call.ListInhibitors f t = omega arith
+call_short (call.Power kind) f t = let a = operation_short kind in omega arith
+call_short (call.Can kind) f t = let a = operation_short kind in omega arith
+call_short (call.Inhibit x) f t = let a = spell_text_short 512 x.what t.0 in let d = spell_text_short 512 x.who t.1.0 in let e = spell_text_short 512 x.why t.1.1.0 in let g = spell_text_short 512 x.mode t.1.1.1.0 in omega arith
+call_short call.LockAll f t = omega arith
+call_short call.UnlockAll f t = omega arith
+call_short call.NoCall f t = omega arith
+call_short call.NoObject f t = omega arith
+call_short call.NoMethod f t = omega arith
+call_short call.BadArguments f t = omega arith
+call_short (call.GetProperty x) f t = let a = spell_text_short 512 x.path t.0 in let d = spell_text_short 512 x.interface t.1.0 in let e = spell_text_short 512 x.name t.1.1.0 in omega arith
+call_short (call.GetAllProperties path interface) f t = let a = spell_text_short 512 path t.0 in let d = spell_text_short 512 interface t.1.0 in omega arith
+call_short (call.SetProperty x) f t = let a = spell_text_short 512 x.path t.0 in let d = spell_text_short 512 x.interface t.1.0 in let e = spell_text_short 512 x.name t.1.1.0 in omega arith
+call_short call.Ping f t = omega arith
+call_short call.GetMachineId f t = omega arith
+call_short call.Hello f t = omega arith
+call_short (call.GetNameOwner id) f t = let a = spell_text_short 512 id t.0 in omega arith
+call_short (call.AddMatch id) f t = let a = spell_text_short 512 id t.0 in omega arith
+call_short (call.RemoveMatch id) f t = let a = spell_text_short 512 id t.0 in omega arith

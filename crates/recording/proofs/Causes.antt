@@ -9,7 +9,7 @@ use Rattle.login_base.specs.Number.{number_of}
 use Rattle.login_base.specs.Seat.{is_seat_name}
 use Rattle.recording.specs.declared.line.Line.{Line}
 use Rattle.recording.specs.declared.line.LineFault.{LineFault}
-use Rattle.recording.specs.declared.line.LineFault.TheVariants.{UnknownWord, BadNumber, BadHex, MissingWord, ExtraWord, TooLong, BadName, Ended, NotBuilt, NoMemory}
+use Rattle.recording.specs.declared.line.LineFault.TheVariants.{UnknownWord, BadNumber, BadHex, MissingWord, ExtraWord, TooLong, BadName, Ended, NoMemory}
 use Rattle.recording.specs.declared.argument.WordKind.{WordKind}
 use Rattle.recording.specs.declared.argument.WordKind.TheVariants.{Number, Positive, Small, Signed, Moment, Flag, Text, UserName, SessionId, SeatName, Hex, Guid, Version, DeviceKind, Key, Operation, Anything}
 use Rattle.recording.specs.Hex.{is_guid}
@@ -34,72 +34,6 @@ faultless words l e = by (words_fault words) (sym (line_agrees words).is_so ∙ 
     by : (f : Option LineFault) → has_some f ≡ false → f ≡ None
     by None h = refl
     by (Some x) h = cc
-
--- a fault of words is never that the line is not built
-abbrev AnyButUnbuilt : Option LineFault → Type 0
-AnyButUnbuilt fault = fault ≡ Some NotBuilt → ⊥
-
-unless_unbuilt : {T : Type 0} (o : Option T) (cause : LineFault) → (cause ≡ NotBuilt → ⊥) → AnyButUnbuilt (unless o cause)
-unless_unbuilt None cause h e = h cc
-unless_unbuilt (Some x) cause h e = cc
-
-unless_so_unbuilt : (b : Bool) (cause : LineFault) → (cause ≡ NotBuilt → ⊥) → AnyButUnbuilt (unless_so b cause)
-unless_so_unbuilt false cause h e = h cc
-unless_so_unbuilt true cause h e = cc
-
-name_unbuilt : (most : ℕ) (o : Option (List ℕ)) → AnyButUnbuilt (name_fault most o)
-name_unbuilt most None e = cc
-name_unbuilt most (Some name) e = unless_so_unbuilt (leb (length name) most) BadName (λ h. cc) e
-
-word_unbuilt : (kind : WordKind) (word : List ℕ) → AnyButUnbuilt (word_fault kind word)
-word_unbuilt Number word e = unless_unbuilt (number_of word) BadNumber (λ h. cc) e
-word_unbuilt Positive word e = unless_unbuilt (positive_of word) BadNumber (λ h. cc) e
-word_unbuilt Small word e = unless_unbuilt (small_of word) BadNumber (λ h. cc) e
-word_unbuilt Signed word e = unless_unbuilt (signed_of word) BadNumber (λ h. cc) e
-word_unbuilt Moment word e = unless_unbuilt (moment_of word) BadNumber (λ h. cc) e
-word_unbuilt Flag word e = unless_unbuilt (flag_of word) UnknownWord (λ h. cc) e
-word_unbuilt Text word e = unless_unbuilt (text_of 16384 word) BadHex (λ h. cc) e
-word_unbuilt UserName word e = name_unbuilt 255 (text_of 16384 word) e
-word_unbuilt SessionId word e = name_unbuilt 512 (text_of 16384 word) e
-word_unbuilt SeatName word e = unless_so_unbuilt (is_seat_name word) BadName (λ h. cc) e
-word_unbuilt Hex word e = unless_unbuilt (hex_of word) BadHex (λ h. cc) e
-word_unbuilt Guid word e = unless_so_unbuilt (is_guid word) BadHex (λ h. cc) e
-word_unbuilt Version word e = unless_so_unbuilt (bytes_eq word (codes "1")) UnknownWord (λ h. cc) e
-word_unbuilt DeviceKind word e = unless_unbuilt (device_kind_named word) UnknownWord (λ h. cc) e
-word_unbuilt Key word e = unless_unbuilt (key_named word) UnknownWord (λ h. cc) e
-word_unbuilt Operation word e = unless_unbuilt (operation_named word) UnknownWord (λ h. cc) e
-word_unbuilt Anything word e = cc
-
-either_unbuilt : (f g : Option LineFault) → AnyButUnbuilt f → AnyButUnbuilt g → AnyButUnbuilt (option_or f g)
-either_unbuilt None g a b e = b e
-either_unbuilt (Some fault) g a b e = a e
-
-first_unbuilt : (kinds : List WordKind) (behind : List (List ℕ) → Option LineFault) → ((words : List (List ℕ)) → AnyButUnbuilt (behind words)) → (words : List (List ℕ)) → AnyButUnbuilt (first_fault kinds behind words)
-first_unbuilt [] behind h words = h words
-first_unbuilt (kind ∷ kinds) behind h [] = λ e. cc
-first_unbuilt (kind ∷ kinds) behind h (word ∷ words) = either_unbuilt (word_fault kind word) (first_fault kinds behind words) (word_unbuilt kind word) (first_unbuilt kinds behind h words)
-
-end_unbuilt : (words : List (List ℕ)) → AnyButUnbuilt (end_fault words)
-end_unbuilt [] e = cc
-end_unbuilt (word ∷ words) e = cc
-
-known_unbuilt : (kinds : Option (List WordKind)) (words : List (List ℕ)) → AnyButUnbuilt (known_fault kinds words)
-known_unbuilt None words e = cc
-known_unbuilt (Some kinds) words e = first_unbuilt kinds end_fault end_unbuilt words e
-
-call_unbuilt : (words : List (List ℕ)) → AnyButUnbuilt (call_fault words)
-call_unbuilt [] e = cc
-call_unbuilt (word ∷ words) e = known_unbuilt (behind_in word manager_shapes) words e
-
-words_unbuilt : (words : List (List ℕ)) → words_fault words ≡ Some NotBuilt → ⊥
-words_unbuilt [] e = cc
-words_unbuilt (word ∷ words) e = by (bytes_eq word (codes "call")) (bytes_eq word (codes "send")) (bytes_eq word (codes "conf")) e
-  where
-    by : (x y z : Bool) → AnyButUnbuilt (cond x (first_fault (Positive ∷ Positive ∷ []) call_fault words) (cond y (first_fault (Positive ∷ Positive ∷ []) call_fault words) (cond z None (known_fault (behind_in word line_shapes) words))))
-    by true y z = first_unbuilt (Positive ∷ Positive ∷ []) call_fault call_unbuilt words
-    by false true z = first_unbuilt (Positive ∷ Positive ∷ []) call_fault call_unbuilt words
-    by false false true = λ h. cc
-    by false false false = known_unbuilt (behind_in word line_shapes) words
 
 -- the last byte of a line, and those before it
 pub last_is : (o : Option ℕ) (text : List ℕ) (b : ℕ) → last_or o (text ++ b ∷ []) ≡ Some b
@@ -167,7 +101,6 @@ refused_reads o f (Err ExtraWord) n h = h ExtraWord refl (λ e. cc)
 refused_reads o f (Err TooLong) n h = h TooLong refl (λ e. cc)
 refused_reads o f (Err BadName) n h = h BadName refl (λ e. cc)
 refused_reads o f (Err Ended) n h = h Ended refl (λ e. cc)
-refused_reads o f (Err NotBuilt) n h = h NotBuilt refl (λ e. cc)
 
 -- what a reader of words answers is the fault that there is, or there was no memory
 pub found_or : (o : Option Line) (f : Option LineFault) (found : LineFault) → Reads o f (Err found) → (found ≡ NoMemory) ⊎ (f ≡ Some found)
@@ -180,7 +113,6 @@ found_or o f ExtraWord h = inr h
 found_or o f TooLong h = inr h
 found_or o f BadName h = inr h
 found_or o f Ended h = inr h
-found_or o f NotBuilt h = inr h
 
 found_is : (o : Option Line) (f : Option LineFault) (found fault : LineFault) → Reads o f (Err found) → refused found ≡ refused fault → fault ≢ NoMemory → f ≡ Some fault
 found_is o f found fault h e k = by (found_or o f found h)
@@ -196,10 +128,6 @@ found_is o f found fault h e k = by (found_or o f found h)
 pub cause_of_words : (bytes text : List ℕ) (b : ℕ) (words : List (List ℕ)) (found fault : LineFault) → bytes ≡ text ++ b ∷ [] → b ≡ 10 → length text ≤ 16384 → list_any (λ b. b == 10) text ≡ false → words ≡ slice_split (λ b. b == 32) text
     → Reads (line_of words) (words_fault words) (Err found) → refused found ≡ refused fault → fault ≢ NoMemory → line_fault bytes ≡ Some fault
 cause_of_words bytes text b words found fault e f short one w g r h = fault_of_words bytes text b e f short one ∙ (ap words_fault (sym w) ∙ found_is (line_of words) (words_fault words) found fault g r h)
-
--- and it is none of a line that is not built
-pub found_unbuilt : (words : List (List ℕ)) (found : LineFault) → Reads (line_of words) (words_fault words) (Err found) → refused found ≡ refused NotBuilt → ⊥
-found_unbuilt words found g r = words_unbuilt words (found_is (line_of words) (words_fault words) found NotBuilt g r (λ e. cc))
 
 -- the fault of a line is the one that is found of its words
 pub refused_words : (bytes text : List ℕ) (b : ℕ) (words : List (List ℕ)) (found fault : LineFault) → bytes ≡ text ++ b ∷ [] → b ≡ 10 → length text ≤ 16384 → list_any (λ b. b == 10) text ≡ false → words ≡ slice_split (λ b. b == 32) text

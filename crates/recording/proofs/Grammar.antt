@@ -5,14 +5,13 @@ use Rattle.std.proofs.lemmas.Bool.Decides.{nat_tests}
 use Rattle.std.proofs.lemmas.List.{append_cancel_right}
 use Rattle.recording.specs.declared.line.Line.{Line}
 use Rattle.recording.specs.declared.line.LineFault.{LineFault}
-use Rattle.recording.specs.declared.line.LineFault.TheVariants.{TooLong, Ended, ExtraWord, NotBuilt, NoMemory}
+use Rattle.recording.specs.declared.line.LineFault.TheVariants.{TooLong, Ended, ExtraWord, NoMemory}
 use Rattle.recording.specs.Bytes.{AreBytes}
 use Rattle.recording.specs.Cut.{NoLineFeed}
 use Rattle.recording.specs.Lines.{fields, IsWritten, Spells}
-use Rattle.recording.specs.Unbuilt.{IsUnbuilt}
 use Rattle.recording.specs.Causes.{line_fault}
 use Rattle.recording.specs.Grammar.{InGrammar, OneGrammar}
-use Rattle.recording.specs.Meaning.{meant, is_built_line, built, IsReadAs}
+use Rattle.recording.specs.Meaning.{meant, IsReadAs, Means}
 use Rattle.recording.specs.inner.LineReadings.{line_of}
 use Rattle.recording.proofs.Causes.{refused, fault_of, faultless, more_than_line, fault_of_words, too_long_before, too_long_whole, has_ended, nothing_ended}
 use Rattle.recording.proofs.ReadBytes.{IsRead, text_bytes, no_feed, no_feed_test}
@@ -121,42 +120,26 @@ spelled_faultless bytes fault e line s w =
     let wrong : None ≡ Some fault = sym none ∙ e in
     cc
 
--- nor is one that is read, and one that is not built
-pub built_faultless : (bytes : List ℕ) (fault : LineFault) → line_fault bytes ≡ Some fault → (line : Line) → IsReadAs bytes line → ⊥
-built_faultless bytes fault e line r = spelled_faultless bytes fault e r.written r.spells r.fits
-
-pub unbuilt_faultless : (bytes : List ℕ) (fault : LineFault) → line_fault bytes ≡ Some fault → IsUnbuilt bytes → ⊥
-unbuilt_faultless bytes fault e u = spelled_faultless bytes fault e u.line u.spells u.written
+-- nor is one that means something
+pub meant_faultless : (bytes : List ℕ) (fault : LineFault) → line_fault bytes ≡ Some fault → (line : Line) → IsReadAs bytes line → ⊥
+meant_faultless bytes fault e line r = spelled_faultless bytes fault e r.written r.spells r.fits
 
 pub read_faultless : (bytes : List ℕ) (fault : LineFault) → line_fault bytes ≡ Some fault → (line : Line) → IsRead bytes line → ⊥
 read_faultless bytes fault e line r = spelled_faultless bytes fault e line r.spells r.written
 
--- a line that is refused is neither, unless there was no memory
+-- a line that is refused is read as none, unless there was no memory
 pub refused_unread : (bytes : List ℕ) (found : LineFault) → (found ≡ NoMemory) ⊎ (line_fault bytes ≡ Some found) → (line : Line) → IsReadAs bytes line → (refused found ≡ Ok line) ⊎ (refused found ≡ Err NoMemory)
 refused_unread bytes found (inl n) line r = inr (ap Err n)
-refused_unread bytes found (inr e) line r = absurd (built_faultless bytes found e line r)
+refused_unread bytes found (inr e) line r = absurd (meant_faultless bytes found e line r)
 
-pub refused_unbuilt : (bytes : List ℕ) (found : LineFault) → (found ≡ NoMemory) ⊎ (line_fault bytes ≡ Some found) → IsUnbuilt bytes → (refused found ≡ Err NotBuilt) ⊎ (refused found ≡ Err NoMemory)
-refused_unbuilt bytes found (inl n) u = inr (ap Err n)
-refused_unbuilt bytes found (inr e) u = absurd (unbuilt_faultless bytes found e u)
-
--- what a reader answers to a line that is built
-pub read_again : (bytes text : List ℕ) (read : Line) (r : Result Line LineFault) → bytes ≡ text ++ 10 ∷ [] → line_of (slice_split (λ b. eqb b 32) text) ≡ Some read → r ≡ built read
+-- what a reader answers to a line of the grammar
+pub read_again : (bytes text : List ℕ) (read : Line) (r : Result Line LineFault) → bytes ≡ text ++ 10 ∷ [] → line_of (slice_split (λ b. eqb b 32) text) ≡ Some read → Means read r
     → (line : Line) → IsReadAs bytes line → (r ≡ Ok line) ⊎ (r ≡ Err NoMemory)
-read_again bytes text read r whole found e line h =
+read_again bytes text read (Ok l) whole found m line h =
     let both : Some read ≡ Some h.written = sym found ∙ read_as bytes text h.written whole h.spells h.fits in
     let same : read ≡ h.written = cc in
-    let ok : built h.written ≡ Ok (meant h.written) = rw h.built refl in
-    inl (e ∙ (ap built same ∙ (ok ∙ ap Ok (sym h.means))))
-
--- and to a line of the grammar that is not built
-pub unbuilt_again : (bytes text : List ℕ) (read : Line) (r : Result Line LineFault) → bytes ≡ text ++ 10 ∷ [] → line_of (slice_split (λ b. eqb b 32) text) ≡ Some read → r ≡ built read
-    → IsUnbuilt bytes → (r ≡ Err NotBuilt) ⊎ (r ≡ Err NoMemory)
-unbuilt_again bytes text read r whole found e u =
-    let both : Some read ≡ Some u.line = sym found ∙ read_as bytes text u.line whole u.spells u.written in
-    let same : read ≡ u.line = cc in
-    let none : built u.line ≡ Err NotBuilt = rw u.unbuilt refl in
-    inl (e ∙ (ap built same ∙ none))
+    inl (ap Ok (m ∙ (ap meant same ∙ sym h.means)))
+read_again bytes text read (Err fault) whole found m line h = inr (ap Err m)
 
 -- bytes spell one line
 pub spells_one : (bytes : List ℕ) (l m : Line) → Spells l bytes → IsWritten l → Spells m bytes → IsWritten m → l ≡ m
@@ -168,10 +151,3 @@ spells_one bytes l m s w t v =
 -- and they are read as one
 pub reads_one : (bytes : List ℕ) (l m : Line) → IsReadAs bytes l → IsReadAs bytes m → l ≡ m
 reads_one bytes l m a b = a.means ∙ (ap meant (spells_one bytes a.written b.written a.spells a.fits b.spells b.fits) ∙ sym b.means)
-
--- a line that is built is none that is not
-pub built_or_not : (bytes : List ℕ) (line : Line) → IsReadAs bytes line → IsUnbuilt bytes → ⊥
-built_or_not bytes line r u =
-    let same = spells_one bytes r.written u.line r.spells r.fits u.spells u.written in
-    let wrong : true ≡ false = sym r.built ∙ (ap is_built_line same ∙ u.unbuilt) in
-    cc

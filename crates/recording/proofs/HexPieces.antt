@@ -58,7 +58,7 @@ longer zero x y = (0, refl)
 longer (suc n) [] y = (0, refl)
 longer (suc n) (b ∷ bs) y = let r = longer n bs y in (suc r.0, ap (λ (t : List ℕ). b ∷ t) r.1)
 
-front_longer : (now after : Option (List ℕ)) (x y : List ℕ) → GainsFront now after x → GainsFront now after (x ++ y)
+pub front_longer : (now after : Option (List ℕ)) (x y : List ℕ) → GainsFront now after x → GainsFront now after (x ++ y)
 front_longer now after x y h =
     let m = longer h.count x y in
     record { count = m.0; gained = subst (λ (t : List ℕ). Gains now after t) (sym m.1) h.gained }

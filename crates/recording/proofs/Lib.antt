@@ -1,6 +1,6 @@
 pub mod Cuts
 pub mod Arguments
-pub mod Built
+pub mod Meant
 pub mod Calls
 pub mod Causes
 pub mod Chains
@@ -21,3 +21,6 @@ pub mod Texts
 pub mod MarkParts
 pub mod Paths
 pub mod Decimals
+pub mod UserOrder
+pub mod Writings
+pub mod RecordedParts

@@ -10,7 +10,6 @@ use Rattle.recording.proofs.Cuts.{FirstLineCases, first_line_cases}
 use Rattle.recording.specs.Lines.{fields, Spells}
 use Rattle.recording.specs.Lines.Spells.{plain, empty}
 use Rattle.recording.specs.Causes.{line_fault}
-use Rattle.recording.specs.Unbuilt.{IsUnbuilt}
 use Rattle.recording.specs.Meaning.{IsReadAs}
 use Rattle.recording.proofs.Causes.{too_long_before, too_long_whole}
 
@@ -79,14 +78,6 @@ fault_of_front text = fault_by text (within_by text (leb (length (first_line tex
 spelled_feed : (line : Line) (bytes : List ℕ) → Spells line bytes → NoLineFeed bytes → ⊥
 spelled_feed _ _ (plain line short) h = last_not (join_with_byte 32 (fields line)) 10 h refl
 spelled_feed _ _ empty h = last_not (codes "conf ") 10 h refl
-
-unbuilt_by : (text : List ℕ) → (Long text) ⊎ (front text ≡ first_line text) → IsUnbuilt (front text) → IsUnbuilt (first_line text)
-unbuilt_by text (inl long) h = absurd (spelled_feed h.line (front text) h.spells long.feedless)
-unbuilt_by text (inr same) h = subst IsUnbuilt same h
-
--- a line whose front is not built is not built
-pub unbuilt_of_front : (text : List ℕ) → IsUnbuilt (take 16385 (first_line text)) → IsUnbuilt (first_line text)
-unbuilt_of_front text = unbuilt_by text (within_by text (leb (length (first_line text)) 16385) refl)
 
 read_by : (text : List ℕ) (line : Line) → (Long text) ⊎ (front text ≡ first_line text) → IsReadAs (front text) line → IsReadAs (first_line text) line
 read_by text line (inl long) h = absurd (spelled_feed h.written (front text) h.spells long.feedless)

@@ -4,12 +4,11 @@ use Rattle.std.specs.List.{slice_split, list_any}
 use Rattle.std.proofs.lemmas.Bool.Decides.{nat_tests}
 use Rattle.recording.specs.declared.line.Line.{Line}
 use Rattle.recording.specs.declared.line.LineFault.{LineFault}
-use Rattle.recording.specs.declared.line.LineFault.TheVariants.{NotBuilt}
+use Rattle.recording.specs.declared.line.LineFault.TheVariants.{NoMemory}
 use Rattle.recording.specs.Bytes.{AreBytes, AreRaw}
 use Rattle.recording.specs.Cut.{NoLineFeed}
 use Rattle.recording.specs.Lines.{IsLine, IsWritten, Spells}
-use Rattle.recording.specs.Unbuilt.{IsUnbuilt}
-use Rattle.recording.specs.Meaning.{meant, is_built_line, built, IsReadAs}
+use Rattle.recording.specs.Meaning.{IsReadAs, Means}
 use Rattle.recording.specs.inner.LineReadings.{line_of}
 use Rattle.recording.proofs.Spellings.{text_spells, text_written, line_meant, spells_short}
 
@@ -61,42 +60,16 @@ read_so bytes text line whole short one are read = record {
   written = text_written text line read (text_bytes bytes text whole one are);
 }
 
--- what is read and built is what the written line means
-pub read_found : (bytes : List ℕ) (line : Line) (r : Result Line LineFault) → IsRead bytes line → r ≡ built line → IfOk r (λ l. IsReadAs bytes l)
-read_found bytes line r is e = by (is_built_line line) refl
-  where
-    Good : Result Line LineFault → Type 0
-    Good x = IfOk x (λ l. IsReadAs bytes l)
+-- what is read is what the written line means
+pub read_found : (bytes : List ℕ) (line : Line) (r : Result Line LineFault) → IsRead bytes line → Means line r → IfOk r (λ l. IsReadAs bytes l)
+read_found bytes line (Ok l) is m = record { written = line; spells = is.spells; fits = is.written; means = m }
+read_found bytes line (Err fault) is m = tt
 
-    by : (b : Bool) → is_built_line line ≡ b → IfOk r (λ l. IsReadAs bytes l)
-    by true b =
-        let ok : built line ≡ Ok (meant line) = rw b refl in
-        subst Good (sym (e ∙ ok)) (record { written = line; spells = is.spells; fits = is.written; built = b; means = refl })
-    by false b =
-        let none : built line ≡ Err NotBuilt = rw b refl in
-        subst Good (sym (e ∙ none)) tt
+pub read_fits : (bytes : List ℕ) (line : Line) (r : Result Line LineFault) → IsRead bytes line → Means line r → IfOk r (λ l. IsLine l)
+read_fits bytes line (Ok l) is m = subst IsLine (sym m) (line_meant line is.written (spells_short line bytes is.spells))
+read_fits bytes line (Err fault) is m = tt
 
-pub read_fits : (bytes : List ℕ) (line : Line) (r : Result Line LineFault) → IsRead bytes line → r ≡ built line → IfOk r (λ l. IsLine l)
-read_fits bytes line r is e = by (is_built_line line) refl
-  where
-    Good : Result Line LineFault → Type 0
-    Good x = IfOk x (λ l. IsLine l)
-
-    by : (b : Bool) → is_built_line line ≡ b → IfOk r (λ l. IsLine l)
-    by true b =
-        let ok : built line ≡ Ok (meant line) = rw b refl in
-        subst Good (sym (e ∙ ok)) (line_meant line is.written b (spells_short line bytes is.spells))
-    by false b =
-        let none : built line ≡ Err NotBuilt = rw b refl in
-        subst Good (sym (e ∙ none)) tt
-
--- what is read and not built is a line of the grammar that is not built
-pub read_unbuilt : (bytes : List ℕ) (line : Line) (r : Result Line LineFault) → IsRead bytes line → r ≡ built line → r ≡ Err NotBuilt → IsUnbuilt bytes
-read_unbuilt bytes line r is e refused = by (is_built_line line) refl
-  where
-    by : (b : Bool) → is_built_line line ≡ b → IsUnbuilt bytes
-    by true b =
-        let ok : built line ≡ Ok (meant line) = rw b refl in
-        let same : Ok (meant line) ≡ Err NotBuilt = sym ok ∙ (sym e ∙ refused) in
-        cc
-    by false b = record { line = line; spells = is.spells; written = is.written; unbuilt = b }
+-- it is refused for want of memory alone
+pub read_refused : (line : Line) (r : Result Line LineFault) (fault : LineFault) → Means line r → r ≡ Err fault → fault ≡ NoMemory
+read_refused line (Ok l) fault m e = cc
+read_refused line (Err other) fault m e = let same : other ≡ fault = cc in sym same ∙ m

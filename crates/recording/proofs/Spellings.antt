@@ -17,7 +17,6 @@ use Rattle.login_model.specs.declared.hardware.Hardware.{Hardware}
 use Rattle.login_model.specs.declared.hardware.Hardware.TheVariants.{Add, Remove, Input, VtKey, Key, Dock, Exit, JobDone}
 use Rattle.login_model.specs.declared.event.Event.{Event}
 use Rattle.login_model.specs.declared.event.Event.TheVariants.{Connect, Disconnect, Call as Calls, Hardware as Happens, Tick, Stop}
-use Rattle.login_model.specs.Built.{is_built}
 use Rattle.login_model.specs.Words.{device_kind_word, key_word}
 use Rattle.recording.specs.declared.line.Line.{Line}
 use Rattle.recording.specs.declared.line.Line.TheVariants.{Header, Guid, User, Conf, Action, Go, Event as EventLine, Link, In, Hangup, End}
@@ -25,14 +24,14 @@ use Rattle.recording.specs.Calls.{device_words, call_words, FitsDevice}
 use Rattle.recording.specs.EventSpelling.{request_word, hardware_words, event_words, FitsHardware, Fits, IsWrittenEvent}
 use Rattle.recording.specs.Bytes.{AreRaw}
 use Rattle.recording.specs.Lines.{fields, spell, IsLine, IsWritten, Spells}
-use Rattle.recording.specs.Meaning.{meant, is_built_line, IsReadAs}
+use Rattle.recording.specs.Meaning.{meant, IsReadAs}
 use Rattle.recording.specs.Cut.{NoLineFeed}
 use Rattle.recording.specs.inner.LineReadings.{line_of}
 use Rattle.recording.proofs.Texts.{both}
 use Rattle.recording.proofs.Arguments.{IsWord, AreWords, decimal_IsWord, number_IsWord, spell_text_IsWord, spell_flag_IsWord, signed_IsWord, device_kind_IsWord, key_IsWord, seat_IsWord, guid_IsWord, hex_IsWord}
 use Rattle.recording.proofs.Calls.{call_of_is, call_of-words, call_short}
 use Rattle.recording.proofs.Lengths.{size, join_short, decimal_short, spell_text_short, spell_flag_short, signed_short, request_word_short}
-use Rattle.recording.proofs.Built.{meant_line, event_written, means_itself}
+use Rattle.recording.proofs.Meant.{event_meant, event_written, means_itself}
 use Rattle.recording.proofs.ReadLines.{LineIs, line_of_is, parts, line_of-parts, behind_conf, behind_action}
 
 request_word_IsWord : (quiet : Bool) → IsWord (request_word quiet)
@@ -91,7 +90,7 @@ hardware_some (Dock on) = omega arith
 hardware_some (Exit id) = omega arith
 hardware_some JobDone = omega arith
 
-event_some : (e : Event) → 0 < length (event_words e)
+pub event_some : (e : Event) → 0 < length (event_words e)
 unfolding event_words
 event_some (Connect c u) = omega arith
 event_some (Disconnect c) = omega arith
@@ -140,7 +139,7 @@ line_of-text text line h e =
     let same : text ≡ join_with_byte 32 (fields line) = append_cancel_right text (join_with_byte 32 (fields line)) (10 ∷ []) e in
     ap line_of (ap (slice_split (λ b. eqb b 32)) same ∙ slice_split-fields line h) ∙ line_of-parts line h
 
--- a line that is built is written
+-- a line of a recording is written
 pub line_written : (line : Line) → IsLine line → IsWritten line
 line_written (Header version) h = h
 line_written (Guid guid) h = h
@@ -148,7 +147,7 @@ line_written (User u) h = h
 line_written (Conf text) h = h.0
 line_written (Action text) h = (h.0, h.1)
 line_written Go h = tt
-line_written (EventLine e) h = event_written e h.fits
+line_written (EventLine e) h = event_written e h
 line_written (Link c u) h = h
 line_written (In c bytes) h = (h.0, h.1, h.2, h.3)
 line_written (Hangup c) h = h
@@ -222,19 +221,19 @@ hardware_short (Dock on) f = let a = spell_flag_short on in omega arith
 hardware_short (Exit id) f = let a = spell_text_short 512 id f in omega arith
 hardware_short JobDone f = omega arith
 
-event_short : (event : Event) → is_built event ≡ true → Fits event → size (event_words event) ≤ 16100
+event_short : (event : Event) → Fits event → size (event_words event) ≤ 16100
 unfolding event_words
-event_short (Connect c u) b f = let x = decimal_short c.0 f.1 in let y = decimal_short u.0 f.2 in omega arith
-event_short (Disconnect c) b f = let x = decimal_short c.0 f.1 in omega arith
-event_short (Calls r) b f =
+event_short (Connect c u) f = let x = decimal_short c.0 f.1 in let y = decimal_short u.0 f.2 in omega arith
+event_short (Disconnect c) f = let x = decimal_short c.0 f.1 in omega arith
+event_short (Calls r) f =
     let x = request_word_short r.quiet in
     let y = decimal_short r.who.0 f.1 in
     let z = decimal_short r.serial f.3 in
-    let d = call_short r.call b f.4 f.5 in
+    let d = call_short r.call f.4 f.5 in
     omega arith
-event_short (Happens x) b f = let d = hardware_short x f in omega (arith, d)
-event_short (Tick m) b f = let x = moment_short m.0 f in omega arith
-event_short Stop b f = omega arith
+event_short (Happens x) f = let d = hardware_short x f in omega (arith, d)
+event_short (Tick m) f = let x = moment_short m.0 f in omega arith
+event_short Stop f = omega arith
 
 guid_long : (guid : List ℕ) → eqb (length guid) 32 ≡ true → length guid ≡ 32
 guid_long guid e = grind (arith, nat_tests)
@@ -255,7 +254,7 @@ fields_short (User u) h m =
     let c = spell_text_short 255 u.name h.3 in
     omega arith
 fields_short Go h m = omega arith
-fields_short (EventLine e) h m = event_short e h.built h.fits
+fields_short (EventLine e) h m = event_short e h
 fields_short (Link c u) h m = let a = decimal_short c.0 h.1 in let b = decimal_short u.0 h.2 in omega arith
 fields_short (Hangup c) h m = let a = decimal_short c.0 h.1 in omega arith
 fields_short End h m = omega arith
@@ -302,30 +301,25 @@ text_written text line e bytes =
     let back = join_with_byte-slice_split 32 text in
     (text_is text line e).written (subst AreRaw (sym back) bytes) (ap (slice_split (λ b. eqb b 32)) back)
 
--- what a written line that is built means is one of a recording
-pub line_meant : (line : Line) → IsWritten line → is_built_line line ≡ true → length (spell line) ≤ 16385 → IsLine (meant line)
-line_meant (Header version) w b short = w
-line_meant (Guid guid) w b short = w
-line_meant (User u) w b short = w
-line_meant (Conf text) w b short = (w, short)
-line_meant (Action text) w b short = (w.0, w.1, short)
-line_meant Go w b short = tt
-line_meant (EventLine e) w b short = meant_line e w b
-line_meant (Link c u) w b short = w
-line_meant (In c bytes) w b short = (w.0, w.1, w.2, w.3, short)
-line_meant (Hangup c) w b short = w
-line_meant End w b short = tt
+-- what a written line means is one of a recording
+pub line_meant : (line : Line) → IsWritten line → length (spell line) ≤ 16385 → IsLine (meant line)
+line_meant (Header version) w short = w
+line_meant (Guid guid) w short = w
+line_meant (User u) w short = w
+line_meant (Conf text) w short = (w, short)
+line_meant (Action text) w short = (w.0, w.1, short)
+line_meant Go w short = tt
+line_meant (EventLine e) w short = event_meant e w
+line_meant (Link c u) w short = w
+line_meant (In c bytes) w short = (w.0, w.1, w.2, w.3, short)
+line_meant (Hangup c) w short = w
+line_meant End w short = tt
 
--- a line of a recording means itself, and it is built
+-- a line of a recording means itself
 pub line_means : (line : Line) → IsLine line → meant line ≡ line
-line_means (EventLine e) h = ap EventLine (means_itself e h.fits)
+line_means (EventLine e) h = ap EventLine (means_itself e h)
 line_means (Header version) h = refl
 line_means _ h = refl
-
-pub line_built : (line : Line) → IsLine line → is_built_line line ≡ true
-line_built (Header version) h = refl
-line_built (EventLine e) h = h.built
-line_built _ h = refl
 
 -- the spelling of a line of a recording is read as it
 pub line_reads : (line : Line) → IsLine line → IsReadAs (spell line) line
@@ -333,10 +327,9 @@ line_reads line h = record {
   written = line;
   spells = Spells.plain line (spell_short line h);
   fits = line_written line h;
-  built = line_built line h;
   means = sym (line_means line h);
 }
 
 -- what is read is a line of a recording
 pub read_IsLine : (bytes : List ℕ) (line : Line) → IsReadAs bytes line → IsLine line
-read_IsLine bytes line r = subst IsLine (sym r.means) (line_meant r.written r.fits r.built (spells_short r.written bytes r.spells))
+read_IsLine bytes line r = subst IsLine (sym r.means) (line_meant r.written r.fits (spells_short r.written bytes r.spells))

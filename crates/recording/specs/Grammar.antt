@@ -6,7 +6,7 @@ use Rattle.recording.specs.Lines.{spell, Spells, IsLine, IsWritten}
 use Rattle.recording.specs.Meaning.{IsReadAs}
 use Rattle.recording.specs.Causes.{line_fault}
 
--- the bytes are a line of the grammar, whether it is built or not
+-- the bytes are a line of the grammar
 pub record InGrammar (bytes : List ℕ) : Type 0 where
   pub line : Line
   pub spells : Spells line bytes

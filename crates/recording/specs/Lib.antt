@@ -10,7 +10,6 @@ pub mod Shapes
 pub mod Calls
 pub mod EventSpelling
 pub mod Lines
-pub mod Unbuilt
 pub mod Meaning
 pub mod Causes
 pub mod inner
@@ -18,3 +17,4 @@ pub mod Grammar
 pub mod MarkWords
 pub mod AnswerWords
 pub mod Print
+pub mod Recorded

@@ -3,7 +3,6 @@ use Rattle.std.specs.Prelude.{ℕ, ◌≡◌, ◌+◌, ◌<◌, ◌≤◌, ◌^�
 use Rattle.std.specs.List.{join_with_byte, slice_split}
 use Rattle.std.specs.Fmt.{decimal}
 use Rattle.login_model.specs.declared.event.Event.{Event}
-use Rattle.login_model.specs.Built.{is_built}
 use Rattle.login_model.specs.Texts.{IsText}
 use Rattle.recording.specs.declared.line.Line.{Line}
 use Rattle.recording.specs.declared.line.Line.TheVariants.{Header, Guid, User, Conf, Action, Go, Event as EventLine, Link, In, Hangup, End}
@@ -40,11 +39,10 @@ abbrev pub spell : Line → List ℕ
 spell line = join_with_byte 32 (fields line) ++ 10 ∷ []
 
 -- an event that a line of a recording can have
-pub record IsEventLine (e : Event) : Type 0 where
-  pub fits : Fits e
-  pub built : is_built e ≡ true
+abbrev pub IsEventLine : Event → Type 0
+IsEventLine e = Fits e
 
--- the values of a line that is built are within their types and bounds; what stands as it is written, or in
+-- the values of a line are within their types and bounds; what stands as it is written, or in
 -- hex, leaves the line within its limit
 abbrev pub IsLine : Line → Type 0
 IsLine (Header version) = version ≡ 1
@@ -59,8 +57,7 @@ IsLine (In c bytes) = (0 < c.0) × (c.0 < 2 ^ 32) × AreBytes bytes × (0 < leng
 IsLine (Hangup c) = (0 < c.0) × (c.0 < 2 ^ 32)
 IsLine End = Unit {0}
 
--- the values of a line as it is written are within their types and bounds, whether it is built or not; a raw
--- line has no line feed, and the words of an action are four, whatever they are
+-- the values of a line as it is written are within their types and bounds; a raw line has no line feed, and the words of an action are four, whatever they are
 abbrev pub IsWritten : Line → Type 0
 IsWritten (Header version) = version ≡ 1
 IsWritten (Guid guid) = is_guid guid ≡ true

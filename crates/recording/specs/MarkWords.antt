@@ -1,5 +1,5 @@
 -- How marks print: keys, facts and notices.
-use Rattle.std.specs.Prelude.{ℕ, Bool, if◌then◌else◌, Option, Some, None, List, [], ◌∷◌, ◌++◌, codes, drop}
+use Rattle.std.specs.Prelude.{ℕ, Bool, if◌then◌else◌, Option, Some, None, List, [], ◌∷◌, ◌++◌, codes}
 use Rattle.std.specs.Fmt.{decimal, signed_decimal}
 use Rattle.login_base.specs.declared.ids.SessId.{SessId}
 use Rattle.login_base.specs.declared.ids.DevNo.{DevNo}
@@ -13,7 +13,6 @@ use Rattle.login_model.specs.declared.fact.Owner.TheVariants as owner
 use Rattle.login_model.specs.declared.session.Session.{Session}
 use Rattle.login_model.specs.declared.session.Phase.{Phase}
 use Rattle.login_model.specs.declared.session.Phase.TheVariants.{Open, Closing, Gone}
-use Rattle.login_model.specs.declared.lock.Inhibited.{Inhibited}
 use Rattle.login_model.specs.declared.lock.Lock.{Lock}
 use Rattle.login_model.specs.declared.operation.Operation.{Operation}
 use Rattle.login_model.specs.declared.operation.Operation.TheVariants.{Idle, Waiting, Running}
@@ -25,8 +24,7 @@ use Rattle.login_model.specs.declared.mark.Whom.{Whom}
 use Rattle.login_model.specs.declared.mark.Whom.TheVariants.{One, All}
 use Rattle.login_model.specs.declared.mark.Mark.{Mark}
 use Rattle.login_model.specs.declared.mark.Mark.TheVariants.{Set, Say}
-use Rattle.login_model.specs.declared.hardware.HardKey.TheVariants as hard
-use Rattle.login_model.specs.Words.{type_word, class_word, whom_word, operation_word, device_kind_word, mode_word, shutdown_word, sleep_word, idle_word, handled_word}
+use Rattle.login_model.specs.Words.{type_word, class_word, whom_word, operation_word, device_kind_word, mode_word, what_text}
 use Rattle.recording.specs.Text.{spell_flag}
 
 -- a device's major and minor number, with a colon between them
@@ -86,27 +84,8 @@ owner_words (owner.Fifo c s) = codes "fifo" ∷ decimal c.0 ∷ session_text s �
 owner_words (owner.Lock c l) = codes "lock" ∷ decimal c.0 ∷ decimal l.0 ∷ []
 owner_words owner.Closed = codes "closed" ∷ []
 
--- a word behind a colon, where it is chosen
-abbrev pub chosen_word : Bool → List ℕ → List ℕ
-chosen_word on word = if on then 58 ∷ word else []
-
--- the keys and the lid that a lock holds up, each behind a colon
-abbrev pub handled_words : Inhibited → List ℕ
-handled_words x =
-    chosen_word x.handle_power_key (handled_word hard.Power) ++ (chosen_word x.handle_suspend_key (handled_word hard.Suspend)
-    ++ (chosen_word x.handle_hibernate_key (handled_word hard.Hibernate) ++ chosen_word x.handle_lid_switch (handled_word hard.Lid)))
-
--- what a lock holds up, each behind a colon
-abbrev pub inhibited_words : Inhibited → List ℕ
-inhibited_words x =
-    chosen_word x.shutdown shutdown_word ++ (chosen_word x.sleep sleep_word ++ (chosen_word x.idle idle_word ++ handled_words x))
-
--- the same without the first colon
-abbrev pub what_word : Inhibited → List ℕ
-what_word x = drop 1 (inhibited_words x)
-
 abbrev pub lock_words : Lock → List (List ℕ)
-lock_words x = what_word x.what ∷ mode_word x.mode ∷ decimal x.uid.0 ∷ []
+lock_words x = what_text x.what ∷ mode_word x.mode ∷ decimal x.uid.0 ∷ []
 
 -- `skip` where it passes the locks that block it
 abbrev pub skip_word : Bool → List ℕ

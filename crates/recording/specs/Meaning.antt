@@ -1,15 +1,14 @@
 -- What a written line means.
-use Rattle.std.specs.Prelude.{ℕ, ◌≡◌, not, nat_le, Bool, true, if◌then◌else◌, Result, Ok, Err, List, length}
+use Rattle.std.specs.Prelude.{ℕ, ◌≡◌, not, nat_le, Bool, if◌then◌else◌, Result, Ok, Err, List, length}
 use Rattle.std.specs.List.{list_all}
 use Rattle.login_model.specs.declared.call.Call.{Call}
 use Rattle.login_model.specs.declared.call.Call.TheVariants.{NoObject, BadArguments}
 use Rattle.login_model.specs.declared.event.Event.{Event}
 use Rattle.login_model.specs.declared.event.Event.TheVariants as event
-use Rattle.login_model.specs.Built.{is_built}
 use Rattle.login_model.specs.Texts.{texts, has_object}
 use Rattle.recording.specs.declared.line.Line.{Line}
 use Rattle.recording.specs.declared.line.LineFault.{LineFault}
-use Rattle.recording.specs.declared.line.LineFault.TheVariants.{NotBuilt}
+use Rattle.recording.specs.declared.line.LineFault.TheVariants.{NoMemory}
 use Rattle.recording.specs.declared.line.Line.TheVariants as line
 use Rattle.recording.specs.Lines.{Spells, IsWritten}
 use Rattle.login_model.specs.Limits.{text_limit}
@@ -26,11 +25,6 @@ meant_call x =
     else if are_short x then x
     else BadArguments
 
--- whether a property that an event calls is one of an object that has properties
-abbrev pub has_object_event : Event → Bool
-has_object_event (event.Call r) = has_object r.call
-has_object_event _ = true
-
 abbrev pub meant_event : Event → Event
 meant_event (event.Call r) = event.Call (record { who = r.who; serial = r.serial; quiet = r.quiet; call = meant_call r.call })
 meant_event e = e
@@ -39,19 +33,14 @@ abbrev pub meant : Line → Line
 meant (line.Event e) = line.Event (meant_event e)
 meant l = l
 
--- whether a line is built: an event's as the event is, any other always
-abbrev pub is_built_line : Line → Bool
-is_built_line (line.Event e) = is_built e
-is_built_line _ = true
+-- what the reading of a written line answers: what it means, or that there was no memory
+abbrev pub Means : Line → Result Line LineFault → Type 0
+Means l (Ok m) = m ≡ meant l
+Means l (Err fault) = fault ≡ NoMemory
 
--- what a written line means, if it is built
-abbrev pub built : Line → Result Line LineFault
-built l = if is_built_line l then Ok (meant l) else Err NotBuilt
-
--- the bytes are a line of the grammar that is built, and this is what it means
+-- the bytes are a line of the grammar, and this is what it means
 pub record IsReadAs (bytes : List ℕ) (line : Line) : Type 0 where
   pub written : Line
   pub spells : Spells written bytes
   pub fits : IsWritten written
-  pub built : is_built_line written ≡ true
   pub means : line ≡ meant written

@@ -6,3 +6,4 @@ pub mod Pieces
 pub mod Arguments
 pub mod CallReadings
 pub mod LineReadings
+pub mod Parts

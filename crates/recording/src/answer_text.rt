@@ -3,15 +3,19 @@
 ghost use Rattle.std.specs.Prelude.{◌≡◌, ◌++◌, ◌∷◌, OnOk, List, ℕ, map};
 ghost use Rattle.std.specs.List.{flat_map, join_with_byte};
 ghost use Rattle.login_model.specs.Paths.{session_path, seat_path, user_path, runtime_path};
-ghost use Rattle.recording.specs.AnswerWords.{array, seat_text, found_words, value_words, row_words, session_value, user_value, seat_value, lock_value, why_words, input_value, say_word, answer_words};
+ghost use Rattle.recording.specs.AnswerWords.{array, seat_text, found_words, value_words, row_words, session_value, user_value, seat_value, lock_value, why_words, input_value, answer_words, session_reference, property_value, or_empty, user_reference, seat_or_none, session_or_none, typed, variant, unique_name};
+ghost use Rattle.login_model.specs.Words.{say_word, what_text};
 ghost use Rattle.recording.specs.Text.{spell_flag};
 ghost use Rattle.std.specs.Fmt.{decimal};
 ghost use Rattle.recording.specs.inner.Spaced.{spaced};
 
 use crate::fact_text::{push_mode, push_what};
 use crate::line_text::LineText;
-use login_base::{HandleNo, NoMemory, SeatName, SessId, Uid, escape};
-use login_model::{Answer, Created, Input, KnownUser, Lock, Say, SessionRow};
+use login_base::{ConnId, HandleNo, NoMemory, SeatName, SessId, Uid, escape};
+use login_model::{
+    Answer, Boxed, Created, Inhibited, Input, KnownUser, Lock, PropertyRow, PropertyValue, Say,
+    SessionRow,
+};
 
 /// A value of an array.
 trait Value {
@@ -118,11 +122,7 @@ fn push_why(text: &mut LineText, lock: &Lock) -> Result<(), NoMemory>
 fn push_say(text: &mut LineText, say: Say) -> Result<(), NoMemory>
     ensures { OnOk result (text.new ≡ text.old ++ 32 ∷ say_word say) }
 {
-    match say {
-        Say::No => text.word(b"no"),
-        Say::Challenge => text.word(b"challenge"),
-        Say::Yes => text.word(b"yes"),
-    }
+    text.word(say.name())
 }
 
 /// Adds the handle with which a device was taken, and whether the session is inactive.
@@ -190,6 +190,29 @@ impl Value for SeatName {
     }
 }
 
+impl Value for SessId {
+    ghost spelled = { session_reference };
+
+    fn push_to(&self, text: &mut LineText) -> Result<(), NoMemory> {
+        text.push(b"(c")?;
+        text.digits(self.0)?;
+        push_session_path(text, *self)?;
+        text.push(b")")
+    }
+}
+
+impl Value for PropertyRow {
+    ghost spelled = { property_value };
+
+    fn push_to(&self, text: &mut LineText) -> Result<(), NoMemory> {
+        text.push(b"{")?;
+        text.push(self.property.name())?;
+        text.push(b" ")?;
+        push_variant(text, &self.value)?;
+        text.push(b"}")
+    }
+}
+
 /// Adds values, a space before each.
 fn push_more<T: Value>(text: &mut LineText, values: &[T]) -> Result<(), NoMemory>
     ensures { OnOk result (text.new ≡ text.old ++ flat_map (λ (x : T). 32 ∷ T.spelled x) values.now) }
@@ -222,6 +245,121 @@ fn push_array<T: Value>(text: &mut LineText, values: &[T]) -> Result<(), NoMemor
     text.push(b"]")
 }
 
+/// Adds what locks hold up, or the empty text where they hold up nothing.
+fn push_held(text: &mut LineText, what: &Inhibited) -> Result<(), NoMemory>
+    ensures { OnOk result (text.new ≡ text.old ++ or_empty (what_text what.now)) }
+{
+    let word = what.text(text.alloc())?;
+    match word.as_slice() {
+        [] => text.push(b"%"),
+        held => text.push(held),
+    }
+}
+
+/// Adds a user by number and path.
+fn push_user_reference(text: &mut LineText, uid: Uid) -> Result<(), NoMemory>
+    ensures { OnOk result (text.new ≡ text.old ++ user_reference uid) }
+{
+    text.push(b"(")?;
+    text.digits(uid.0)?;
+    push_user_path(text, uid)?;
+    text.push(b")")
+}
+
+/// Adds a seat by name and path, if there is one.
+fn push_seat_or_none(text: &mut LineText, seat: &Option<Boxed<SeatName>>) -> Result<(), NoMemory>
+    ensures { OnOk result (text.new ≡ text.old ++ seat_or_none seat.now) }
+{
+    match seat {
+        Some(seat) => seat.get().push_to(text),
+        None => text.push(b"(% /)"),
+    }
+}
+
+/// Adds a session by id and path, if there is one.
+fn push_session_or_none(text: &mut LineText, session: Option<SessId>) -> Result<(), NoMemory>
+    ensures { OnOk result (text.new ≡ text.old ++ session_or_none session) }
+{
+    match session {
+        Some(session) => session.push_to(text),
+        None => text.push(b"(% /)"),
+    }
+}
+
+/// Adds the type of a property and its value.
+fn push_typed(text: &mut LineText, value: &PropertyValue) -> Result<(), NoMemory>
+    ensures { OnOk result (text.new ≡ text.old ++ join_with_byte 32 (typed value.now)) }
+{
+    match value {
+        PropertyValue::Text(word) => {
+            text.push(b"s")?;
+            text.text(word.as_slice())
+        }
+        PropertyValue::Number(number) => {
+            text.push(b"u")?;
+            text.number(*number)
+        }
+        PropertyValue::Count(number) => {
+            text.push(b"t")?;
+            text.number(*number)
+        }
+        PropertyValue::Time(time) => {
+            text.push(b"t ")?;
+            text.microseconds(time.0)
+        }
+        PropertyValue::Flag(flag) => {
+            text.push(b"b")?;
+            text.flag(*flag)
+        }
+        PropertyValue::Inhibited(what) => {
+            text.push(b"s ")?;
+            push_held(text, what)
+        }
+        PropertyValue::User(uid) => {
+            text.push(b"(uo) ")?;
+            push_user_reference(text, *uid)
+        }
+        PropertyValue::Seat(seat) => {
+            text.push(b"(so) ")?;
+            push_seat_or_none(text, seat)
+        }
+        PropertyValue::Session(session) => {
+            text.push(b"(so) ")?;
+            push_session_or_none(text, *session)
+        }
+        PropertyValue::Sessions(sessions) => {
+            text.push(b"a(so)")?;
+            push_array(text, sessions.as_slice())
+        }
+    }
+}
+
+/// Adds a property's value with its type.
+#[tactic(auto, unfolding(crate::specs::AnswerWords::variant))]
+fn push_variant(text: &mut LineText, value: &PropertyValue) -> Result<(), NoMemory>
+    ensures { OnOk result (text.new ≡ text.old ++ variant value.now) }
+{
+    text.push(b"<")?;
+    push_typed(text, value)?;
+    text.push(b">")
+}
+
+/// Adds a property's value with its type, as a word.
+fn push_property(text: &mut LineText, value: &PropertyValue) -> Result<(), NoMemory>
+    ensures { OnOk result (text.new ≡ text.old ++ 32 ∷ variant value.now) }
+{
+    text.push(b" ")?;
+    push_variant(text, value)
+}
+
+/// Adds the unique name of a connection.
+fn push_unique_name(text: &mut LineText, who: ConnId) -> Result<(), NoMemory>
+    ensures { OnOk result (text.new ≡ text.old ++ 32 ∷ unique_name who) }
+{
+    text.push(b" :1.")?;
+    text.digits(who.0)
+}
+
 /// Adds the values of an answer.
 #[tactic(auto, unfolding(crate::specs::AnswerWords::answer_words))]
 pub(crate) fn push_answer(text: &mut LineText, answer: &Answer) -> Result<(), NoMemory>
@@ -241,5 +379,9 @@ pub(crate) fn push_answer(text: &mut LineText, answer: &Answer) -> Result<(), No
         Answer::Inputs(inputs) => push_array(text, inputs.as_slice()),
         Answer::Handle(handle) => text.number(handle.0),
         Answer::Taken(handle, inactive) => push_taken(text, *handle, *inactive),
+        Answer::Property(value) => push_property(text, value),
+        Answer::Properties(rows) => push_array(text, rows.as_slice()),
+        Answer::MachineId(guid) => text.text(guid.as_slice()),
+        Answer::UniqueName(who) => push_unique_name(text, *who),
     }
 }

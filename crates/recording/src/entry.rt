@@ -22,7 +22,7 @@ use std::alloc::Global;
 pub enum WriteEnd {
     /// A write failed. The sink took a front of the text, maybe none of it.
     WriteFault,
-    /// There was no memory. Nothing was written.
+    /// There was no memory. Of one entry or one line nothing was written.
     NoMemory,
 }
 

@@ -1,8 +1,8 @@
 // How facts are printed.
 
 ghost use Rattle.std.specs.Prelude.{◌≡◌, ◌++◌, ◌∷◌, OnOk, IfOk};
-ghost use Rattle.login_model.specs.Words.{type_word, class_word, whom_word, mode_word};
-ghost use Rattle.recording.specs.MarkWords.{absent_word, session_words_at, or_dash, owner_words, chosen_word, handled_words, inhibited_words, what_word, lock_words, skip_word, progress_words, fact_words};
+ghost use Rattle.login_model.specs.Words.{type_word, class_word, whom_word, mode_word, what_text};
+ghost use Rattle.recording.specs.MarkWords.{absent_word, session_words_at, or_dash, owner_words, lock_words, skip_word, progress_words, fact_words};
 ghost use Rattle.recording.specs.inner.Spaced.{spaced};
 
 use crate::call::push_operation;
@@ -102,48 +102,12 @@ fn push_owner(text: &mut LineText, owner: &Owner) -> Result<(), NoMemory>
     }
 }
 
-/// Adds a colon and a word, where it is chosen.
-fn push_chosen(text: &mut LineText, on: bool, word: &[u8]) -> Result<(), NoMemory>
-    ensures { OnOk result (text.new ≡ text.old ++ chosen_word on word.now) }
-{
-    if !on {
-        return Ok(());
-    }
-    text.push(b":")?;
-    text.push(word)
-}
-
-/// Adds the keys and the lid that a lock holds up, each behind a colon.
-fn push_handled(text: &mut LineText, what: &Inhibited) -> Result<(), NoMemory>
-    ensures { OnOk result (text.new ≡ text.old ++ handled_words what.now) }
-{
-    push_chosen(text, what.handle_power_key, b"handle-power-key")?;
-    push_chosen(text, what.handle_suspend_key, b"handle-suspend-key")?;
-    push_chosen(text, what.handle_hibernate_key, b"handle-hibernate-key")?;
-    push_chosen(text, what.handle_lid_switch, b"handle-lid-switch")
-}
-
-/// Adds what a lock holds up, each behind a colon.
-fn push_inhibited(text: &mut LineText, what: &Inhibited) -> Result<(), NoMemory>
-    ensures { OnOk result (text.new ≡ text.old ++ inhibited_words what.now) }
-{
-    push_chosen(text, what.shutdown, b"shutdown")?;
-    push_chosen(text, what.sleep, b"sleep")?;
-    push_chosen(text, what.idle, b"idle")?;
-    push_handled(text, what)
-}
-
 /// Adds what a lock holds up as one word.
 pub(crate) fn push_what(text: &mut LineText, what: &Inhibited) -> Result<(), NoMemory>
-    ensures { OnOk result (text.new ≡ text.old ++ what_word what.now) }
+    ensures { OnOk result (text.new ≡ text.old ++ what_text what.now) }
 {
-    let mut words = LineText::new(text.alloc());
-    push_inhibited(&mut words, what)?;
-    let words = words.into_word();
-    match words.as_slice() {
-        [_, rest @ ..] => text.push(rest),
-        [] => Ok(()),
-    }
+    let word = what.text(text.alloc())?;
+    text.push(word.as_slice())
 }
 
 pub(crate) fn push_mode(text: &mut LineText, mode: LockMode) -> Result<(), NoMemory>

@@ -18,6 +18,7 @@ mod line_text;
 mod mark_text;
 mod meaning;
 mod notice_text;
+mod recorded;
 mod verdict_text;
 mod word;
 
@@ -28,3 +29,4 @@ pub use law::{one_grammar, spelled_again};
 pub use line::{Line, LineFault, read_line};
 pub use line_reader::{LineReader, Next};
 pub use line_text::LineText;
+pub use recorded::write_recording;

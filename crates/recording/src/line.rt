@@ -3,11 +3,10 @@
 ghost use Rattle.std.specs.Prelude.{◌≡◌, ◌≢◌, ◌⊎◌, Ok, Err, ◌++◌, ◌∷◌, [], map, IfOk, ◌==◌, Some, None};
 ghost use Rattle.std.specs.List.{slice_split, join_with_byte, list_any};
 ghost use Rattle.recording.specs.Lines.{IsLine};
-ghost use Rattle.recording.specs.Unbuilt.{IsUnbuilt};
 ghost use Rattle.recording.specs.declared.argument.WordKind.{WordKind};
 ghost use Rattle.recording.specs.Shapes.{behind_in, line_shapes};
 ghost use Rattle.recording.specs.Causes.{first_fault, end_fault, known_fault, line_fault, words_fault};
-ghost use Rattle.recording.specs.Meaning.{is_built_line, built, IsReadAs};
+ghost use Rattle.recording.specs.Meaning.{IsReadAs, Means};
 ghost use Rattle.recording.specs.inner.Arguments.{Reads};
 ghost use Rattle.recording.specs.inner.LineReadings.{action_of, known_line_of, line_of};
 
@@ -16,7 +15,7 @@ use crate::event::{read_event_line, read_request};
 use crate::meaning::meant;
 use crate::word::{LONGEST_TEXT, is_word};
 use login_base::{Bytes, ConnId, Uid, Word};
-use login_model::{Event, UserRow, is_built};
+use login_model::{Event, UserRow};
 use std::alloc::{AllocError, Global};
 
 /// A line of a recording.
@@ -64,8 +63,6 @@ pub enum LineFault {
     BadName,
     /// There is no line feed.
     Ended,
-    /// The line is one of the grammar, but its call is not built.
-    NotBuilt,
     NoMemory,
 }
 
@@ -147,23 +144,15 @@ fn read_words(alloc: Global, words: &[&[u8]]) -> Result<Line, LineFault>
     }
 }
 
-/// What a written event means, if it is built.
-fn built_event(event: Event) -> Result<Line, LineFault>
-    ensures { result ≡ built (Line.Event event) }
-{
-    if is_built(&event) {
-        Ok(Line::Event(meant(event)))
-    } else {
-        Err(LineFault::NotBuilt)
-    }
-}
-
-/// What a written line means, if it is built.
-fn built(line: Line) -> Result<Line, LineFault>
-    ensures { result ≡ built line }
+/// What a written line means. It is refused for want of memory alone.
+fn meant_line(alloc: Global, line: Line) -> Result<Line, LineFault>
+    ensures { Means line result }
 {
     match line {
-        Line::Event(event) => built_event(event),
+        Line::Event(event) => match meant(alloc, event) {
+            Ok(event) => Ok(Line::Event(event)),
+            Err(_) => Err(LineFault::NoMemory),
+        },
         other => Ok(other),
     }
 }
@@ -188,9 +177,7 @@ pub fn read_line(alloc: Global, bytes: &[u8]) -> Result<Line, LineFault>
     ensures found { IfOk result (λ line. IsReadAs bytes.now line) }
     ensures fits { IfOk result (λ line. IsLine line) }
     ensures read { (line : Line) → IsReadAs bytes.now line → (result ≡ Ok line) ⊎ (result ≡ Err LineFault.NoMemory) }
-    ensures not_built { result ≡ Err LineFault.NotBuilt → IsUnbuilt bytes.now }
-    ensures unbuilt { IsUnbuilt bytes.now → (result ≡ Err LineFault.NotBuilt) ⊎ (result ≡ Err LineFault.NoMemory) }
-    ensures cause { (fault : LineFault) → result ≡ Err fault → fault ≢ LineFault.NoMemory → fault ≢ LineFault.NotBuilt → line_fault bytes.now ≡ Some fault }
+    ensures cause { (fault : LineFault) → result ≡ Err fault → fault ≢ LineFault.NoMemory → line_fault bytes.now ≡ Some fault }
     ensures refused { (fault : LineFault) → line_fault bytes.now ≡ Some fault → (result ≡ Err fault) ⊎ (result ≡ Err LineFault.NoMemory) }
 {
     let Some((last, text)) = bytes.split_last() else {
@@ -210,7 +197,7 @@ pub fn read_line(alloc: Global, bytes: &[u8]) -> Result<Line, LineFault>
         return Err(LineFault::NoMemory);
     };
     match read_words(alloc, &words) {
-        Ok(line) => built(line),
+        Ok(line) => meant_line(alloc, line),
         Err(fault) => Err(fault),
     }
 }

@@ -1,6 +1,6 @@
 // The text of lines while it is printed.
 
-ghost use Rattle.std.specs.Prelude.{◌≡◌, ◌+◌, ◌≤◌, ◌++◌, ◌∷◌, [], OnOk, IfOk, vec_len, vec_capacity};
+ghost use Rattle.std.specs.Prelude.{◌≡◌, ◌+◌, ◌*◌, ◌≤◌, ◌++◌, ◌∷◌, [], OnOk, IfOk, vec_len, vec_capacity};
 ghost use Rattle.std.specs.Fmt.{decimal, signed_decimal};
 ghost use Rattle.std.specs.List.{flat_map};
 ghost use Rattle.login_base.specs.SessionId.{session_text};
@@ -110,6 +110,15 @@ impl LineText {
     {
         self.push(b" ")?;
         self.decimal(n)
+    }
+
+    /// Adds a number of milliseconds as microseconds.
+    pub(crate) fn microseconds(&mut self, n: u64) -> Result<(), NoMemory>
+        ensures { OnOk result (self.new ≡ self.old ++ decimal (n * 1000)) }
+    {
+        let number = u128::from(n) * 1000;
+        let digits = format!(in self.alloc(); "{number}")?;
+        self.push(digits.as_bytes())
     }
 
     /// Adds a space and a signed number in decimal.

@@ -1,13 +1,14 @@
 // What a written event means.
 
-ghost use Rattle.std.specs.Prelude.{◌≡◌, true, nat_le, length};
+ghost use Rattle.std.specs.Prelude.{◌≡◌, true, nat_le, length, IfOk};
 ghost use Rattle.login_model.specs.Texts.{has_object};
-ghost use Rattle.recording.specs.Meaning.{are_short, meant_call, meant_event, has_object_event};
+ghost use Rattle.recording.specs.Meaning.{are_short, meant_call, meant_event};
 ghost use Rattle.login_model.specs.Limits.{text_limit};
 
 use crate::word::LONGEST_ID;
-use login_base::Word;
-use login_model::{Call, Creation, Event, PropertyName, Request};
+use login_base::{NoMemory, Word};
+use login_model::{Call, Creation, Event, PropertyName, Request, is_object};
+use std::alloc::Global;
 
 fn is_short(text: &Word) -> bool
     ensures { result ≡ nat_le (length text.now) text_limit }
@@ -77,8 +78,19 @@ fn are_short(call: &Call) -> bool
     }
 }
 
-/// What a call means that is written so.
-fn meant_call(call: Call) -> Call
+/// Whether the path of a property's call is that of an object with properties; other calls have no path.
+fn has_object(alloc: Global, call: &Call) -> Result<bool, NoMemory>
+    ensures { IfOk result (λ has. has ≡ has_object call.now) }
+{
+    match call {
+        Call::GetProperty(x) | Call::SetProperty(x) => is_object(alloc, x.path.as_slice()),
+        Call::GetAllProperties(path, _) => is_object(alloc, path.as_slice()),
+        _ => Ok(true),
+    }
+}
+
+/// What a call means that is written so, where its path is of an object, or it has none.
+fn meant_there(call: Call) -> Call
     requires { has_object call ≡ true }
     ensures { result ≡ meant_call call }
 {
@@ -89,10 +101,26 @@ fn meant_call(call: Call) -> Call
     }
 }
 
+/// What a call means that is written so.
+fn meant_call(alloc: Global, call: Call) -> Result<Call, NoMemory>
+    ensures { IfOk result (λ meant. meant ≡ meant_call call) }
+{
+    match has_object(alloc, &call) {
+        Ok(true) => Ok(meant_there(call)),
+        Ok(false) => {
+            drop(call);
+            Ok(Call::NoObject)
+        }
+        Err(NoMemory) => {
+            drop(call);
+            Err(NoMemory)
+        }
+    }
+}
+
 /// What an event means that is written so.
-pub(crate) fn meant(event: Event) -> Event
-    requires { has_object_event event ≡ true }
-    ensures { result ≡ meant_event event }
+pub(crate) fn meant(alloc: Global, event: Event) -> Result<Event, NoMemory>
+    ensures { IfOk result (λ meant. meant ≡ meant_event event) }
 {
     match event {
         Event::Call(request) => {
@@ -102,13 +130,14 @@ pub(crate) fn meant(event: Event) -> Event
                 quiet,
                 call,
             } = request;
-            Event::Call(Request {
+            let call = meant_call(alloc, call)?;
+            Ok(Event::Call(Request {
                 who,
                 serial,
                 quiet,
-                call: meant_call(call),
-            })
+                call,
+            }))
         }
-        other => other,
+        other => Ok(other),
     }
 }

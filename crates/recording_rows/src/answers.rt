@@ -1,9 +1,10 @@
 // The values of each answer. Lists of sessions and users are printed in whole runs too, in `login_rows`.
 
 use crate::entries::is_printed;
-use login_base::{ConnId, HandleNo, Items, NoMemory, SeatName, SessId, Uid, Word};
+use login_base::{ConnId, HandleNo, Items, Millis, NoMemory, SeatName, SessId, Uid, Word};
 use login_model::{
-    Answer, Boxed, Inhibited, Input, KnownUser, Lock, LockMode, Say, SessionRow, Verdict,
+    Answer, Boxed, Inhibited, Input, KnownUser, Lock, LockMode, ManagerProperty, Property,
+    PropertyRow, PropertyValue, Say, SessionRow, Verdict,
 };
 use std::alloc::Global;
 use std::process::Abort;
@@ -172,4 +173,146 @@ fn what_devices_reported(rt: HostRuntime) -> Result<(), Fail> {
     }
     let expected = b" granted [(1 30 1) (3 65535 -2147483648)]\n";
     is_answered(&rt, rt.alloc(), Answer::Inputs(inputs), expected)
+}
+
+/// The value is printed so.
+fn is_valued(
+    rt: &impl Abort,
+    alloc: Global,
+    value: PropertyValue,
+    expected: &[u8],
+) -> Result<(), Fail> {
+    is_answered(rt, alloc, Answer::Property(value), expected)
+}
+
+#[test]
+fn values_of_single_types(rt: HostRuntime) -> Result<(), Fail> {
+    let alloc = rt.alloc();
+    let text = Word::from_slice(alloc, b"a b")?;
+    is_valued(
+        &rt,
+        alloc,
+        PropertyValue::Text(text),
+        b" granted <s a%20b>\n",
+    )?;
+    is_valued(
+        &rt,
+        alloc,
+        PropertyValue::Text(Word::new(alloc)),
+        b" granted <s %>\n",
+    )?;
+    is_valued(
+        &rt,
+        alloc,
+        PropertyValue::Number(4294967295),
+        b" granted <u 4294967295>\n",
+    )?;
+    is_valued(&rt, alloc, PropertyValue::Count(3), b" granted <t 3>\n")?;
+    is_valued(
+        &rt,
+        alloc,
+        PropertyValue::Time(Millis(18446744073709551615)),
+        b" granted <t 18446744073709551615000>\n",
+    )?;
+    is_valued(
+        &rt,
+        alloc,
+        PropertyValue::Flag(true),
+        b" granted <b true>\n",
+    )?;
+    is_valued(
+        &rt,
+        alloc,
+        PropertyValue::Inhibited(a_lock(alloc)?.what),
+        b" granted <s sleep:handle-lid-switch>\n",
+    )
+}
+
+#[test]
+fn values_with_paths(rt: HostRuntime) -> Result<(), Fail> {
+    let alloc = rt.alloc();
+    is_valued(
+        &rt,
+        alloc,
+        PropertyValue::User(Uid(7)),
+        b" granted <(uo) (7 /org/freedesktop/login1/user/_7)>\n",
+    )?;
+    let seat = Boxed::new(alloc, SeatName::read(b"seat-x")?)?;
+    is_valued(
+        &rt,
+        alloc,
+        PropertyValue::Seat(Some(seat)),
+        b" granted <(so) (seat-x /org/freedesktop/login1/seat/seat_2dx)>\n",
+    )?;
+    is_valued(
+        &rt,
+        alloc,
+        PropertyValue::Seat(None),
+        b" granted <(so) (% /)>\n",
+    )
+}
+
+#[test]
+fn values_with_sessions(rt: HostRuntime) -> Result<(), Fail> {
+    let alloc = rt.alloc();
+    is_valued(
+        &rt,
+        alloc,
+        PropertyValue::Session(Some(SessId(3))),
+        b" granted <(so) (c3 /org/freedesktop/login1/session/c3)>\n",
+    )?;
+    is_valued(
+        &rt,
+        alloc,
+        PropertyValue::Session(None),
+        b" granted <(so) (% /)>\n",
+    )?;
+    let mut sessions = Items::new(alloc);
+    sessions.push(SessId(3))?;
+    sessions.push(SessId(12))?;
+    is_valued(
+        &rt,
+        alloc,
+        PropertyValue::Sessions(sessions),
+        b" granted <a(so) [(c3 /org/freedesktop/login1/session/c3) (c12 /org/freedesktop/login1/session/c12)]>\n",
+    )
+}
+
+#[test]
+fn rows_of_properties_and_the_bus(rt: HostRuntime) -> Result<(), Fail> {
+    let alloc = rt.alloc();
+    let mut rows = Items::new(alloc);
+    rows.push(PropertyRow {
+        property: Property::Manager(ManagerProperty::CurrentSessions),
+        value: PropertyValue::Count(2),
+    })?;
+    rows.push(PropertyRow {
+        property: Property::Manager(ManagerProperty::Docked),
+        value: PropertyValue::Flag(false),
+    })?;
+    is_answered(
+        &rt,
+        alloc,
+        Answer::Properties(rows),
+        b" granted [{NCurrentSessions <t 2>} {Docked <b false>}]\n",
+    )?;
+    is_answered(
+        &rt,
+        alloc,
+        Answer::Properties(Items::new(alloc)),
+        b" granted []\n",
+    )?;
+    is_answered(
+        &rt,
+        alloc,
+        Answer::UniqueName(ConnId(7)),
+        b" granted :1.7\n",
+    )?;
+    let guid = Word::from_slice(alloc, b"00112233445566778899aabbccddeeff")?;
+    is_answered(
+        &rt,
+        alloc,
+        Answer::MachineId(guid),
+        b" granted 00112233445566778899aabbccddeeff\n",
+    )
 }

@@ -66,26 +66,19 @@ const LINES: [(Option<LineFault>, &str); 7] = [
     ),
 ];
 
-/// The same of calls.
-const CALLS: [(Option<LineFault>, &str); 2] = [
-    (
-        Some(LineFault::NotBuilt),
-        "get x % a/get-all x %/set x % a/ping/machine-id/hello/owner x/add-match %/remove-match %",
-    ),
-    (
-        None,
-        "create 1000 1 login x11 greeter % seat-x 64 tty1 :0 true bob far/get-session c1/\
-         get-user 1000/get-seat seat0/list-sessions/list-users/list-seats/activate c1/\
-         activate-on c1 seat0/lock c1/unlock c1/lock-all/unlock-all/kill c1 all -1/\
-         kill-user 1000 9/terminate c1/terminate-user 1000/terminate-seat seat0/linger 1000 true/\
-         idle c1 true/locked c1 false/control c1 true/uncontrol c1/switch seat0 2/next seat0/\
-         prev seat0/take c1 226 4294967295/release c1 226 0/paused c1 226 0/\
-         read 4294967295/set-mode 1 4294967295/\
-         close 1/no-object/no-method/bad-args/nothing/list-inhibitors/power hybrid-sleep/\
-         power suspend-then-hibernate/can poweroff/can reboot/inhibit sleep a b delay/\
-         inhibit % % % %/inhibit idle:desk a%20b c%0a weak",
-    ),
-];
+/// Calls that have none.
+const CALLS: &str =
+    "create 1000 1 login x11 greeter % seat-x 64 tty1 :0 true bob far/get-session c1/\
+     get-user 1000/get-seat seat0/list-sessions/list-users/list-seats/activate c1/\
+     activate-on c1 seat0/lock c1/unlock c1/lock-all/unlock-all/kill c1 all -1/\
+     kill-user 1000 9/terminate c1/terminate-user 1000/terminate-seat seat0/linger 1000 true/\
+     idle c1 true/locked c1 false/control c1 true/uncontrol c1/switch seat0 2/next seat0/\
+     prev seat0/take c1 226 4294967295/release c1 226 0/paused c1 226 0/\
+     read 4294967295/set-mode 1 4294967295/\
+     close 1/no-object/no-method/bad-args/nothing/list-inhibitors/power hybrid-sleep/\
+     power suspend-then-hibernate/can poweroff/can reboot/inhibit sleep a b delay/\
+     inhibit % % % %/inhibit idle:desk a%20b c%0a weak/get x % a/get-all x %/set x % a/ping/\
+     machine-id/hello/owner x/owner %/add-match %/remove-match a%20b";
 
 /// A front of a line, how many bytes `x` stand behind it, its end, and its cause.
 const EDGES: [(&[u8], usize, &[u8], Option<LineFault>); 18] = [
@@ -95,7 +88,7 @@ const EDGES: [(&[u8], usize, &[u8], Option<LineFault>); 18] = [
     (b"exit ", 513, b"\n", Some(LineFault::BadName)),
     (b"call 1 1 uncontrol ", 512, b"\n", None),
     (b"call 1 1 uncontrol ", 513, b"\n", None),
-    (b"call 1 1 owner ", 513, b"\n", Some(LineFault::NotBuilt)),
+    (b"call 1 1 owner ", 513, b"\n", None),
     (b"conf ", 16379, b"\n", None),
     (b"conf ", 16380, b"\n", Some(LineFault::TooLong)),
     (b"frob ", 16380, b"\n", Some(LineFault::TooLong)),
@@ -137,17 +130,15 @@ fn lines_have_their_causes(rt: HostRuntime) -> Result<(), Fail> {
 }
 
 #[test]
-fn calls_have_their_causes(rt: HostRuntime) -> Result<(), Fail> {
-    for (expected, calls) in &CALLS {
-        for call in calls.split('/') {
-            for front in ["call", "send"] {
-                let line = format!(in rt.alloc(); "{front} 1 1 {call}")?;
-                assert_eq!(rt;
-                    fault(rt.alloc(), line.as_bytes(), 0, b"\n")?,
-                    *expected,
-                    "{line}"
-                );
-            }
+fn calls_are_read(rt: HostRuntime) -> Result<(), Fail> {
+    for call in CALLS.split('/') {
+        for front in ["call", "send"] {
+            let line = format!(in rt.alloc(); "{front} 1 1 {call}")?;
+            assert_eq!(rt;
+                fault(rt.alloc(), line.as_bytes(), 0, b"\n")?,
+                None,
+                "{line}"
+            );
         }
     }
     Ok(())

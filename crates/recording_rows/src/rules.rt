@@ -6,7 +6,7 @@ use login_model::{Action, Answer, Limit, OpKind, PowerAction, Qualifier, Rule, V
 use std::test::Fail;
 
 /// How each rule is printed.
-const DENIALS: [(Rule, &[u8]); 39] = [
+const DENIALS: [(Rule, &[u8]); 41] = [
     (Rule::UnknownObject, b" denied P01 unknown-object\n"),
     (Rule::UnknownMethod, b" denied P02 unknown-method\n"),
     (Rule::BadArguments, b" denied P03 bad-arguments\n"),
@@ -47,6 +47,8 @@ const DENIALS: [(Rule, &[u8]); 39] = [
     ),
     (Rule::Controlled(ConnId(7)), b" denied P17 controlled 7\n"),
     (Rule::VtBusy(SessId(12)), b" denied P21 vt-busy c12\n"),
+    (Rule::UnknownProperty, b" denied P22 unknown-property\n"),
+    (Rule::ReadOnlyProperty, b" denied P22 read-only-property\n"),
     (
         Rule::OperationInProgress(OpKind::PowerOff),
         b" denied P23 operation-in-progress poweroff\n",

@@ -6,20 +6,11 @@ use Rattle.login_model.specs.declared.call.Call.{Call}
 use Rattle.login_model.specs.declared.call.Call.TheVariants as call
 use Rattle.login_model.specs.declared.event.Event.{Event}
 use Rattle.login_model.specs.declared.event.Event.TheVariants.{Connect, Call as Calls}
-use Rattle.login_model.specs.Built.{is_built_call, is_built}
 use Rattle.login_model.specs.Texts.{IsText, texts, has_object}
 use Rattle.recording.specs.Calls.{FitsCall}
 use Rattle.recording.specs.EventSpelling.{Fits, IsWrittenEvent}
-use Rattle.recording.specs.Lines.{IsEventLine}
 use Rattle.recording.specs.Meaning.{are_short, meant_call, meant_event}
 use Rattle.recording.proofs.Texts.{both}
-
--- a call that is built names no object with properties
-built_has_object : (c : Call) → is_built_call c ≡ true → has_object c ≡ true
-built_has_object (call.GetProperty x) e = cc
-built_has_object (call.GetAllProperties path interface) e = cc
-built_has_object (call.SetProperty x) e = cc
-built_has_object _ e = refl
 
 -- texts of at most 512 bytes
 shorter : (ts : List (List ℕ)) → list_all (λ t. leb (length t) 512) ts ≡ true → AllByRecursion (IsText 16384) ts → AllByRecursion (IsText 512) ts
@@ -47,30 +38,29 @@ record IsCallLine (c : Call) : Type 0 where
   fits : FitsCall c
   short : AllByRecursion (IsText 512) (texts c)
   object : has_object c ≡ true
-  built : is_built_call c ≡ true
 
--- what a call that is built means is one of these
-meant_fits : (c : Call) → is_built_call c ≡ true → FitsCall c → AllByRecursion (IsText 16384) (texts c) → IsCallLine (meant_call c)
-meant_fits c b f t = by (are_short c) refl
+-- what a written call means is one of these
+meant_fits : (c : Call) → FitsCall c → AllByRecursion (IsText 16384) (texts c) → IsCallLine (meant_call c)
+meant_fits c f t = by (has_object c) (are_short c) refl refl
   where
-    object : has_object c ≡ true
-    object = built_has_object c b
+    by : (x y : Bool) → has_object c ≡ x → are_short c ≡ y → IsCallLine (meant_call c)
+    by true true g h =
+        let same : meant_call c ≡ c = rw (g, h) refl in
+        subst IsCallLine (sym same) (record { fits = f; short = shorter (texts c) h t; object = g })
+    by true false g h =
+        let other : meant_call c ≡ call.BadArguments = rw (g, h) refl in
+        subst IsCallLine (sym other) (record { fits = tt; short = tt; object = refl })
+    by false y g h =
+        let other : meant_call c ≡ call.NoObject = rw g refl in
+        subst IsCallLine (sym other) (record { fits = tt; short = tt; object = refl })
 
-    by : (x : Bool) → are_short c ≡ x → IsCallLine (meant_call c)
-    by true h =
-        let same : meant_call c ≡ c = rw (object, h) refl in
-        subst IsCallLine (sym same) (record { fits = f; short = shorter (texts c) h t; object = object; built = b })
-    by false h =
-        let other : meant_call c ≡ call.BadArguments = rw (object, h) refl in
-        subst IsCallLine (sym other) (record { fits = tt; short = tt; object = refl; built = refl })
-
--- what a written event that is built means is one of a line of a recording
-pub meant_line : (e : Event) → IsWrittenEvent e → is_built e ≡ true → IsEventLine (meant_event e)
-meant_line (Calls r) w b =
-    let t = meant_fits r.call b w.4 w.5 in
-    record { fits = (w.0, w.1, w.2, w.3, t.fits, t.short, t.object); built = t.built }
-meant_line (Connect c u) w b = record { fits = w; built = refl }
-meant_line _ w b = record { fits = w; built = refl }
+-- what a written event means is one of a line of a recording
+pub event_meant : (e : Event) → IsWrittenEvent e → Fits (meant_event e)
+event_meant (Calls r) w =
+    let t = meant_fits r.call w.4 w.5 in
+    (w.0, w.1, w.2, w.3, t.fits, t.short, t.object)
+event_meant (Connect c u) w = w
+event_meant _ w = w
 
 -- an event of a line of a recording is written, and it means itself
 pub event_written : (e : Event) → Fits e → IsWrittenEvent e
