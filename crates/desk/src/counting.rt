@@ -101,6 +101,49 @@ impl Act<Counts> for CountUp {
     }
 }
 
+/// Makes one count whose number is that of the counts before it, up to the greatest, and answers whether there
+/// was room for it.
+#[derive(Drop)]
+pub struct CountOn;
+
+impl Act<Counts> for CountOn {
+    ghost use Rattle.std.specs.Prelude.{◌-◌, ◌^◌, length, min};
+    ghost use Rattle.desk.specs.Counting.{CountsUp};
+
+    type Answer = bool;
+
+    ghost does = { λ before who most old new after answer. CountsUp most who (min (length old) (2 ^ 32 - 1)) old new answer };
+
+    ghost may = { λ act mine. Unit {0} };
+
+    ghost after = { λ act. [] };
+
+    fn act(&mut self, value: &mut Counts, who: ConnId) -> bool {
+        let number = value.counts.len().min(u32::MAX as usize) as u32;
+        CountUp { number }.act(value, who)
+    }
+}
+
+/// Answers how many counts there are, and makes none.
+#[derive(Drop)]
+pub struct HowMany;
+
+impl Act<Counts> for HowMany {
+    ghost use Rattle.std.specs.Prelude.{◌≡◌, length};
+
+    type Answer = usize;
+
+    ghost does = { λ before who most old new after answer. (new ≡ old) × (answer ≡ length old) };
+
+    ghost may = { λ act mine. Unit {0} };
+
+    ghost after = { λ act. [] };
+
+    fn act(&mut self, value: &mut Counts, _who: ConnId) -> usize {
+        value.counts.len()
+    }
+}
+
 /// Counts from 0 up to below `most`, and stops where there is no room.
 pub fn count_to<R: Wait>(
     rt: &R,

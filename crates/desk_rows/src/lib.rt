@@ -5,3 +5,5 @@
 
 #[cfg(test)]
 mod counts;
+#[cfg(test)]
+mod crowd;
