@@ -2,7 +2,9 @@
 #![tactic(auto)]
 
 mod command;
+mod outside;
 mod words;
 
 pub use command::run;
+pub use outside::Outside;
 pub use replay::StatusLine;

@@ -29,7 +29,7 @@ use Rattle.replay.specs.Causes.{IsOwnCause, IsCause, refused_line}
 use Rattle.replay.specs.Transcript.{entries_text}
 use Rattle.replay.specs.Outcome.{RefusedAt, FullAt, Broken, Fronted, IsPast, IsRefusal, IsUnderWay}
 use Rattle.replay.specs.declared.cause.Cause.{Cause}
-use Rattle.replay.specs.declared.cause.Cause.TheVariants.{UnknownWord, BadNumber, BadHex, MissingWord, ExtraWord, TooLong, WrongPlace, BadName, BadAction, Ended, NotBuilt}
+use Rattle.replay.specs.declared.cause.Cause.TheVariants.{UnknownWord, BadNumber, BadHex, MissingWord, ExtraWord, TooLong, WrongPlace, BadName, BadAction, Ended}
 use Rattle.replay.proofs.Written.{told_split, one_line, first_is_read, text_is_some, read_some}
 use Rattle.replay.proofs.Recordings.{nothing_played}
 use Rattle.replay.proofs.Refusals.{Stops, refused_next, refused_full}
@@ -197,7 +197,6 @@ own_is_cause WrongPlace f rest h = absurd h
 own_is_cause BadName f rest h = h
 own_is_cause BadAction f rest h = absurd h
 own_is_cause Ended f rest h = h
-own_is_cause NotBuilt f rest h = h
 
 -- whose line it is that is refused: but for that of an action it is the next one
 own_line : (cause : Cause) (f : Front) (rest : List ℕ) → IsOwnCause cause rest → refused_line cause f ≡ length (lines_of f) + 1
@@ -211,7 +210,6 @@ own_line WrongPlace f rest h = refl
 own_line BadName f rest h = refl
 own_line BadAction f rest h = absurd h
 own_line Ended f rest h = refl
-own_line NotBuilt f rest h = refl
 
 past_line : (cause : Cause) (f : Front) (rest : List ℕ) → IsPast cause rest → refused_line cause f ≡ length (lines_of f) + 1
 past_line TooLong f rest h = refl
@@ -224,7 +222,6 @@ past_line ExtraWord f rest h = refl
 past_line WrongPlace f rest h = refl
 past_line BadName f rest h = refl
 past_line BadAction f rest h = absurd h
-past_line NotBuilt f rest h = refl
 
 line_none : (f : Front) (left : Option (List ℕ)) (cause : Cause) → IfSome left (λ text. IsNoLine cause text) → IfSome left (λ rest. refused_line cause f ≡ length (lines_of f) + 1)
 line_none f None cause h = tt

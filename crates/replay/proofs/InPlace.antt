@@ -73,15 +73,15 @@ not-stopped-more J e n s =
 -- the disconnect of a connected client
 pub disconnect-placed : (J : List Entry) (c : ConnId) → is_connected (trail_of J) c ≡ true → IsPlaced J (event.Disconnect c)
 unfolding stopped
-disconnect-placed J c k = (k, refl, refl)
+disconnect-placed J c k = (k, refl)
 
 call-placed : (J : List Entry) (c : ConnId) (r : Request) → is_connected (trail_of J) c ≡ true → NotStopped J → r.who ≡ c → MayStand r → IsPlaced J (event.Call r)
 unfolding stopped
-call-placed J c r k n w m = ((ap (is_connected (trail_of J)) w ∙ k, m.serial, m.texts, m.object), no-number (stop_from 1 J) n, m.built)
+call-placed J c r k n w m = ((ap (is_connected (trail_of J)) w ∙ k, m.serial, m.texts, m.object), no-number (stop_from 1 J) n)
 
 connect-placed : (J : List Entry) (c : ConnId) (u : Uid) → 0 < c.0 → IsUnused c J → NotStopped J → IsPlaced J (event.Connect c u)
 unfolding stopped
-connect-placed J c u p i n = ((p, i), no-number (stop_from 1 J) n, refl)
+connect-placed J c u p i n = ((p, i), no-number (stop_from 1 J) n)
 
 -- the end of a connected link
 pub end-in-place : (U : Setup) (J : List Entry) (c : ConnId) (ends : Bool) → is_connected (trail_of J) c ≡ true → AreInPlace U J (turns_of c [] ends)

@@ -49,3 +49,8 @@ pub mod PieceLines
 pub mod EndsStay
 pub mod ToldLines
 pub mod UsedNumbers
+pub mod SameUsers
+pub mod OrderedUsers
+pub mod TextLines
+pub mod EventsFit
+pub mod RecordingPlays

@@ -72,7 +72,7 @@ named_fits played Stop f n = tt
 
 pub placed : (U : Setup) (played : List Played) (e : Event) → AreTurns U played → IsLegal U (journal_of played) → IsEventLine e → stopped (journal_of played) e ≡ None → IsNamed played e
     → IsPlaced (journal_of played) e × IsOfNoLink (played_lines played) e
-placed U played e turns legal l s n = ((fits_named played e l.fits n, s, l.built), no-link U played e turns legal n)
+placed U played e turns legal l s n = ((fits_named played e l n, s), no-link U played e turns legal n)
 
 pub placed_named : (played : List Played) (e : Event) → IsPlaced (journal_of played) e → IsOfNoLink (played_lines played) e → IsNamed played e
 placed_named played e h n = named_fits played e h.0 n

@@ -12,12 +12,11 @@ use Rattle.recording.specs.Next.{NextIs}
 use Rattle.replay.specs.inner.Ahead.{IsNoLine, Partly}
 use Rattle.replay.specs.Causes.{IsOwnCause, own_fault}
 use Rattle.replay.specs.declared.cause.Cause.{Cause}
-use Rattle.replay.specs.declared.cause.Cause.TheVariants.{UnknownWord, BadNumber, BadHex, MissingWord, ExtraWord, TooLong, WrongPlace, BadName, BadAction, Ended, NotBuilt}
+use Rattle.replay.specs.declared.cause.Cause.TheVariants.{UnknownWord, BadNumber, BadHex, MissingWord, ExtraWord, TooLong, WrongPlace, BadName, BadAction, Ended}
 use Rattle.recording.specs.declared.line.LineFault.{LineFault}
 use Rattle.recording.specs.declared.line.LineFault.TheVariants as fault
 use Rattle.recording.specs.Causes.{line_fault}
-use Rattle.recording.specs.Unbuilt.{IsUnbuilt}
-use Rattle.recording.proofs.LongLines.{fault_of_front, unbuilt_of_front}
+use Rattle.recording.proofs.LongLines.{fault_of_front}
 use Rattle.replay.specs.Written.{WereRead}
 use Rattle.replay.proofs.Written.{read_feed}
 
@@ -55,19 +54,18 @@ own_line : (text : List ℕ) (new : Reading) (cause : Cause) (f : LineFault) →
 own_line text new cause f is own at = sym (fault_of_front text) ∙ (ap line_fault (sym is) ∙ (at ∙ sym own))
 
 pub own_came : (before : Option (List ℕ)) (new : Reading) (cause : Cause) (f : LineFault) → NextIs before new next.Line → own_fault cause ≡ Some f
-    → ((f ≡ fault.NotBuilt → ⊥) → line_fault new.line ≡ Some f) → (f ≡ fault.NotBuilt → IsUnbuilt new.line) → IfSome before (IsOwnCause cause)
-own_came None new cause f is own other unbuilt = tt
-own_came (Some text) new UnknownWord f is own other unbuilt = own_line text new UnknownWord f is.1 own (other (λ e. cc))
-own_came (Some text) new BadNumber f is own other unbuilt = own_line text new BadNumber f is.1 own (other (λ e. cc))
-own_came (Some text) new BadHex f is own other unbuilt = own_line text new BadHex f is.1 own (other (λ e. cc))
-own_came (Some text) new MissingWord f is own other unbuilt = own_line text new MissingWord f is.1 own (other (λ e. cc))
-own_came (Some text) new ExtraWord f is own other unbuilt = own_line text new ExtraWord f is.1 own (other (λ e. cc))
-own_came (Some text) new TooLong f is own other unbuilt = own_line text new TooLong f is.1 own (other (λ e. cc))
-own_came (Some text) new WrongPlace f is own other unbuilt = cc
-own_came (Some text) new BadName f is own other unbuilt = own_line text new BadName f is.1 own (other (λ e. cc))
-own_came (Some text) new BadAction f is own other unbuilt = cc
-own_came (Some text) new Ended f is own other unbuilt = own_line text new Ended f is.1 own (other (λ e. cc))
-own_came (Some text) new NotBuilt f is own other unbuilt = let same : f ≡ fault.NotBuilt = cc in unbuilt_of_front text (subst IsUnbuilt is.1 (unbuilt same))
+    → line_fault new.line ≡ Some f → IfSome before (IsOwnCause cause)
+own_came None new cause f is own at = tt
+own_came (Some text) new UnknownWord f is own at = own_line text new UnknownWord f is.1 own at
+own_came (Some text) new BadNumber f is own at = own_line text new BadNumber f is.1 own at
+own_came (Some text) new BadHex f is own at = own_line text new BadHex f is.1 own at
+own_came (Some text) new MissingWord f is own at = own_line text new MissingWord f is.1 own at
+own_came (Some text) new ExtraWord f is own at = own_line text new ExtraWord f is.1 own at
+own_came (Some text) new TooLong f is own at = own_line text new TooLong f is.1 own at
+own_came (Some text) new WrongPlace f is own at = cc
+own_came (Some text) new BadName f is own at = own_line text new BadName f is.1 own at
+own_came (Some text) new BadAction f is own at = cc
+own_came (Some text) new Ended f is own at = own_line text new Ended f is.1 own at
 
 -- no cause is want of memory
 pub not_memory : (cause : Cause) (f : LineFault) → own_fault cause ≡ Some f → f ≡ fault.NoMemory → ⊥
@@ -81,7 +79,6 @@ not_memory WrongPlace f own e = cc
 not_memory BadName f own e = cc
 not_memory BadAction f own e = cc
 not_memory Ended f own e = cc
-not_memory NotBuilt f own e = cc
 
 abbrev refusal : LineFault → Result Line LineFault
 refusal f = Err f

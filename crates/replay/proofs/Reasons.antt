@@ -5,12 +5,11 @@ use Rattle.recording.specs.declared.line.LineFault.{LineFault}
 use Rattle.recording.specs.declared.line.LineFault.TheVariants as fault
 use Rattle.recording.specs.Cut.{first_line}
 use Rattle.recording.specs.Causes.{line_fault}
-use Rattle.recording.specs.Unbuilt.{IsUnbuilt}
-use Rattle.recording.proofs.Grammar.{built_faultless, unbuilt_faultless, built_or_not, reads_one}
+use Rattle.recording.proofs.Grammar.{meant_faultless, reads_one}
 use Rattle.replay.specs.Front.{Front, Stage, Takes, takes_at}
 use Rattle.replay.specs.Causes.{own_fault, IsCause, IsMisplaced, IsBadTable, OneCause}
 use Rattle.replay.specs.declared.cause.Cause.{Cause}
-use Rattle.replay.specs.declared.cause.Cause.TheVariants.{UnknownWord, BadNumber, BadHex, MissingWord, ExtraWord, TooLong, WrongPlace, BadName, BadAction, Ended, NotBuilt}
+use Rattle.replay.specs.declared.cause.Cause.TheVariants.{UnknownWord, BadNumber, BadHex, MissingWord, ExtraWord, TooLong, WrongPlace, BadName, BadAction, Ended}
 
 -- the cause that names a fault of the line itself, or a wrong place
 abbrev named : Option LineFault → Cause
@@ -22,7 +21,6 @@ named (Some fault.ExtraWord) = ExtraWord
 named (Some fault.TooLong) = TooLong
 named (Some fault.BadName) = BadName
 named (Some fault.Ended) = Ended
-named (Some fault.NotBuilt) = NotBuilt
 named (Some fault.NoMemory) = WrongPlace
 named None = WrongPlace
 
@@ -37,14 +35,12 @@ named_own WrongPlace f e = cc
 named_own BadAction f e = cc
 named_own BadName f e = refl
 named_own Ended f e = refl
-named_own NotBuilt f e = refl
 
--- a fault of the line itself, a wrong place, or a line that is not built
+-- a fault of the line itself, a wrong place, or a table that is refused
 pub data Reason : Front → List ℕ → Cause → Type 0 where
   own : (front : Front) (rest : List ℕ) (c : Cause) (f : LineFault) → line_fault (first_line rest) ≡ Some f → own_fault c ≡ Some f → Reason front rest c
   misplaced : (front : Front) (rest : List ℕ) → IsMisplaced front rest → Reason front rest WrongPlace
   untabled : (front : Front) (rest : List ℕ) → IsBadTable front rest → Reason front rest BadAction
-  unbuilt : (front : Front) (rest : List ℕ) → IsUnbuilt (first_line rest) → Reason front rest NotBuilt
 
 pub reason : (front : Front) (rest : List ℕ) (c : Cause) → IsCause c front rest → Reason front rest c
 reason front rest UnknownWord h = Reason.own front rest UnknownWord fault.UnknownWord h refl
@@ -57,14 +53,10 @@ reason front rest BadName h = Reason.own front rest BadName fault.BadName h refl
 reason front rest Ended h = Reason.own front rest Ended fault.Ended h refl
 reason front rest WrongPlace h = Reason.misplaced front rest h
 reason front rest BadAction h = Reason.untabled front rest h
-reason front rest NotBuilt h = Reason.unbuilt front rest h
 
--- a line that is misplaced, or not built, has no fault of its own
+-- a line that is misplaced has no fault of its own
 not_misplaced : (front : Front) (rest : List ℕ) (f : LineFault) → line_fault (first_line rest) ≡ Some f → IsMisplaced front rest → ⊥
-not_misplaced front rest f e m = built_faultless (first_line rest) f e m.line m.read
-
-not_unbuilt : (rest : List ℕ) (f : LineFault) → line_fault (first_line rest) ≡ Some f → IsUnbuilt (first_line rest) → ⊥
-not_unbuilt rest f e u = unbuilt_faultless (first_line rest) f e u
+not_misplaced front rest f e m = meant_faultless (first_line rest) f e m.line m.read
 
 -- `go` behind lines of a preamble has no fault and is in its place
 go_misplaced : (front : Front) (rest : List ℕ) → IsBadTable front rest → IsMisplaced front rest → ⊥
@@ -78,20 +70,13 @@ same_own c d f g o e h a b = sym (named_own c f a) ∙ (ap named (a ∙ (sym e �
 one_reason : (front : Front) (rest : List ℕ) (c d : Cause) → Reason front rest c → Reason front rest d → c ≡ d
 one_reason front rest c d (Reason.own _ _ _ f e a) (Reason.own _ _ _ g h b) = same_own c d f g (line_fault (first_line rest)) e h a b
 one_reason front rest c d (Reason.own _ _ _ f e a) (Reason.misplaced _ _ m) = absurd (not_misplaced front rest f e m)
-one_reason front rest c d (Reason.own _ _ _ f e a) (Reason.unbuilt _ _ u) = absurd (not_unbuilt rest f e u)
-one_reason front rest c d (Reason.own _ _ _ f e a) (Reason.untabled _ _ t) = absurd (built_faultless (first_line rest) f e Go t.go)
+one_reason front rest c d (Reason.own _ _ _ f e a) (Reason.untabled _ _ t) = absurd (meant_faultless (first_line rest) f e Go t.go)
 one_reason front rest c d (Reason.misplaced _ _ m) (Reason.untabled _ _ t) = absurd (go_misplaced front rest t m)
-one_reason front rest c d (Reason.unbuilt _ _ u) (Reason.untabled _ _ t) = absurd (built_or_not (first_line rest) Go t.go u)
-one_reason front rest c d (Reason.untabled _ _ t) (Reason.own _ _ _ f e a) = absurd (built_faultless (first_line rest) f e Go t.go)
+one_reason front rest c d (Reason.untabled _ _ t) (Reason.own _ _ _ f e a) = absurd (meant_faultless (first_line rest) f e Go t.go)
 one_reason front rest c d (Reason.untabled _ _ t) (Reason.misplaced _ _ m) = absurd (go_misplaced front rest t m)
-one_reason front rest c d (Reason.untabled _ _ t) (Reason.unbuilt _ _ u) = absurd (built_or_not (first_line rest) Go t.go u)
 one_reason front rest c d (Reason.untabled _ _ t) (Reason.untabled _ _ s) = refl
 one_reason front rest c d (Reason.misplaced _ _ m) (Reason.own _ _ _ f e a) = absurd (not_misplaced front rest f e m)
 one_reason front rest c d (Reason.misplaced _ _ m) (Reason.misplaced _ _ n) = refl
-one_reason front rest c d (Reason.misplaced _ _ m) (Reason.unbuilt _ _ u) = absurd (built_or_not (first_line rest) m.line m.read u)
-one_reason front rest c d (Reason.unbuilt _ _ u) (Reason.own _ _ _ f e a) = absurd (not_unbuilt rest f e u)
-one_reason front rest c d (Reason.unbuilt _ _ u) (Reason.misplaced _ _ m) = absurd (built_or_not (first_line rest) m.line m.read u)
-one_reason front rest c d (Reason.unbuilt _ _ u) (Reason.unbuilt _ _ v) = refl
 
 pub one_cause : OneCause
 one_cause front rest c d h k = one_reason front rest c d (reason front rest c h) (reason front rest d k)

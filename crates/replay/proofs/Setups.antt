@@ -26,7 +26,7 @@ use Rattle.replay.specs.Preamble.{WasSetUp}
 use Rattle.replay.specs.inner.Ahead.{Partly, EndsBehind, EndsPast}
 use Rattle.replay.specs.inner.Opening.{SaySo, OpensNot, Makes, IsRefusedAt, MakesTable, MakesSetup}
 use Rattle.replay.specs.inner.Running.{EndsEarly}
-use Rattle.replay.specs.declared.cause.Cause.TheVariants.{UnknownWord, BadNumber, BadHex, MissingWord, ExtraWord, TooLong, WrongPlace, BadName, BadAction, Ended, NotBuilt}
+use Rattle.replay.specs.declared.cause.Cause.TheVariants.{UnknownWord, BadNumber, BadHex, MissingWord, ExtraWord, TooLong, WrongPlace, BadName, BadAction, Ended}
 use Rattle.replay.specs.declared.early.Early.{Early}
 use Rattle.replay.specs.declared.early.Early.TheVariants as early
 use Rattle.replay.specs.declared.preamble.Preamble.{Preamble}
@@ -261,7 +261,6 @@ table_unmade p (early.Script line TooLong) h = absurd h
 table_unmade p (early.Script line WrongPlace) h = absurd h
 table_unmade p (early.Script line BadName) h = absurd h
 table_unmade p (early.Script line Ended) h = absurd h
-table_unmade p (early.Script line NotBuilt) h = absurd h
 table_unmade p early.ReadFault h = absurd h
 table_unmade p early.WriteFault h = absurd h
 table_unmade p (early.Full count) h = absurd h
@@ -280,7 +279,6 @@ unmade p number all before left after now l (early.Script line TooLong) r s with
 unmade p number all before left after now l (early.Script line WrongPlace) r s within read go part m = absurd m
 unmade p number all before left after now l (early.Script line BadName) r s within read go part m = absurd m
 unmade p number all before left after now l (early.Script line Ended) r s within read go part m = absurd m
-unmade p number all before left after now l (early.Script line NotBuilt) r s within read go part m = absurd m
 unmade p number all before left after now l early.ReadFault r s within read go part m = absurd m
 unmade p number all before left after now l early.WriteFault r s within read go part m = absurd m
 unmade p number all before left after now l (early.Full count) r s within read go part m = absurd m

@@ -32,7 +32,7 @@ preamble_lines : (before ls : List Line) → IsPreambleAfter before ls → AreLi
 preamble_lines before [] h = tt
 preamble_lines before (l ∷ ls) h = (h.0, preamble_lines (before ++ l ∷ []) ls h.2)
 
-recording_lines : (ls : List Line) (ps : List Played) → IsPlay ls ps → AreLines (recording ls ps)
+pub recording_lines : (ls : List Line) (ps : List Played) → IsPlay ls ps → AreLines (recording ls ps)
 recording_lines ls ps p =
     (refl, lines_append ls _ (preamble_lines [] ls p.preamble_is) (tt, lines_append (played_lines ps) _ (are_lines (setup_of ls) [] ps p.turns) (tt, tt)))
 
@@ -44,7 +44,7 @@ spelling_joined : (ls : List Line) → joined (map spell ls) ≡ spelling ls
 spelling_joined [] = refl
 spelling_joined (l ∷ ls) = ap (λ (t : List ℕ). spell l ++ t) (spelling_joined ls)
 
-cut_spelling : (ls : List Line) → AreLines ls → AreReadAs (cut (spelling ls)) ls
+pub cut_spelling : (ls : List Line) → AreLines ls → AreReadAs (cut (spelling ls)) ls
 cut_spelling ls h =
     let read = spelled_read ls h in
     let whole : joined (map spell ls) ++ [] ≡ spelling ls = append-nil (joined (map spell ls)) ∙ spelling_joined ls in
@@ -52,7 +52,7 @@ cut_spelling ls h =
     subst (λ (a : List (List ℕ)). AreReadAs a ls) (sym pieces) read
 
 -- events that have a line each
-typed_journal : (es : List Entry) → journal_of (typed es) ≡ es
+pub typed_journal : (es : List Entry) → journal_of (typed es) ≡ es
 typed_journal [] = refl
 typed_journal (e ∷ es) = ap (λ (v : List Entry). e ∷ v) (typed_journal es)
 
@@ -77,7 +77,7 @@ typed_turns U before (e ∷ es) h l =
       subst (λ (v : List Played). AreTurnsAfter U v (typed es)) (map-append typed_entry before (e ∷ [])) behind,
     )
 
-typed_play : (ls : List Line) (es : List Entry) → IsTyped ls es → IsPlay ls (typed es)
+pub typed_play : (ls : List Line) (es : List Entry) → IsTyped ls es → IsPlay ls (typed es)
 typed_play ls es t = record {
   preamble_is = t.preamble_is;
   turns = typed_turns (setup_of ls) [] es t.legal t.events;

@@ -11,7 +11,7 @@ use Rattle.login_model.specs.Legal.{IsLegal, IsLegalAfter, events_of}
 use Rattle.recording.specs.declared.line.Line.{Line}
 use Rattle.recording.specs.Cut.{cut, first_line}
 use Rattle.recording.specs.Meaning.{IsReadAs}
-use Rattle.recording.proofs.Grammar.{built_faultless, built_or_not, reads_one}
+use Rattle.recording.proofs.Grammar.{meant_faultless, reads_one}
 use Rattle.replay.specs.Links.{line_events}
 use Rattle.replay.specs.Played.{Played, journal_of}
 use Rattle.replay.specs.Written.{AreReadAs, Splits}
@@ -23,7 +23,7 @@ use Rattle.replay.specs.Refused.{Begins}
 use Rattle.replay.specs.Outcome.{IsRecordingText, RefusedAt, FullAt, IsPast, IsRefusal, IsFull}
 use Rattle.replay.specs.Stopping.{OneRefusedAt, OneFullAt, OneStop}
 use Rattle.replay.specs.declared.cause.Cause.{Cause}
-use Rattle.replay.specs.declared.cause.Cause.TheVariants.{UnknownWord, BadNumber, BadHex, MissingWord, ExtraWord, TooLong, WrongPlace, BadName, BadAction, Ended, NotBuilt}
+use Rattle.replay.specs.declared.cause.Cause.TheVariants.{UnknownWord, BadNumber, BadHex, MissingWord, ExtraWord, TooLong, WrongPlace, BadName, BadAction, Ended}
 use Rattle.replay.proofs.Written.{read_take, read_length, read_apart, first_is_read, text_is_some}
 use Rattle.replay.proofs.Journals.{one_entry, journal_goes_on, legal_front, legal_behind, room_at, room_behind}
 use Rattle.replay.proofs.PlayedLines.{comes_no_end, turn_at}
@@ -175,7 +175,6 @@ past ExtraWord rest h = absurd h
 past WrongPlace rest h = absurd h
 past BadName rest h = absurd h
 past BadAction rest h = absurd h
-past NotBuilt rest h = absurd h
 
 one_past : (c d : Cause) (rest : List ℕ) → ((c ≡ TooLong) × (rest ≡ [] → ⊥)) ⊎ ((c ≡ Ended) × (rest ≡ [])) → ((d ≡ TooLong) × (rest ≡ [] → ⊥)) ⊎ ((d ≡ Ended) × (rest ≡ [])) → c ≡ d
 one_past c d rest (inl h) (inl k) = h.0 ∙ sym k.0
@@ -203,10 +202,9 @@ one_refused text m n c d p q r s a b =
 
 -- a line that may come is refused for no cause
 no_cause : (f : Front) (rest : List ℕ) (c : Cause) (line : Line) → f.stage ≡ going → IsReadAs (first_line rest) line → Takes f line → Reason f rest c → ⊥
-no_cause f rest c line stage read takes (Reason.own _ _ _ fault e a) = built_faultless (first_line rest) fault e line read
+no_cause f rest c line stage read takes (Reason.own _ _ _ fault e a) = meant_faultless (first_line rest) fault e line read
 no_cause f rest c line stage read takes (Reason.misplaced _ _ m) = m.misplaced (subst (Takes f) (reads_one (first_line rest) line m.line read m.read) takes)
 no_cause f rest c line stage read takes (Reason.untabled _ _ t) = let wrong : going ≡ headed = sym stage ∙ t.in_preamble in cc
-no_cause f rest c line stage read takes (Reason.unbuilt _ _ u) = built_or_not (first_line rest) line read u
 
 full_takes : (f : Front) (d : Count) (x : List ℕ) → (is : IsFull d f x) → Takes f is.line
 full_takes f d x is = subst (λ (st : Stage). takes_at st f.preamble f.played is.line) (sym is.under_way.going_on) (may_take f.preamble f.played is.line is.under_way.may_come)

@@ -149,6 +149,6 @@ is_line_by : (w : List (List ℕ)) (l : Line) → AreReadAs w (l ∷ []) → IsL
 is_line_by [] l h = absurd h
 is_line_by (x ∷ w) l h = read_IsLine x l h.0
 
--- a line that is read is one of the built forms
+-- a line that is read is one of a recording
 pub is_line : (before : Told) (l : Line) (mid : Told) → WereRead before (l ∷ []) mid → IsLine l
 is_line before l mid r = is_line_by r.written l r.are

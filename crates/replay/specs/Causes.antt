@@ -7,11 +7,10 @@ use Rattle.recording.specs.declared.line.LineFault.TheVariants as fault
 use Rattle.recording.specs.Cut.{first_line}
 use Rattle.recording.specs.Causes.{line_fault}
 use Rattle.recording.specs.Meaning.{IsReadAs}
-use Rattle.recording.specs.Unbuilt.{IsUnbuilt}
 use Rattle.replay.specs.PreambleLines.{HasTable, line_at_fault}
 use Rattle.replay.specs.Front.{Front, headed, lines_of, Takes}
 use Rattle.replay.specs.declared.cause.Cause.{Cause}
-use Rattle.replay.specs.declared.cause.Cause.TheVariants.{UnknownWord, BadNumber, BadHex, MissingWord, ExtraWord, TooLong, WrongPlace, BadName, BadAction, Ended, NotBuilt}
+use Rattle.replay.specs.declared.cause.Cause.TheVariants.{UnknownWord, BadNumber, BadHex, MissingWord, ExtraWord, TooLong, WrongPlace, BadName, BadAction, Ended}
 
 abbrev pub cause_word : Cause → List ℕ
 cause_word UnknownWord = codes "unknown-word"
@@ -24,7 +23,6 @@ cause_word WrongPlace = codes "wrong-place"
 cause_word BadName = codes "bad-name"
 cause_word BadAction = codes "bad-action"
 cause_word Ended = codes "ended"
-cause_word NotBuilt = codes "not-built"
 
 -- the fault of the line itself that a cause names; a line in a wrong place has none, nor has one of an action
 abbrev pub own_fault : Cause → Option LineFault
@@ -38,21 +36,19 @@ own_fault WrongPlace = None
 own_fault BadName = Some fault.BadName
 own_fault BadAction = None
 own_fault Ended = Some fault.Ended
-own_fault NotBuilt = Some fault.NotBuilt
 
 abbrev pub MeansFault : LineFault → Option Cause → Type 0
 MeansFault f (Some cause) = own_fault cause ≡ Some f
 MeansFault f None = f ≡ fault.NoMemory
 
 -- the first line of what is left is refused for this cause, whatever stands before it: it is none of
--- the grammar, or not built
+-- the grammar
 abbrev pub IsOwnCause : Cause → List ℕ → Type 0
 IsOwnCause WrongPlace rest = ⊥
 IsOwnCause BadAction rest = ⊥
-IsOwnCause NotBuilt rest = IsUnbuilt (first_line rest)
 IsOwnCause cause rest = line_fault (first_line rest) ≡ own_fault cause
 
--- a built line that may not come next
+-- a line of the grammar that may not come next
 pub record IsMisplaced (front : Front) (rest : List ℕ) : Type 0 where
   pub line : Line
   pub read : IsReadAs (first_line rest) line

@@ -50,7 +50,7 @@ pub record IsFront (f : Front) : Type 0 where
   pub stage_fits : StageFits f.stage f.preamble f.played
   pub room : HasRoom (setup_of f.preamble) (journal_of f.played)
 
--- a line of the built forms may come next, whatever a table says that is read at `go`
+-- a line may come next, whatever a table says that is read at `go`
 abbrev pub takes_at : Stage → List Line → List Played → Line → Type 0
 takes_at fresh preamble played (Header version) = Unit {0}
 takes_at headed preamble played (Guid guid) = MayFollow preamble (Guid guid)

@@ -10,6 +10,7 @@ pub mod Refused
 pub mod Causes
 pub mod Outcome
 pub mod Spelled
+pub mod Recorded
 pub mod Stopping
 pub mod Told
 pub mod Rising

@@ -28,8 +28,6 @@ pub enum Cause {
     BadAction,
     /// There is no line feed, or no line where one must be.
     Ended,
-    /// The line is one of the grammar, but not of this stage.
-    NotBuilt,
 }
 
 impl Cause {
@@ -48,7 +46,6 @@ impl Cause {
             Cause::BadName => b"bad-name",
             Cause::BadAction => b"bad-action",
             Cause::Ended => b"ended",
-            Cause::NotBuilt => b"not-built",
         }
     }
 }
@@ -66,7 +63,6 @@ pub fn cause_of(fault: LineFault) -> Option<Cause>
         LineFault::TooLong => Some(Cause::TooLong),
         LineFault::BadName => Some(Cause::BadName),
         LineFault::Ended => Some(Cause::Ended),
-        LineFault::NotBuilt => Some(Cause::NotBuilt),
         LineFault::NoMemory => None,
     }
 }

@@ -1,6 +1,7 @@
 // Laws of recordings, and of refused lines.
 
 ghost use Rattle.replay.specs.Causes.{OneCause};
+ghost use Rattle.replay.specs.Recorded.{RecordingPlays};
 ghost use Rattle.replay.specs.Refused.{FaultIsOfAnAction, OneRefusal};
 ghost use Rattle.replay.specs.Spelled.{LinesHaveTurns, OneRecording, SpelledIsRecording};
 ghost use Rattle.replay.specs.Stopping.{OneStop};
@@ -25,6 +26,12 @@ pub fn fault_is_of_an_action()
 /// are a recording, and it plays this journal.
 pub fn spelled_recording()
     ensures { SpelledIsRecording }
+{}
+
+/// The recording of a legal journal, in at most 4000000000 lines, plays this journal and no other, also where an
+/// event of it found the journal full; and where none did, it is replayed whole.
+pub fn recording_plays()
+    ensures { RecordingPlays }
 {}
 
 /// A text is a recording in one way at most: it has one setup, one journal and one transcript.

@@ -23,7 +23,7 @@ mod writing;
 pub use cause::Cause;
 pub use law::{
     calls_are_of_bytes, ends_for_good, fault_is_of_an_action, lines_have_turns, one_cause,
-    one_recording, one_refusal, one_stop, outs_are_said, spelled_recording,
+    one_recording, one_refusal, one_stop, outs_are_said, recording_plays, spelled_recording,
 };
 pub use preamble::{SetupEnd, read_setup};
 pub use replaying::{ReplayEnd, replay_all};

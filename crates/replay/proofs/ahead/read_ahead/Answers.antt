@@ -1,7 +1,6 @@
 use Rattle.std.proofs.Common.{◌∙◌, ap, sym, subst, refl, Err, List, ℕ}
 use Rattle.recording.specs.Meaning.{IsReadAs}
 use Rattle.recording.specs.Causes.{line_fault}
-use Rattle.recording.specs.Unbuilt.{IsUnbuilt}
 use Rattle.replay.proofs.Reading.{read_came, line_came, no_line_came, own_came, not_memory, not_read}
 use Rattle.replay.proofs.ahead.read_ahead.Goals as goal
 
@@ -11,8 +10,7 @@ returns-in-Some-clause-gives g c =
     no_line_came _ c.next.new.self c.in-Some.cause c.in-Line.ensures.line
     (λ l r. not_read c.in-Err.fault l other (c.in-Err.ensures.read l (subst (λ (t : List ℕ). IsReadAs t l) (sym c.line.ensures.value) r)))
     (own_came _ c.next.new.self c.in-Some.cause c.in-Err.fault c.in-Line.ensures.line c.in-Some.ensures
-    (λ ne. ap line_fault (sym c.line.ensures.value) ∙ c.in-Err.ensures.cause c.in-Err.fault refl other ne)
-    (λ e. subst IsUnbuilt c.line.ensures.value (c.in-Err.ensures.not_built (ap Err e))))
+    (ap line_fault (sym c.line.ensures.value) ∙ c.in-Err.ensures.cause c.in-Err.fault refl other))
 
 pub returns-in-None-clause-gives : goal.returns-in-None-clause-gives
 returns-in-None-clause-gives g c = line_came _ _ c.next.new.self c.next.ensures.kept

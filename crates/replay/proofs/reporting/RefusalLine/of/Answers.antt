@@ -1,7 +1,7 @@
 use Rattle.std.proofs.Common.{◌≤◌, length, ap, arith}
 use Rattle.replay.specs.Causes.{cause_word}
 use Rattle.replay.specs.declared.cause.Cause.{Cause}
-use Rattle.replay.specs.declared.cause.Cause.TheVariants.{UnknownWord, BadNumber, BadHex, MissingWord, ExtraWord, TooLong, WrongPlace, BadName, BadAction, Ended, NotBuilt}
+use Rattle.replay.specs.declared.cause.Cause.TheVariants.{UnknownWord, BadNumber, BadHex, MissingWord, ExtraWord, TooLong, WrongPlace, BadName, BadAction, Ended}
 use Rattle.recording.proofs.Decimals.{short_decimal}
 use Rattle.replay.proofs.reporting.RefusalLine.of.Goals as goal
 
@@ -16,7 +16,6 @@ short_word WrongPlace = omega arith
 short_word BadName = omega arith
 short_word BadAction = omega arith
 short_word Ended = omega arith
-short_word NotBuilt = omega arith
 
 pub push_decimal-requires : goal.push_decimal-requires
 push_decimal-requires c = omega (arith, short_decimal c.args.line (omega arith))
