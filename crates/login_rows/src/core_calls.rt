@@ -6,5 +6,5 @@ mod devices;
 mod full;
 mod judging;
 mod locks;
-mod playing;
+pub mod playing;
 mod stepping;

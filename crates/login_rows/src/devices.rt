@@ -8,5 +8,6 @@ mod listening;
 mod many;
 mod pausing;
 mod plugging;
+mod recorded;
 mod seats;
 mod switching;

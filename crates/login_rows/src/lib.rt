@@ -22,11 +22,15 @@ mod limits;
 #[cfg(test)]
 mod links;
 #[cfg(test)]
+mod messages;
+#[cfg(test)]
 mod one_by_one;
 #[cfg(test)]
 mod places;
 #[cfg(test)]
 mod power;
+#[cfg(test)]
+mod properties;
 #[cfg(test)]
 mod refusals;
 #[cfg(test)]

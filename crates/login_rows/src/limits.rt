@@ -1,9 +1,12 @@
 // The greatest lengths of texts and lines, the greatest numbers, and how many users there may be.
 
-use crate::running::{accept, joined, replay};
+use crate::running::{accept, compare, joined, replay};
 use login_base::NoMemory;
 use std::alloc::Global;
+use std::process::Abort;
+use std::sync::Wait;
 use std::test::Fail;
+use std::thread::Threads;
 
 /// A text of so many letters between two other texts.
 fn framed(alloc: Global, front: &[u8], letters: usize, rest: &[u8]) -> Result<Vec<u8>, NoMemory> {
@@ -11,27 +14,114 @@ fn framed(alloc: Global, front: &[u8], letters: usize, rest: &[u8]) -> Result<Ve
     joined(alloc, &[front, middle.as_slice(), rest])
 }
 
+/// Runs a recording with a text of so many letters, and compares its status and its errors.
+fn end_with<R: Abort + Wait + Threads + Sync>(
+    rt: &R,
+    alloc: Global,
+    pieces: (&[u8], usize, &[u8]),
+    status: u8,
+    errors: &[u8],
+) -> Result<(), NoMemory> {
+    let (front, letters, rest) = pieces;
+    let text = framed(alloc, front, letters, rest)?;
+    let run = replay(rt, alloc, text.as_slice())?;
+    assert!(rt;
+        run.status == status && run.errors() == errors,
+        "at {letters} bytes"
+    );
+    Ok(())
+}
+
+/// In front of the name of a user.
+const USER: &[u8] = b"login-recording 1\nuser 1 1 ";
+
+/// In front of the name of a session that ends.
+const EXIT: &[u8] = b"login-recording 1\ngo\nexit ";
+
+/// What stands in front of how many letters and behind them, and how that ends.
+const LENGTHS: [(&[u8], usize, &[u8], u8, &[u8]); 9] = [
+    (USER, 255, b"\ngo\nend\n", 0, b""),
+    (USER, 256, b"\ngo\nend\n", 2, b"line 2: bad-name\n"),
+    (EXIT, 512, b"\nend\n", 0, b""),
+    (EXIT, 513, b"\nend\n", 2, b"line 3: bad-name\n"),
+    (USER, 16_375, b"\ngo\nend\n", 2, b"line 2: bad-name\n"),
+    (USER, 16_376, b"\ngo\nend\n", 2, b"line 2: too-long\n"),
+    (USER, 16_375, b"", 2, b"line 2: ended\n"),
+    (USER, 16_376, b"", 2, b"line 2: too-long\n"),
+    (USER, 100_000, b"\ngo\nend\n", 2, b"line 2: too-long\n"),
+];
+
 #[test]
-fn texts_and_lines_have_a_greatest_length(rt: HostRuntime) -> Result<(), Fail> {
-    let alloc = rt.alloc();
-    let user = "login-recording 1\nuser 1 1 ";
-    let exit = "login-recording 1\ngo\nexit ";
-    let cases = [
-        (user, 255, "\ngo\nend\n", 0, ""),
-        (user, 256, "\ngo\nend\n", 2, "line 2: bad-name\n"),
-        (exit, 512, "\nend\n", 0, ""),
-        (exit, 513, "\nend\n", 2, "line 3: bad-name\n"),
-        (user, 16_375, "\ngo\nend\n", 2, "line 2: bad-name\n"),
-        (user, 16_376, "\ngo\nend\n", 2, "line 2: too-long\n"),
-        (user, 16_375, "", 2, "line 2: ended\n"),
-        (user, 16_376, "", 2, "line 2: too-long\n"),
-        (user, 100_000, "\ngo\nend\n", 2, "line 2: too-long\n"),
-    ];
-    for (front, letters, rest, status, errors) in cases {
-        let text = framed(alloc, front.as_bytes(), letters, rest.as_bytes())?;
-        let run = replay(alloc, text.as_slice())?;
-        assert_eq!(rt; run.status, status, "at {letters} bytes");
-        assert_eq!(rt; run.errors(), errors.as_bytes(), "at {letters} bytes");
+fn texts_and_lines_have_a_greatest_length(rt: HostRuntime) -> Result<(), NoMemory> {
+    for (front, letters, rest, status, errors) in LENGTHS {
+        end_with(&rt, rt.alloc(), (front, letters, rest), status, errors)?;
+    }
+    Ok(())
+}
+
+/// What stands in front of how many letters of a path, as what other call it is read, and its verdict.
+const PATHS: [(&str, usize, Option<&str>, &str); 3] = [
+    (
+        "call 1 1 get-all /org/freedesktop/login1/session/",
+        480,
+        None,
+        "P04 no-such-session",
+    ),
+    (
+        "call 1 1 get-all /org/freedesktop/login1/session/",
+        481,
+        Some("call 1 1 bad-args"),
+        "P03 bad-arguments",
+    ),
+    (
+        "call 1 1 get-all /y/",
+        600,
+        Some("call 1 1 no-object"),
+        "P01 unknown-object",
+    ),
+];
+
+/// Asks for the properties of a path with so many letters.
+fn ask_for_path<R: Abort + Wait + Threads + Sync>(
+    rt: &R,
+    alloc: Global,
+    path: (&str, usize),
+    other: Option<&str>,
+    verdict: &str,
+) -> Result<(), Fail> {
+    let (front, letters) = path;
+    let line = framed(alloc, front.as_bytes(), letters, b" %")?;
+    let printed = match other {
+        Some(call) => call.as_bytes(),
+        None => line.as_slice(),
+    };
+    let go = b"login-recording 1\ngo\nconnect 1 0\n".as_slice();
+    let recording = joined(alloc, &[go, line.as_slice(), b"\nend\n"])?;
+    let connected = b"login-transcript 1\n1 connect 1 0\n granted\n set conn 1 0\n2 ".as_slice();
+    let transcript = joined(
+        alloc,
+        &[
+            connected,
+            printed,
+            b"\n denied ",
+            verdict.as_bytes(),
+            b"\nend 2\n",
+        ],
+    )?;
+    compare(
+        rt,
+        alloc,
+        recording.as_slice(),
+        transcript.as_slice(),
+        0,
+        "",
+    )
+}
+
+#[test]
+fn paths_have_a_greatest_length(rt: HostRuntime) -> Result<(), Fail> {
+    for (front, letters, other, verdict) in PATHS {
+        ask_for_path(&rt, rt.alloc(), (front, letters), other, verdict)?;
     }
     Ok(())
 }
@@ -119,15 +209,12 @@ fn users(alloc: Global, count: u32) -> Result<Vec<u8>, NoMemory> {
 fn a_setup_has_a_greatest_number_of_users(rt: HostRuntime) -> Result<(), Fail> {
     let alloc = rt.alloc();
     let cases = [
-        (1024, 0, "login-transcript 1\nend 0\n", ""),
-        (1025, 2, "", "line 1026: wrong-place\n"),
+        (1024, 0, b"login-transcript 1\nend 0\n".as_slice(), ""),
+        (1025, 2, b"".as_slice(), "line 1026: wrong-place\n"),
     ];
     for (count, status, output, errors) in cases {
         let text = users(alloc, count)?;
-        let run = replay(alloc, text.as_slice())?;
-        assert_eq!(rt; run.status, status, "at {count} users");
-        assert_eq!(rt; run.output(), output.as_bytes(), "at {count} users");
-        assert_eq!(rt; run.errors(), errors.as_bytes(), "at {count} users");
+        compare(&rt, alloc, text.as_slice(), output, status, errors)?;
     }
     Ok(())
 }

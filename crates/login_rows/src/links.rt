@@ -13,10 +13,13 @@ mod places;
 mod talking;
 mod turns;
 
-use crate::running::replay;
+use crate::running::compare;
 use login_base::NoMemory;
 use std::alloc::Global;
+use std::process::Abort;
+use std::sync::Wait;
 use std::test::Fail;
+use std::thread::Threads;
 
 /// So many connections may be connected at once.
 const LINKS: u32 = 64;
@@ -41,39 +44,53 @@ fn transcript(alloc: Global, count: u32) -> Result<Vec<u8>, NoMemory> {
     Ok(text)
 }
 
+/// The blocks of the connections behind the last that is granted, where there are so many.
+fn denied(count: u32) -> &'static [u8] {
+    match count {
+        65 => b"65 connect 65 0\n denied P26 limit links 64\n",
+        66 =>
+            b"65 connect 65 0\n denied P26 limit links 64\n66 connect 66 0\n denied P26 limit links 64\n",
+        _ => b"",
+    }
+}
+
+/// Connects so many connections, and goes on with this line: the last line of the transcript, the errors and the status.
+fn connect<R: Abort + Wait + Threads + Sync>(
+    rt: &R,
+    alloc: Global,
+    count: u32,
+    line: &[u8],
+    last: &[u8],
+    errors: &str,
+    status: u8,
+) -> Result<(), Fail> {
+    let mut text = recording(alloc, count)?;
+    text.extend_from_slice(line)?;
+    let mut want = transcript(alloc, LINKS)?;
+    want.extend_from_slice(denied(count))?;
+    want.extend_from_slice(last)?;
+    compare(rt, alloc, text.as_slice(), want.as_slice(), status, errors)
+}
+
+/// A line behind so many connections, the last line of the transcript, the errors and the status.
+const COUNTS: [(u32, &[u8], &[u8], &str, u8); 5] = [
+    (64, b"end\n", b"end 64\n", "", 0),
+    (66, b"end\n", b"end 66\n", "", 0),
+    (
+        65,
+        b"call 65 1 control c1 false\n",
+        b"",
+        "line 68: wrong-place\n",
+        2,
+    ),
+    (65, b"connect 65 0\n", b"", "line 68: wrong-place\n", 2),
+    (65, b"disconnect 65\n", b"", "line 68: wrong-place\n", 2),
+];
+
 #[test]
 fn the_next_link_is_denied(rt: HostRuntime) -> Result<(), Fail> {
-    let alloc = rt.alloc();
-    let denied = "65 connect 65 0\n denied P26 limit links 64\n";
-    let again = "66 connect 66 0\n denied P26 limit links 64\n";
-    let cases = [
-        (64, "end\n", "end 64\n", "", 0),
-        (66, "end\n", "end 66\n", "", 0),
-        (
-            65,
-            "call 65 1 control c1 false\n",
-            "",
-            "line 68: wrong-place\n",
-            2,
-        ),
-        (65, "connect 65 0\n", "", "line 68: wrong-place\n", 2),
-        (65, "disconnect 65\n", "", "line 68: wrong-place\n", 2),
-    ];
-    for (count, line, last, errors, status) in cases {
-        let mut text = recording(alloc, count)?;
-        text.extend_from_slice(line.as_bytes())?;
-        let mut want = transcript(alloc, LINKS)?;
-        if count > LINKS {
-            want.extend_from_slice(denied.as_bytes())?;
-        }
-        if count > LINKS + 1 {
-            want.extend_from_slice(again.as_bytes())?;
-        }
-        want.extend_from_slice(last.as_bytes())?;
-        let run = replay(alloc, text.as_slice())?;
-        assert_eq!(rt; run.output(), want.as_slice(), "at {count} links");
-        assert_eq!(rt; run.errors(), errors.as_bytes());
-        assert_eq!(rt; run.status, status);
+    for (count, line, last, errors, status) in COUNTS {
+        connect(&rt, rt.alloc(), count, line, last, errors, status)?;
     }
     Ok(())
 }

@@ -168,9 +168,8 @@ const CREATIONS: [(&[u8], &str); 8] = [
     ),
 ];
 
-/// What may not follow them: words of devices, of keys and of operations, and words that are not built, with
-/// another fault.
-const FAULTS_FIRST: [(&[u8], &str); 20] = [
+/// What may not follow them: words of devices, of keys, of operations, of properties and of the bus, with a fault.
+const FAULTS_FIRST: [(&[u8], &str); 27] = [
     (b"add 226 1 drm desk\n", "bad-name"),
     (b"add 226 1 tty seat0\n", "unknown-word"),
     (b"remove 226\n", "missing-word"),
@@ -190,6 +189,13 @@ const FAULTS_FIRST: [(&[u8], &str); 20] = [
     (b"call 1 1 inhibit sleep who why block 1\n", "extra-word"),
     (b"call 1 1 list-inhibitors 1\n", "extra-word"),
     (b"call 1 1 hello 1\n", "extra-word"),
+    (b"call 9 1 hello\n", "wrong-place"),
+    (b"call 1 1 ping 1\n", "extra-word"),
+    (b"call 1 1 get x %\n", "missing-word"),
+    (b"call 1 1 get x % %41\n", "bad-hex"),
+    (b"call 1 1 get-all x\n", "missing-word"),
+    (b"call 1 1 set x % a true\n", "extra-word"),
+    (b"call 1 1 owner\n", "missing-word"),
     (b"call 1 1 take c1 226\n", "missing-word"),
 ];
 
@@ -197,27 +203,6 @@ const FAULTS_FIRST: [(&[u8], &str); 20] = [
 const LINES_OF_NO_LINK: [(&[u8], &str); 2] = [
     (b"in 2 00\n", "wrong-place"),
     (b"hangup 2\n", "wrong-place"),
-];
-
-/// The calls that are not built, also of a connection that is not connected.
-const UNBUILT_CALLS: [(&[u8], &str); 11] = [
-    (
-        b"call 1 1 get /org/freedesktop/login1 % Docked\n",
-        "not-built",
-    ),
-    (b"call 1 1 get-all /org/freedesktop/login1 %\n", "not-built"),
-    (
-        b"call 1 1 set /org/freedesktop/login1 % Docked\n",
-        "not-built",
-    ),
-    (b"call 1 1 ping\n", "not-built"),
-    (b"call 1 1 machine-id\n", "not-built"),
-    (b"call 1 1 hello\n", "not-built"),
-    (b"call 1 1 owner org.freedesktop.login1\n", "not-built"),
-    (b"call 1 1 add-match type=signal\n", "not-built"),
-    (b"call 1 1 remove-match %\n", "not-built"),
-    (b"send 1 1 hello\n", "not-built"),
-    (b"call 9 1 hello\n", "not-built"),
 ];
 
 /// The edges of each type of number.
@@ -265,7 +250,7 @@ const WORKED: [(&[u8], &str); 7] = [
     (b"frob\nend\n", "unknown-word"),
     (b"stop 1\nend\n", "extra-word"),
     (b"add 1 1 drm desk\nend\n", "bad-name"),
-    (b"call 9 1 hello\nend\n", "not-built"),
+    (b"call 9 1 hello\nend\n", "wrong-place"),
 ];
 
 /// The first line, and a user.
@@ -316,19 +301,6 @@ fn lines_of_no_link(rt: HostRuntime) -> Result<(), Fail> {
     let transcript = CONNECTED_TRANSCRIPT;
     refuse(&rt, alloc, CONNECTED, &FAULTS_FIRST, 5, transcript)?;
     refuse(&rt, alloc, CONNECTED, &LINES_OF_NO_LINK, 5, transcript)
-}
-
-#[test]
-fn calls_that_are_not_built(rt: HostRuntime) -> Result<(), Fail> {
-    let alloc = rt.alloc();
-    refuse(
-        &rt,
-        alloc,
-        CONNECTED,
-        &UNBUILT_CALLS,
-        5,
-        CONNECTED_TRANSCRIPT,
-    )
 }
 
 #[test]

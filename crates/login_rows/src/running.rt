@@ -1,24 +1,27 @@
 // How the tests run the program, and what a run left.
 
-use login_base::{Bytes, Items, NoMemory, Word};
-use login_edge::{MemSink, MemSource, Source};
-use login_prog::run;
+use login_base::{Bytes, Items, Millis, NoMemory, Word};
+use login_edge::{MemClock, MemListener, MemSink, MemSource, MemSpawner, OpenGate, Source};
+use login_prog::{Outside, run};
 use std::alloc::Global;
 use std::process::Abort;
+use std::sync::Wait;
 use std::test::Fail;
+use std::thread::Threads;
 
 /// Room enough for what a run of a test writes.
 const ROOM: usize = 9_000_000;
 
 /// What a run left.
 #[derive(Drop)]
-pub struct Outcome {
+pub struct Outcome<S> {
     pub status: u8,
+    pub input: S,
     output: MemSink,
     errors: MemSink,
 }
 
-impl Outcome {
+impl<S> Outcome<S> {
     /// What the run wrote to its output.
     pub fn output(&self) -> &[u8] {
         self.output.held()
@@ -40,31 +43,75 @@ pub fn source(alloc: Global, text: &[u8], fails: &[u64]) -> Result<MemSource, No
     )
 }
 
-/// Runs the program with these words. Of its writes to the output those of these numbers fail.
-pub fn run_with<S: Source>(
-    alloc: Global,
-    words: &[&[u8]],
-    input: &mut S,
-    fails: &[u64],
-) -> Result<Outcome, NoMemory> {
+/// A clock that stands.
+fn clock(alloc: Global) -> Result<MemClock, NoMemory> {
+    let readings = Items::from_vec(vec![in alloc; Millis(0)]?);
+    MemClock::new(alloc, readings, Items::new(alloc), None)
+}
+
+/// The words of a command.
+fn words_of(alloc: Global, words: &[&[u8]]) -> Result<Items<Word>, NoMemory> {
     let mut list = Items::new(alloc);
     for word in words {
         list.push(Word::from_slice(alloc, word)?)?;
     }
+    Ok(list)
+}
+
+/// An output whose writes of these numbers fail.
+fn output(alloc: Global, fails: &[u64]) -> Result<MemSink, NoMemory> {
     let fails = Items::from_vec(Vec::from_slice(alloc, fails)?);
-    let mut output = MemSink::new(alloc, ROOM, fails)?;
-    let mut errors = MemSink::new(alloc, ROOM, Items::new(alloc))?;
-    let status = run(alloc, &list, input, &mut output, &mut errors);
+    MemSink::new(alloc, ROOM, fails)
+}
+
+/// An outside with this input, of which no link comes. Of the writes to its output those of these numbers fail.
+fn outside<S: Source + Drop>(
+    alloc: Global,
+    input: S,
+    fails: &[u64],
+) -> Result<Outside<S, MemSink, MemSink, MemListener, MemClock, MemSpawner>, NoMemory> {
+    Ok(Outside {
+        input,
+        output: output(alloc, fails)?,
+        errors: output(alloc, &[])?,
+        listener: MemListener::new(alloc, Items::new(alloc), Items::new(alloc))?,
+        clock: clock(alloc)?,
+        spawner: MemSpawner::new(alloc, Items::new(alloc))?,
+    })
+}
+
+/// Runs the program with these words. Of its writes to the output those of these numbers fail. No link comes.
+pub fn run_with<R: Wait + Threads + Sync, S: Source + Drop>(
+    rt: &R,
+    alloc: Global,
+    words: &[&[u8]],
+    input: S,
+    fails: &[u64],
+) -> Result<Outcome<S>, NoMemory> {
+    let outside = outside(alloc, input, fails)?;
+    let list = words_of(alloc, words)?;
+    let (status, outside) = run(rt, alloc, &list, outside, &OpenGate);
+    let Outside {
+        input,
+        output,
+        errors,
+        ..
+    } = outside;
     Ok(Outcome {
         status,
+        input,
         output,
         errors,
     })
 }
 
 /// Runs `login replay` over this recording.
-pub fn replay(alloc: Global, text: &[u8]) -> Result<Outcome, NoMemory> {
-    run_with(alloc, &[b"replay"], &mut source(alloc, text, &[])?, &[])
+pub fn replay<R: Wait + Threads + Sync>(
+    rt: &R,
+    alloc: Global,
+    text: &[u8],
+) -> Result<Outcome<MemSource>, NoMemory> {
+    run_with(rt, alloc, &[b"replay"], source(alloc, text, &[])?, &[])
 }
 
 /// The pieces, one after the other.
@@ -76,25 +123,37 @@ pub fn joined(alloc: Global, pieces: &[&[u8]]) -> Result<Vec<u8>, NoMemory> {
     Ok(text)
 }
 
+/// Compares all that a run left, at this place of a table.
+pub fn expect<R: Abort, S>(
+    rt: &R,
+    run: &Outcome<S>,
+    status: u8,
+    output: &[u8],
+    errors: &[u8],
+    at: usize,
+) {
+    assert_eq!(rt; run.status, status, "at {at}");
+    assert_eq!(rt; run.output(), output, "at {at}");
+    assert_eq!(rt; run.errors(), errors, "at {at}");
+}
+
 /// Runs a recording, and compares all that it leaves.
-pub fn compare(
-    rt: &impl Abort,
+pub fn compare<R: Abort + Wait + Threads + Sync>(
+    rt: &R,
     alloc: Global,
     recording: &[u8],
     transcript: &[u8],
     status: u8,
     errors: &str,
 ) -> Result<(), Fail> {
-    let run = replay(alloc, recording)?;
-    assert_eq!(rt; run.output(), transcript);
-    assert_eq!(rt; run.errors(), errors.as_bytes());
-    assert_eq!(rt; run.status, status);
+    let run = replay(rt, alloc, recording)?;
+    expect(rt, &run, status, transcript, errors.as_bytes(), 0);
     Ok(())
 }
 
 /// Runs a recording, which is accepted whole, and compares its transcript.
-pub fn accept(
-    rt: &impl Abort,
+pub fn accept<R: Abort + Wait + Threads + Sync>(
+    rt: &R,
     alloc: Global,
     recording: &str,
     transcript: &str,
@@ -117,7 +176,11 @@ pub struct Piece {
 }
 
 /// Runs a recording that is made of these pieces, and compares its transcript.
-pub fn accept_pieces(rt: &impl Abort, alloc: Global, pieces: &[Piece]) -> Result<(), Fail> {
+pub fn accept_pieces<R: Abort + Wait + Threads + Sync>(
+    rt: &R,
+    alloc: Global,
+    pieces: &[Piece],
+) -> Result<(), Fail> {
     let mut recording = Vec::new(alloc);
     let mut transcript = Vec::new(alloc);
     for piece in pieces {
@@ -144,8 +207,8 @@ pub struct Front {
 
 /// Runs a recording with these lines behind a front, none of which makes a mark, and compares what each
 /// of them is answered.
-pub fn answer(
-    rt: &impl Abort,
+pub fn answer<R: Abort + Wait + Threads + Sync>(
+    rt: &R,
     alloc: Global,
     front: &Front,
     lines: &[(&str, &str)],
@@ -171,23 +234,34 @@ pub fn answer(
     )
 }
 
+/// Runs a recording that ends with this line, which has to be refused with these errors.
+fn refuse_one<R: Abort + Wait + Threads + Sync>(
+    rt: &R,
+    alloc: Global,
+    pieces: &[&[u8]],
+    transcript: &[u8],
+    errors: &str,
+    at: usize,
+) -> Result<(), Fail> {
+    let text = joined(alloc, pieces)?;
+    let run = replay(rt, alloc, text.as_slice())?;
+    expect(rt, &run, 2, transcript, errors.as_bytes(), at);
+    Ok(())
+}
+
 /// Runs a recording that ends with each of the lines in turn. Each has to be refused as line `number`,
 /// for its cause.
-pub fn refuse(
-    rt: &impl Abort,
+pub fn refuse<R: Abort + Wait + Threads + Sync>(
+    rt: &R,
     alloc: Global,
     front: &[u8],
     lines: &[(&[u8], &str)],
     number: u32,
     transcript: &[u8],
 ) -> Result<(), Fail> {
-    for (i, (line, cause)) in lines.iter().enumerate() {
+    for (at, (line, cause)) in lines.iter().enumerate() {
         let errors = format!(in alloc; "line {number}: {cause}\n")?;
-        let text = joined(alloc, &[front, line])?;
-        let run = replay(alloc, text.as_slice())?;
-        assert_eq!(rt; run.status, 2, "at {i} of line {number}");
-        assert_eq!(rt; run.output(), transcript, "at {i} of line {number}");
-        assert_eq!(rt; run.errors(), errors.as_bytes(), "at {i} of line {number}");
+        refuse_one(rt, alloc, &[front, line], transcript, errors.as_str(), at)?;
     }
     Ok(())
 }

@@ -1,12 +1,10 @@
 // Verdicts over the facts of a core.
 
-ghost use Rattle.login_model.specs.Built.{is_built};
-
 use super::playing::{call, finish, new_core, play};
 use login_base::{ConnId, HandleNo, Millis, NoMemory, Uid};
 use login_core::Core;
 use login_judge::{judge, meant_user};
-use login_model::{Call, Event, Hardware, Rule, Verdict, is_built};
+use login_model::{Call, Event, Hardware, Rule, Verdict};
 use std::alloc::Global;
 use std::test::Fail;
 
@@ -17,9 +15,9 @@ fn connected(alloc: Global) -> Result<Core, NoMemory> {
     Ok(core)
 }
 
-/// Whether an event is built, and this is what is said to it.
+/// Whether this is what is said to an event.
 fn is_said(core: &Core, event: Event, verdict: Verdict) -> bool {
-    is_built(&event) && judge(core, core.setup(), &event) == verdict
+    judge(core, core.setup(), &event) == verdict
 }
 
 /// Whether a call of alice's is denied by this rule.

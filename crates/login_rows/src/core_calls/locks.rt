@@ -1,15 +1,13 @@
 // How many locks there can be, and what is said to locks, keys and operations under setups other than the
 // default one.
 
-ghost use Rattle.login_model.specs.Built.{is_built};
-
 use super::playing::{call, creation, finish, new_core, play};
 use login_base::{Bytes, ConnId, HandleNo, Items, LockNo, NoMemory, Uid, Word};
 use login_core::Core;
 use login_judge::{can, judge};
 use login_model::{
     Action, Call, Conf, Event, HardKey, Hardware, Inhibition, KeyAction, Limit, OpKind,
-    PowerAction, Qualifier, Request, Row, Rule, Say, Setup, Table, Verdict, is_built,
+    PowerAction, Qualifier, Request, Row, Rule, Say, Setup, Table, Verdict,
 };
 use std::alloc::Global;
 use std::test::Fail;
@@ -85,23 +83,13 @@ fn setup(alloc: Global, conf: Conf, table: Table) -> Setup {
     }
 }
 
-/// What is said to an event that is built, under a setup with this configuration and this table.
-fn verdict_under(
-    core: &Core,
-    alloc: Global,
-    conf: Conf,
-    table: Table,
-    event: Event,
-) -> Option<Verdict> {
-    if !is_built(&event) {
-        drop(event);
-        return None;
-    }
+/// What is said to an event under a setup with this configuration and this table.
+fn verdict_under(core: &Core, alloc: Global, conf: Conf, table: Table, event: Event) -> Verdict {
     let setup = setup(alloc, conf, table);
     let verdict = judge(core, &setup, &event);
     drop(setup);
     drop(event);
-    Some(verdict)
+    verdict
 }
 
 /// A configuration that lets so many locks be.
@@ -114,13 +102,13 @@ fn most_locks(most: u32) -> Conf {
 /// What is said to root's call for a lock where so many can be.
 fn verdict_on_lock(core: &Core, alloc: Global, most: u32) -> Option<Verdict> {
     match inhibition(alloc, b"idle", b"block") {
-        Ok(asked) => verdict_under(
+        Ok(asked) => Some(verdict_under(
             core,
             alloc,
             most_locks(most),
             Table::default(),
             call(9, asked),
-        ),
+        )),
         Err(_) => None,
     }
 }
@@ -149,7 +137,7 @@ fn power_key(action: KeyAction, passes: bool) -> Conf {
 }
 
 /// What is said to the power key where it does this, and passes locks or not.
-fn verdict_on_key(core: &Core, alloc: Global, action: KeyAction, passes: bool) -> Option<Verdict> {
+fn verdict_on_key(core: &Core, alloc: Global, action: KeyAction, passes: bool) -> Verdict {
     let event = Event::Hardware(Hardware::Key(HardKey::Power));
     verdict_under(
         core,
@@ -165,16 +153,16 @@ const POWER_OFF: KeyAction = KeyAction::Operation(OpKind::PowerOff);
 #[test]
 fn the_power_key_passes_locks_where_it_is_told_to(rt: HostRuntime) -> Result<(), Fail> {
     let mut core = with_root(rt.alloc())?;
-    let held = Some(Verdict::Denied(Rule::Inhibited(LockNo(1))));
+    let held = Verdict::Denied(Rule::Inhibited(LockNo(1)));
     assert!(rt; lock(&mut core, rt.alloc(), b"shutdown", b"block"));
     assert_eq!(rt; verdict_on_key(&core, rt.alloc(), POWER_OFF, false), held);
     assert_eq!(rt;
         verdict_on_key(&core, rt.alloc(), POWER_OFF, true),
-        Some(Verdict::Granted)
+        Verdict::Granted
     );
     assert_eq!(rt;
         verdict_on_key(&core, rt.alloc(), KeyAction::Lock, false),
-        Some(Verdict::Granted)
+        Verdict::Granted
     );
     finish(core);
     Ok(())
@@ -183,8 +171,8 @@ fn the_power_key_passes_locks_where_it_is_told_to(rt: HostRuntime) -> Result<(),
 #[test]
 fn a_lock_on_the_power_key_holds_what_it_is_told_to_do(rt: HostRuntime) -> Result<(), Fail> {
     let mut core = with_root(rt.alloc())?;
-    let held = Some(Verdict::Denied(Rule::Inhibited(LockNo(1))));
-    let ignored = Some(Verdict::Denied(Rule::KeyIgnored));
+    let held = Verdict::Denied(Rule::Inhibited(LockNo(1)));
+    let ignored = Verdict::Denied(Rule::KeyIgnored);
     assert!(rt; lock(&mut core, rt.alloc(), b"handle-power-key", b"block"));
     assert_eq!(rt; verdict_on_key(&core, rt.alloc(), POWER_OFF, true), held);
     assert_eq!(rt;
@@ -221,7 +209,7 @@ fn to_all(said: Say) -> Row {
 }
 
 /// What is said to the second connection, which asks to power off under this table.
-fn verdict_on_power_off(core: &Core, alloc: Global, table: Table) -> Option<Verdict> {
+fn verdict_on_power_off(core: &Core, alloc: Global, table: Table) -> Verdict {
     let asked = Event::Call(Request {
         who: ConnId(2),
         serial: 1,
@@ -279,10 +267,7 @@ fn locks_and_sessions_of_others_each_have_an_action(rt: HostRuntime) -> Result<(
     assert!(rt; lock(&mut core, rt.alloc(), b"shutdown", b"block"));
     for (beside_others, past_locks, verdict) in &TABLES {
         let table = table(*beside_others, *past_locks);
-        assert_eq!(rt;
-            verdict_on_power_off(&core, rt.alloc(), table),
-            Some(*verdict)
-        );
+        assert_eq!(rt; verdict_on_power_off(&core, rt.alloc(), table), *verdict);
     }
     finish(core);
     Ok(())

@@ -2,7 +2,6 @@
 
 ghost use Rattle.std.specs.Prelude.{◌≡◌, ◌∷◌, ◌↔◌, [], IfOk, IsTrue, true};
 ghost use Rattle.std.specs.List.{AllByRecursion};
-ghost use Rattle.login_model.specs.Built.{is_built};
 ghost use Rattle.login_model.specs.Legal.{Fits, IsAsked, IsPlaced, IsUnused, connects, trail_of};
 ghost use Rattle.login_model.specs.Setups.{IsGuid, IsUserRow};
 ghost use Rattle.login_model.specs.Texts.{IsText, texts, has_object, hardware_texts, has_seat_name};
@@ -12,7 +11,7 @@ use login_base::{Bytes, ConnId, Items, NoMemory, Uid, Word};
 use login_core::{Core, Refused};
 use login_model::{
     Call, Conf, Creation, Entry, Event, Hardware, Inhibition, Key, Look, Request, Setup, Table,
-    UserRow, is_built,
+    UserRow,
 };
 use std::alloc::Global;
 
@@ -162,7 +161,9 @@ fn fits_call(call: &Call) -> bool
         Call::Create(creation) => are_first_texts(creation) && are_last_texts(creation),
         Call::ListSessions | Call::ListUsers | Call::ListSeats => true,
         Call::Inhibit(inhibition) => are_lock_texts(inhibition),
-        Call::Control(id, _) | Call::TakeDevice(id, _) => is_text(id.as_slice(), 512),
+        Call::Control(id, _) | Call::TakeDevice(id, _) | Call::PauseComplete(id, _) => {
+            is_text(id.as_slice(), 512)
+        }
         Call::ReadInput(_) | Call::Close(_) => true,
         _ => false,
     }
@@ -203,7 +204,7 @@ fn fits(core: &Core, event: &Event) -> bool
 fn is_next(core: &Core, event: &Event) -> bool
     ensures { IsTrue result → IsPlaced core.now.journal event.now }
 {
-    is_built(event) && core.stopped(event).is_none() && fits(core, event)
+    core.stopped(event).is_none() && fits(core, event)
 }
 
 /// Makes room for an event, and steps it; whether it could.
@@ -233,7 +234,7 @@ fn is_asked(core: &Core, event: &Event) -> bool
 
 /// What refuses room for an event, if anything does.
 pub fn refusal(core: &mut Core, event: &Event) -> Option<Refused> {
-    if !is_built(event) || !is_asked(core, event) {
+    if !is_asked(core, event) {
         return None;
     }
     core.room(event).err()

@@ -54,7 +54,7 @@ end 20
 };
 
 /// Both pauses are acknowledged: the switch completes at the last.
-const ACKNOWLEDGED: Piece = Piece {
+pub const ACKNOWLEDGED: Piece = Piece {
     lines: "\
 call 2 4 paused c1 226 0
 call 2 5 paused c1 13 64

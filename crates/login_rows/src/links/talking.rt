@@ -4,7 +4,9 @@ use crate::running::{Piece, compare};
 use login_base::NoMemory;
 use std::alloc::Global;
 use std::process::Abort;
+use std::sync::Wait;
 use std::test::Fail;
+use std::thread::Threads;
 
 /// Bytes of a link the last of which makes something whole, and what comes of it: blocks, bytes that are
 /// due, and the end of the link. Bytes are in hex.
@@ -85,7 +87,12 @@ fn push_told(
 }
 
 /// Runs a recording in which link 2 sends so many bytes a line, and compares its transcript.
-pub fn accept_talk(rt: &impl Abort, alloc: Global, talk: &Talk, size: usize) -> Result<(), Fail> {
+pub fn accept_talk<R: Abort + Wait + Threads + Sync>(
+    rt: &R,
+    alloc: Global,
+    talk: &Talk,
+    size: usize,
+) -> Result<(), Fail> {
     let mut sent = Vec::new(alloc);
     for part in talk.parts {
         sent.extend_from_slice(part.sent.as_bytes())?;
