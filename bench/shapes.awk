@@ -30,7 +30,7 @@ function begin(  i) {
     }
     else if (shape == "idle_links") { for (i = 2; i <= 61; i++) line("connect " i " 0"); create(1, 0) }
     else if (shape == "links_in_turn") for (i = 2; i <= 61; i++) { line("connect " i " 0"); create(i, 0) }
-    else if (shape == "control" || shape == "links_that_go") create(1, 0)
+    else if (shape ~ /^(control|links_that_go|properties|all_properties|settings)$/) create(1, 0)
     else if (shape == "refused") { create(1, 0); line("connect 2 1001") }
     else if (shape == "terminals") { create(1, 1); create(1, 2) }
     else if (shape == "lock_all" || shape == "kill_user") create_many(1, 16)
@@ -96,6 +96,11 @@ function step(i,  who) {
     else if (shape == "locks") call(1, i % 2 ? "inhibit sleep login test block" : "close " int(i / 2))
     else if (shape == "operations") { if (i % 2) call(1, "power suspend"); else line("jobdone") }
     else if (shape == "waiting") call(1, "nothing")
+    else if (shape == "properties") call(1, "get /org/freedesktop/login1/session/c1 % Name")
+    else if (shape == "all_properties") call(1, "get-all /org/freedesktop/login1/session/c1 %")
+    else if (shape == "settings") call(1, "set /org/freedesktop/login1/session/c1 % Name")
+    else if (shape == "manager_properties") call(1, "get-all /org/freedesktop/login1 %")
+    else if (shape == "pings") call(1, "ping")
     else if (shape == "idle_hints") call(1, "idle c" (1 + i % beside) " " setting(int(i / beside) + 1))
     else if (shape == "next") call(1, "next seat0")
     else if (shape == "own_lock") call(2, "lock c1")
