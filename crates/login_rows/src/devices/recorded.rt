@@ -84,8 +84,8 @@ fn recorded(
     text: &[u8],
     room: usize,
 ) -> Result<(Result<(), WriteEnd>, MemSink), NoMemory> {
-    let core = stepped(alloc, text)?;
     let mut sink = MemSink::new(alloc, room, Items::new(alloc))?;
+    let core = stepped(alloc, text)?;
     let end = write_recording(alloc, core.setup(), core.journal(), &mut sink);
     finish(core);
     Ok((end, sink))
