@@ -91,18 +91,23 @@ fn recorded(
     Ok((end, sink))
 }
 
-/// The events of the sessions, whose switch completes, behind a preamble.
-fn events_behind(alloc: Global, preamble: &[u8]) -> Result<Vec<u8>, NoMemory> {
+/// The events of the sessions, whose switch completes.
+fn events(alloc: Global) -> Result<Vec<u8>, NoMemory> {
     joined(
         alloc,
         &[
-            preamble,
             &SESSIONS.lines.as_bytes()[SESSIONS_PREAMBLE..],
             TAKES.lines.as_bytes(),
             ASKS.lines.as_bytes(),
             ACKNOWLEDGED.lines.as_bytes(),
         ],
     )
+}
+
+/// The same behind a preamble.
+fn events_behind(alloc: Global, preamble: &[u8]) -> Result<Vec<u8>, NoMemory> {
+    let events = events(alloc)?;
+    joined(alloc, &[preamble, events.as_slice()])
 }
 
 /// Their transcript.
