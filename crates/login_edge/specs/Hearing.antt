@@ -36,10 +36,10 @@ abbrev pub SayTells : Option (List Exchange) → Option (List Exchange) → Took
 SayTells old new (took.Bytes n) piece = (0 < n) × (n ≤ length piece) × Grew old new (said (take n piece) ∷ [])
 SayTells old new took.Failed piece = new ≡ old
 
--- how much of a text was said: all of it, or a front before a fault
+-- how much of a text was said: all of it, or less before a fault
 abbrev pub SaidUpTo : WriteEnd → ℕ → List ℕ → Type 0
 SaidUpTo end.Done count text = count ≡ length text
-SaidUpTo end.Fault count text = count ≤ length text
+SaidUpTo end.Fault count text = count < length text
 
 -- the talk gained pieces that were said, and these are the text, or a front of it before a fault
 pub record SaysAll (old new : Option (List Exchange)) (result : WriteEnd) (text : List ℕ) : Type 0 where

@@ -20,6 +20,10 @@ pub trait Gate {
 
     /// Says that the n-th call of a link was answered.
     fn answered(&self, who: ConnId, n: u32);
+
+    /// Says that links may have mail, or may see the stop: an entry was made that tells something. Where links wait for
+    /// what comes, it ends their waits. It takes no memory.
+    fn wake(&self);
 }
 
 /// A gate that lets every call go.
@@ -41,4 +45,6 @@ impl Gate for OpenGate {
     }
 
     fn answered(&self, _who: ConnId, _n: u32) {}
+
+    fn wake(&self) {}
 }

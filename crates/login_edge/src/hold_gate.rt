@@ -71,4 +71,6 @@ impl Gate for HoldGate {
             self.is_answered.store(true, Ordering::SeqCst);
         }
     }
+
+    fn wake(&self) {}
 }
