@@ -20,7 +20,7 @@ use Rattle.replay.specs.Written.{Splits, WereRead, joined}
 use Rattle.replay.specs.PreambleLines.{setup_of, IsPreamble, HasTable, line_at_fault}
 use Rattle.replay.specs.Recording.{most_lines}
 use Rattle.replay.specs.Front.{Front, fresh, headed, going, ended, lines_of, text_of, Takes, IsFront}
-use Rattle.replay.specs.inner.Ahead.{IsNoLine, Torn, Partly, BreaksOff, EndsBehind, EndsPast}
+use Rattle.replay.specs.Ahead.{IsNoLine, Torn, Partly, BreaksOff, EndsBehind, EndsPast}
 use Rattle.replay.specs.inner.Running.{EndsEarly}
 use Rattle.replay.specs.inner.Writing.{Writes}
 use Rattle.replay.specs.declared.early.Early.{Early}

@@ -19,7 +19,7 @@ use Rattle.replay.specs.Recording.{most_lines, MayCome}
 use Rattle.replay.specs.Front.{going, ended, lines_at, text_at, Takes, IsFront}
 use Rattle.replay.specs.Outcome.{RefusedAt, Fronted, IsUnderWay}
 use Rattle.replay.specs.Preamble.{WasSetUp}
-use Rattle.replay.specs.inner.Ahead.{Partly, EndsBehind, EndsPast}
+use Rattle.replay.specs.Ahead.{Partly, EndsBehind, EndsPast}
 use Rattle.replay.specs.inner.Behind.{is_end}
 use Rattle.replay.specs.inner.Player.{PlayerState, StandsBehind}
 use Rattle.replay.specs.inner.Playing.{EntriesBroken, IsMade, LineBroken, LineFull, LinePlayed, MadeSoFar, PlaysLine}

@@ -14,7 +14,7 @@ use Rattle.replay.specs.PreambleLines.{setup_of}
 use Rattle.replay.specs.Recording.{most_lines, recording}
 use Rattle.replay.specs.Front.{Front, Stage, going, ended, text_at}
 use Rattle.replay.specs.Outcome.{Replayed, RefusedAt}
-use Rattle.replay.specs.inner.Ahead.{IsNoLine, Partly, BreaksOff}
+use Rattle.replay.specs.Ahead.{IsNoLine, Partly, BreaksOff}
 use Rattle.replay.specs.inner.Player.{PlayerState}
 use Rattle.replay.specs.inner.Running.{EndsEarly, SoFar}
 use Rattle.replay.specs.inner.Writing.{Writes}

@@ -9,7 +9,7 @@ use Rattle.recording.specs.Meaning.{IsReadAs}
 use Rattle.recording.specs.Limits.{line_room}
 use Rattle.recording.specs.Reading.{Reading, left_to}
 use Rattle.recording.specs.Next.{NextIs}
-use Rattle.replay.specs.inner.Ahead.{IsNoLine, Partly}
+use Rattle.replay.specs.Ahead.{IsNoLine, Partly}
 use Rattle.replay.specs.Causes.{IsOwnCause, own_fault}
 use Rattle.replay.specs.declared.cause.Cause.{Cause}
 use Rattle.replay.specs.declared.cause.Cause.TheVariants.{UnknownWord, BadNumber, BadHex, MissingWord, ExtraWord, TooLong, WrongPlace, BadName, BadAction, Ended}

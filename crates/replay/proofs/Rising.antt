@@ -2,8 +2,8 @@
 use Rattle.std.proofs.Common.{◌≡◌, ℕ, Bool, true, false, List, Option, Result, Ok, refl, Err}
 use Rattle.recording.specs.declared.line.Line.{Line}
 use Rattle.replay.specs.Rising.{Rises}
-use Rattle.replay.specs.inner.Ahead.{BreaksOff, EndsBehind}
-use Rattle.replay.specs.inner.Early.{failed, of_reading, of_writing}
+use Rattle.replay.specs.Ahead.{BreaksOff, EndsBehind}
+use Rattle.replay.specs.Early.{failed, of_reading, of_writing}
 use Rattle.replay.specs.inner.Opening.{OpensNot}
 use Rattle.replay.specs.inner.Player.{PlayerState}
 use Rattle.replay.specs.inner.Playing.{ComesNext, PlaysLine}

@@ -23,7 +23,7 @@ use Rattle.replay.specs.Recording.{most_lines}
 use Rattle.replay.specs.Front.{Front, fresh, headed, ended, lines_of, text_of, takes_at, IsFront}
 use Rattle.replay.specs.Outcome.{RefusedAt, Broken, Fronted}
 use Rattle.replay.specs.Preamble.{WasSetUp}
-use Rattle.replay.specs.inner.Ahead.{Partly, EndsBehind, EndsPast}
+use Rattle.replay.specs.Ahead.{Partly, EndsBehind, EndsPast}
 use Rattle.replay.specs.inner.Opening.{SaySo, OpensNot, Makes, IsRefusedAt, MakesTable, MakesSetup}
 use Rattle.replay.specs.inner.Running.{EndsEarly}
 use Rattle.replay.specs.declared.cause.Cause.TheVariants.{UnknownWord, BadNumber, BadHex, MissingWord, ExtraWord, TooLong, WrongPlace, BadName, BadAction, Ended}

@@ -31,6 +31,11 @@ end_text (end.Full (Entries n)) = codes " full entries " ++ (decimal n ++ 10 ∷
 end_text (end.Full (Marks n)) = codes " full marks " ++ (decimal n ++ 10 ∷ [])
 end_text (end.Stopped n) = codes " stopped " ++ (decimal n ++ 10 ∷ [])
 
+-- the same, where a link that was closed says so
+abbrev pub named_end_text : LinkEnd → List ℕ
+named_end_text end.Closed = codes " closed" ++ 10 ∷ []
+named_end_text e = end_text e
+
 -- the line of a link that has ended
 abbrev pub closed_line : ConnId → LinkEnd → List ℕ
 closed_line c e = codes "closed " ++ (decimal c.0 ++ end_text e)

@@ -14,6 +14,8 @@ pub mod Recorded
 pub mod Stopping
 pub mod Told
 pub mod Rising
+pub mod Early
+pub mod Ahead
 pub mod Preamble
 pub mod Replaying
 pub mod Reporting

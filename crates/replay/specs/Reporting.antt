@@ -26,6 +26,8 @@ status_line line.Usage = error_line (codes "usage: login replay or login serve -
 status_line line.ReadFault = error_line (codes "read fault")
 status_line line.WriteFault = error_line (codes "write fault")
 status_line line.NoMemory = error_line (codes "no memory")
+status_line line.ListenerOrClockFault = error_line (codes "listener or clock fault")
+status_line line.SpawnFault = error_line (codes "spawn fault")
 
 -- the line of a refusal
 abbrev pub refusal : ℕ → Cause → List ℕ

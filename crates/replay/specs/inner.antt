@@ -1,4 +1,3 @@
-pub mod Early
 pub mod Ahead
 pub mod Opening
 pub mod Placing

@@ -4,8 +4,9 @@ ghost use Rattle.std.specs.Prelude.{◌<◌};
 ghost use Rattle.recording.specs.Reading.{left_to};
 ghost use Rattle.replay.specs.Recording.{most_lines};
 ghost use Rattle.replay.specs.Rising.{Rises};
-ghost use Rattle.replay.specs.inner.Early.{failed, of_reading};
-ghost use Rattle.replay.specs.inner.Ahead.{Reads, ReadsLine, EndsPast};
+ghost use Rattle.replay.specs.Early.{failed, of_reading};
+ghost use Rattle.replay.specs.Ahead.{ReadsLine, EndsPast};
+ghost use Rattle.replay.specs.inner.Ahead.{Reads};
 
 use crate::cause::{Cause, cause_of};
 use crate::early::Early;

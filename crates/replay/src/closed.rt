@@ -10,7 +10,7 @@ use login_office::{LinkEnd, Unbegun};
 use std::alloc::{AllocError, Global};
 
 /// The number of why a link has not begun.
-fn not_begun_number(why: Unbegun) -> u32
+pub fn not_begun_number(why: Unbegun) -> u32
     ensures { result ≡ not_begun_number why }
 {
     match why {

@@ -1,4 +1,4 @@
-// How a replay ends before it is done.
+// How a recording ends before all of it is read and done.
 
 ghost use Rattle.std.specs.Prelude.{◌≡◌};
 ghost use Rattle.replay.specs.declared.early.Early.TheVariants as early;
@@ -8,7 +8,7 @@ use login_base::NoMemory;
 use login_model::Count;
 use std::alloc::AllocError;
 
-/// How a replay ends before its whole transcript is written.
+/// How the reading of a recording's lines, or its replay, ends before it is done.
 #[derive(Clone, Copy, Debug)]
 pub enum Early {
     /// The line with this number is refused for this cause.

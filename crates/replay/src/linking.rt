@@ -11,7 +11,7 @@ ghost use Rattle.recording.specs.declared.line.Line.TheVariants as line;
 ghost use Rattle.replay.specs.Played.{Played};
 ghost use Rattle.replay.specs.Recording.{MayCome};
 ghost use Rattle.replay.specs.Rising.{Rises};
-ghost use Rattle.replay.specs.inner.Early.{failed, of_writing};
+ghost use Rattle.replay.specs.Early.{failed, of_writing};
 ghost use Rattle.replay.specs.inner.Making.{Makes, connect_of, done, end_then, heard_events, is_in_then, turns_of};
 ghost use Rattle.replay.specs.inner.Player.{StandsBehind, user_at};
 ghost use Rattle.replay.specs.inner.Playing.{ComesNext, EntriesGive, MakesLine, with_own};

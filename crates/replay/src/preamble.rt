@@ -10,7 +10,7 @@ ghost use Rattle.replay.specs.Front.{fresh, takes_at};
 ghost use Rattle.replay.specs.Recording.{most_lines};
 ghost use Rattle.replay.specs.Preamble.{SetupGives, SetsUp, IsFromTexts, is_failed_setup};
 ghost use Rattle.replay.specs.Rising.{Rises};
-ghost use Rattle.replay.specs.inner.Early.{failed, of_reading};
+ghost use Rattle.replay.specs.Early.{failed, of_reading};
 ghost use Rattle.replay.specs.inner.Opening.{Takes, TakesLine, MakesTable, MakesSetup, Opens, BehindHeader};
 
 use crate::ahead::{MOST_LINES, next_line, read_past};

@@ -9,7 +9,7 @@ ghost use Rattle.replay.specs.Recording.{most_lines};
 ghost use Rattle.replay.specs.Rising.{Rises};
 ghost use Rattle.replay.specs.Transcript.{transcript_end, start_of};
 ghost use Rattle.replay.specs.inner.Behind.{is_end};
-ghost use Rattle.replay.specs.inner.Early.{failed, of_reading, of_writing};
+ghost use Rattle.replay.specs.Early.{failed, of_reading, of_writing};
 ghost use Rattle.replay.specs.inner.Player.{Stands, StandsBehind};
 ghost use Rattle.replay.specs.inner.Running.{RunGives, GoesOn};
 ghost use Rattle.replay.specs.inner.Turns.{TakesTurn, Turns};

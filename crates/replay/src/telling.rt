@@ -8,7 +8,7 @@ ghost use Rattle.login_office.specs.Offices.{teller_of};
 ghost use Rattle.replay.specs.Played.{Played};
 ghost use Rattle.replay.specs.Rising.{Rises};
 ghost use Rattle.replay.specs.Transcript.{closed_text, links_text, out_text};
-ghost use Rattle.replay.specs.inner.Early.{failed, of_writing};
+ghost use Rattle.replay.specs.Early.{failed, of_writing};
 ghost use Rattle.replay.specs.inner.Player.{Brings, HasMade, HasTold, own_end, own_replies};
 ghost use Rattle.replay.specs.inner.Telling.{AllFetched, Fetched, IsOwnOf, TellsText, all_told, hears, is_between, nearest, own_who, told_text, unfetched};
 ghost use Rattle.replay.specs.inner.Writing.{Writes};

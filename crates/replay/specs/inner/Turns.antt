@@ -3,7 +3,7 @@ use Rattle.std.specs.Prelude.{ℕ, ◌+◌, List, [], ◌∷◌, Option, IfSome,
 use Rattle.recording.specs.declared.line.Line.{Line}
 use Rattle.replay.specs.Written.{WereRead}
 use Rattle.replay.specs.Front.{going, ended}
-use Rattle.replay.specs.inner.Ahead.{Partly}
+use Rattle.replay.specs.Ahead.{Partly}
 use Rattle.replay.specs.inner.Player.{PlayerState}
 use Rattle.replay.specs.inner.Running.{EndsEarly, SoFar}
 use Rattle.replay.specs.declared.early.Early.{Early}
