@@ -17,7 +17,7 @@ use login_base::{ConnId, NoMemory};
 use std::alloc::Global;
 use std::marker::{Brand, Model};
 use std::snapshot::Snapshot;
-use std::sync::Wait;
+use std::sync::{Mutex, Wait};
 use std::{mem, thread};
 
 const TICKET: usize = 0;
@@ -28,6 +28,8 @@ const SERVING: usize = 1;
 #[derive(Drop)]
 pub struct Desk<V: Kept> {
     table: Table<Option<V>, View<V::Setup, V::Entry>, Snapshot<V>, Turns, Global>,
+    /// Where threads sleep until they may draw a ticket, so that one that drew it is served at once.
+    queue: Mutex<()>,
 }
 
 impl<V: Kept> Model for Desk<V> {
@@ -56,7 +58,8 @@ impl<V: Kept> Desk<V> {
             who: ConnId(0),
             badge: seat.into_badge(),
         };
-        Ok((Desk { table }, pass))
+        let queue = Mutex::new(());
+        Ok((Desk { table, queue }, pass))
     }
 
     /// Splits a pass for a connection from the first. It has seen the same, and made nothing.
@@ -145,7 +148,7 @@ impl<V: Kept> Desk<V> {
         requires out { seat.me.0.out ≡ 0 }
         ensures { Closes V.who seat.me.0 (V.setup result) (V.journal result) }
     {
-        let Desk { table } = self;
+        let Desk { table, queue: _ } = self;
         let mut closed = table.close_with(seat);
         let slot = closed.take(0);
         closed.free();
@@ -170,8 +173,10 @@ impl<V: Kept> Desk<V> {
         ensures all { HasSeenAll V.setup V.journal pass.new.view }
     {
         let mut seat = mem::replace(&mut pass.badge, Badge::blank()).into_seat();
+        let place = self.queue.lock(rt);
         self.wait(rt, &mut seat);
         let answer = self.serve(&mut seat, pass.who, act);
+        drop(place);
         pass.badge = seat.into_badge();
         answer
     }

@@ -4,6 +4,9 @@
 //! counts those served. A pass is what a thread has of it. Seven kinds of atomic step are made on the
 //! table, and no other: draw a ticket, look at the serving word, take the slot, give it back, publish
 //! with one entry or none, split a seat, join a seat.
+//!
+//! Threads that wait sleep at a lock of std before they draw a ticket, in its order; one that has drawn a
+//! ticket is served at once. That a thread's turn comes is not promised.
 #![tactic(auto)]
 
 mod act;
