@@ -1,0 +1,4 @@
+-- What serves private functions.
+pub mod Inside
+pub mod Standing
+pub mod Turning
