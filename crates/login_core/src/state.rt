@@ -81,7 +81,6 @@ fn stop_after(stop: Option<u32>, event: &Event, number: u32) -> Option<u32>
 }
 
 /// The setup, the journal, and what is made ready for the next entry.
-#[derive(Drop)]
 pub struct Core {
     setup: Setup,
     board: Board,
@@ -90,6 +89,25 @@ pub struct Core {
     stop: Option<u32>,
     /// What a read takes from its handle goes here, and is no longer wanted.
     read: Inputs,
+}
+
+// By hand, so that the ends of the types below are proved here, and not again in each crate that lets a core go.
+impl Drop for Core {
+    fn drop(self) {
+        let Self {
+            setup,
+            board,
+            texts,
+            ready,
+            stop: _,
+            read,
+        } = self;
+        drop(setup);
+        drop(board);
+        drop(texts);
+        drop(ready);
+        drop(read);
+    }
 }
 
 impl Model for Core {
