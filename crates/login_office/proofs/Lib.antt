@@ -4,3 +4,5 @@ pub mod Pieces
 pub mod Histories
 pub mod Tellers
 pub mod Mails
+pub mod Connected
+pub mod MoreBytes

@@ -4,11 +4,6 @@ use Rattle.std.specs.Option.{is_some}
 use Rattle.std.proofs.Math.Seq.{drop-append_seam}
 use Rattle.std.proofs.lemmas.Bool.{eq-eqb}
 use Rattle.std.proofs.lemmas.List.{map-append}
-use Rattle.bus_auth.specs.Greeting.{Greeting, State, WaitingForNul, Talking, Begun, Ended, greet}
-use Rattle.bus_message.proofs.Cuts.{cut-append, onward, resume}
-use Rattle.bus_message.proofs.Pieces.{whole_cut}
-use Rattle.bus_message.specs.Cutting.{Cutting, cut, cut_from}
-use Rattle.bus_message.specs.declared.message.Message.{Message}
 use Rattle.login_base.specs.declared.ids.ConnId.{ConnId}
 use Rattle.login_base.specs.declared.ids.Uid.{Uid}
 use Rattle.login_model.proofs.FactLaws.{same-conn}
@@ -21,10 +16,9 @@ use Rattle.login_model.specs.declared.event.Event.TheVariants as event
 use Rattle.login_model.specs.declared.event.Request.{Request}
 use Rattle.login_model.specs.declared.mark.Entry.{Entry}
 use Rattle.login_model.specs.declared.setup.Setup.{Setup}
-use Rattle.login_office.proofs.Begun.{begun_on}
 use Rattle.login_office.proofs.Histories.{ended_for_good}
-use Rattle.login_office.specs.Links.{behind, calls, end_heard, has_begun, is_begun, malformed}
-use Rattle.wire_calls.specs.Reading.{request_of, requests_of}
+use Rattle.login_office.proofs.MoreBytes.{begun-on, unbegun-calls}
+use Rattle.login_office.specs.Links.{behind, calls, end_heard, is_begun, malformed}
 use Rattle.recording.specs.declared.line.Line.{Line}
 use Rattle.recording.specs.declared.line.Line.TheVariants as line
 use Rattle.replay.specs.Links.{ending, events_of_user, heard, is_hung_up, is_let_in, is_open_link, line_events, link_events, link_line_events, link_user, was_let_in}
@@ -41,41 +35,11 @@ use Rattle.replay.proofs.Journals.{legal_front, legal_behind}
 
 -- ---- the calls of more bytes
 
-not-begun-calls : (c : ConnId) (u : Uid) (guid text : List ℕ) → is_begun u guid text ≡ false → calls c u guid text ≡ []
-unfolding cut cut_from
-not-begun-calls c u guid text b = by (greet u guid text).state refl b
-  where
-    by : (s : State) → (greet u guid text).state ≡ s → has_begun s ≡ false → requests_of c (cut (behind (greet u guid text).state)).messages ≡ []
-    by WaitingForNul is e = ap (λ (s : State). requests_of c (cut (behind s)).messages) is
-    by (Talking talk l) is e = ap (λ (s : State). requests_of c (cut (behind s)).messages) is
-    by (Ended ending) is e = ap (λ (s : State). requests_of c (cut (behind s)).messages) is
-    by (Begun rest) is e = absurd (let z : true ≡ false = e in cc)
-
-cut-more : (text more : List ℕ) → (cut (text ++ more)).messages ≡ (cut text).messages ++ (onward (cut text).malformed (cut text) more).messages
-cut-more text more =
-    ap (λ (x : Cutting). x.messages) (whole_cut (text ++ more) ∙ cut-append 0 text more ∙ sym (ap (λ (x : Cutting). resume x more) (whole_cut text)))
-
-begun-calls : (c : ConnId) (u : Uid) (guid text more : List ℕ) → is_begun u guid text ≡ true → (rs : List Request) × (calls c u guid (text ++ more) ≡ calls c u guid text ++ rs)
-begun-calls c u guid text more b = by (greet u guid text).state refl b
-  where
-    by : (s : State) → (greet u guid text).state ≡ s → has_begun s ≡ true → (rs : List Request) × (calls c u guid (text ++ more) ≡ calls c u guid text ++ rs)
-    by WaitingForNul is e = absurd (let z : false ≡ true = e in cc)
-    by (Talking talk l) is e = absurd (let z : false ≡ true = e in cc)
-    by (Ended ending) is e = absurd (let z : false ≡ true = e in cc)
-    by (Begun rest) is e =
-        let after : List Message = (onward (cut rest).malformed (cut rest) more).messages in (
-          requests_of c after,
-          ap (λ (g : Greeting). requests_of c (cut (behind g.state)).messages) (begun_on u guid text more rest is)
-              ∙ (ap (λ (ms : List Message). requests_of c ms) (cut-more rest more)
-              ∙ (map-append (request_of c) (cut rest).messages after
-              ∙ ap (λ (s : State). requests_of c (cut (behind s)).messages ++ requests_of c after) (sym is))),
-        )
-
 -- the further calls stand behind those before
 calls-grow : (c : ConnId) (u : Uid) (guid text more : List ℕ) → is_begun u guid text ≡ true
     → calls c u guid (text ++ more) ≡ calls c u guid text ++ drop (length (calls c u guid text)) (calls c u guid (text ++ more))
 calls-grow c u guid text more b =
-    let g = begun-calls c u guid text more b in
+    let g = (begun-on c u guid text more b).calls in
     let old = calls c u guid text in
     g.1 ∙ ap (λ (rs : List Request). old ++ rs) (sym (ap (λ (rs : List Request). drop (length old) rs) g.1 ∙ drop-append_seam old g.0))
 
@@ -160,7 +124,7 @@ module _ (U : Setup) (J : List Entry) (c : ConnId) (u : Uid) (old more : List �
       by : (g : Bool) → events_of es ≡ (if g then turns_of c Further Ends else [])
           → due_then (g || was_let_in c es) New ≡ calls_among (event.Connect c u ∷ (if g then turns_of c Further Ends else []))
       by true e =
-          sym (among-turns c Further Ends ∙ ap (λ (rs : List Request). map event.Call (drop (length rs) (calls c u U.guid New))) (not-begun-calls c u U.guid old b))
+          sym (among-turns c Further Ends ∙ ap (λ (rs : List Request). map event.Call (drop (length rs) (calls c u U.guid New))) (unbegun-calls c u U.guid old b))
       by false e = ap (λ (t : List Entry). due_then (false || was_let_in c t) New) (no-entries es e)
 
   by-connected : (k : Bool) (es : List Entry) → LinkStands U old false J c u → is_begun u U.guid old ≡ true → is_connected (trail_of J) c ≡ k

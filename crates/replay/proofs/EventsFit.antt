@@ -15,7 +15,7 @@ use Rattle.login_model.specs.declared.setup.Setup.{Setup}
 use Rattle.recording.specs.EventSpelling.{FitsHardware}
 use Rattle.recording.specs.Lines.{IsEventLine}
 use Rattle.replay.specs.Recorded.{HardwareFits, NumbersFit}
-use Rattle.replay.proofs.Connections.{unused-unconnected}
+use Rattle.login_office.proofs.Connected.{unused-unconnected}
 use Rattle.replay.proofs.MadeEntries.{legal-append}
 
 -- no connect is of number 0

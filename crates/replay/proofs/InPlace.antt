@@ -20,7 +20,7 @@ use Rattle.login_office.specs.Links.{calls, is_begun, malformed}
 use Rattle.wire_calls.specs.Laws.{MayStand}
 use Rattle.replay.specs.Links.{begins, is_let_in, link_events}
 use Rattle.replay.specs.inner.Making.{turns_of}
-use Rattle.replay.proofs.Connections.{connected-more, connected_by}
+use Rattle.login_office.proofs.Connected.{connected-more, connected_by}
 use Rattle.replay.proofs.LinkLines.{stop-found, stops}
 use Rattle.replay.proofs.LinkStanding.{LinkStands}
 

@@ -28,7 +28,8 @@ use Rattle.replay.specs.Played.{Played, played_lines, journal_of}
 use Rattle.replay.specs.Recording.{AreTurns, AreTurnsAfter, IsTurn, MayCome}
 use Rattle.replay.specs.inner.Apart.{AreApart, touches}
 use Rattle.replay.specs.inner.Making.{turns_of}
-use Rattle.replay.proofs.Connections.{apart-append, apart-connected, apart-let-in, apart-unused, calls-apart, connected-then, connected_by, connected_then, let-in-append, unused-let-in, unused-unconnected}
+use Rattle.login_office.proofs.Connected.{connected-then, connected_by, connected_then, unused-unconnected}
+use Rattle.replay.proofs.Connections.{apart-append, apart-connected, apart-let-in, apart-unused, calls-apart, let-in-append, unused-let-in}
 use Rattle.replay.proofs.LinkLines.{brought, has_stop, heard-more, hung-more, journal-more, lines-append, or_else, user-more}
 use Rattle.wire_out.specs.Mail.{is_connect}
 use Rattle.replay.proofs.Journals.{legal_front, legal_behind}

@@ -22,7 +22,7 @@ use Rattle.login_office.specs.Offices.{Appends, OfficeState}
 use Rattle.recording.specs.Print.{block}
 use Rattle.replay.specs.declared.early.Early.{Early}
 use Rattle.replay.specs.inner.Making.{AllMade, CutOff, Makes, connect_of, is_in_then, turns_of}
-use Rattle.replay.proofs.Connections.{connected-more, connected_by, unused-unconnected}
+use Rattle.login_office.proofs.Connected.{connected-more, connected_by, unused-unconnected}
 use Rattle.replay.proofs.EventLines.{one-event}
 use Rattle.replay.proofs.LinkStanding.{no-entries}
 use Rattle.replay.proofs.InPlace.{in-place-front, in-place-rest}

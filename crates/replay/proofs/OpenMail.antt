@@ -11,7 +11,8 @@ use Rattle.login_model.specs.declared.event.Event.TheVariants.{Connect, Disconne
 use Rattle.login_model.specs.declared.mark.Entry.{Entry}
 use Rattle.login_model.specs.declared.setup.Setup.{Setup}
 use Rattle.replay.specs.inner.Apart.{AreApart}
-use Rattle.replay.proofs.Connections.{apart-connected, apart-let-in, connected-more, connected-then, connected_by, unused-let-in}
+use Rattle.login_office.proofs.Connected.{connected-more, connected-then, connected_by}
+use Rattle.replay.proofs.Connections.{apart-connected, apart-let-in, unused-let-in}
 use Rattle.wire_out.proofs.Connected.{has_connect, has_disconnect}
 use Rattle.wire_out.proofs.Delivering.{open_one_more}
 use Rattle.wire_out.proofs.Growing.{apart}
