@@ -1,12 +1,11 @@
 -- A link that has stopped, behind the closing of its connection.
-use Rattle.std.proofs.Common.{◌≡◌, ℕ, ◌+◌, ◌<◌, ◌==◌, Bool, true, false, List, [], ◌∷◌, ◌++◌, length, take, drop, min, Option, Some, None, IfSome, refl, ap, sym, ◌∙◌, append_assoc, append-nil, subst, inl, inr, arith, length-append, if◌then◌else◌}
+use Rattle.std.proofs.Common.{◌≡◌, ℕ, ◌<◌, ◌==◌, Bool, true, false, List, [], ◌∷◌, ◌++◌, length, take, drop, min, Option, Some, None, IfSome, refl, ap, sym, ◌∙◌, append_assoc, append-nil, subst, inl, inr, arith, length-append, if◌then◌else◌}
 use Rattle.std.proofs.lemmas.Bool.{eq-eqb}
 use Rattle.std.proofs.lemmas.List.{append_cancel_left, append_cancel_right, take_min, take-append-le}
 use Rattle.login_base.specs.declared.ids.ConnId.{ConnId}
 use Rattle.login_base.specs.declared.ids.Uid.{Uid}
 use Rattle.login_edge.specs.Exchanges.{Exchange, heard_of, said_of, Grew}
 use Rattle.login_model.specs.Legal.{events_of}
-use Rattle.login_model.specs.Stopping.{is_stop, stop_from}
 use Rattle.login_model.specs.declared.event.Event.{Event}
 use Rattle.login_model.specs.declared.event.Event.TheVariants.{Disconnect}
 use Rattle.login_model.specs.declared.mark.Entry.{Entry}
@@ -26,7 +25,7 @@ use Rattle.link_serve.specs.Serving.{Came, Causes, FaultsAt, IsShort, Prompt, Sa
 use Rattle.link_serve.specs.inner.Standing.{CloseTells, Moment, Stops, who_of}
 use Rattle.link_serve.specs.inner.Turning.{Begins, moment}
 use Rattle.link_serve.specs.Turned.{Acts}
-use Rattle.link_serve.proofs.Exchanged.{Grew-none, came-none, prompt-longer, told-longer}
+use Rattle.link_serve.proofs.Exchanged.{Grew-none, came-none, prompt-longer, stop-longer, told-longer}
 use Rattle.link_serve.proofs.LetIn.{open-is-let-in}
 use Rattle.link_serve.proofs.OwnEntries.{own-append, own-one}
 
@@ -34,14 +33,6 @@ use Rattle.link_serve.proofs.OwnEntries.{own-append, own-one}
 
 front-longer : {A : Type 0} (count : ℕ) (xs ys : List A) → take count xs ≡ take (min count (length xs)) (xs ++ ys)
 front-longer count xs ys = sym (take_min count xs) ∙ sym (take-append-le (min count (length xs)) xs ys (omega arith))
-
-pub stop-longer : (n k : ℕ) (J more : List Entry) → stop_from n J ≡ Some k → stop_from n (J ++ more) ≡ Some k
-stop-longer n k [] more e = absurd (let z : ⊥ = cc in z)
-stop-longer n k (x ∷ J) more e = by (is_stop x.event) e (stop-longer (n + 1) k J more)
-  where
-    by : (b : Bool) → (if b then Some n else stop_from (n + 1) J) ≡ Some k → (stop_from (n + 1) J ≡ Some k → stop_from (n + 1) (J ++ more) ≡ Some k) → (if b then Some n else stop_from (n + 1) (J ++ more)) ≡ Some k
-    by true e later = e
-    by false e later = later e
 
 pub causes-longer : (U : Setup) (c : ConnId) (u : Uid) (J more own : List Entry) (text : List ℕ) (e : LinkEnd) → Causes U c u J own text e → Causes U c u (J ++ more) own text e
 causes-longer U c u J more own text end.Closed h = h

@@ -1,13 +1,31 @@
 -- What is heard, said and said in time, as talks and journals go on.
-use Rattle.std.proofs.Common.{◌≡◌, ℕ, List, [], ◌∷◌, ◌++◌, Option, Some, None, Bool, true, false, ◌||◌, refl, ap, sym, ◌∙◌, append_assoc, append-nil, subst}
+use Rattle.std.proofs.Common.{◌≡◌, ℕ, ◌+◌, if◌then◌else◌, List, [], ◌∷◌, ◌++◌, Option, Some, None, Bool, true, false, ◌||◌, refl, ap, sym, ◌∙◌, append_assoc, append-nil, subst}
 use Rattle.std.specs.Option.{option_map}
 use Rattle.login_base.specs.declared.ids.ConnId.{ConnId}
 use Rattle.login_base.specs.declared.ids.Uid.{Uid}
 use Rattle.login_edge.specs.Exchanges.{Exchange, heard, said, quiet, ended, heard_of, said_of, Grew, OnlySaid}
+use Rattle.login_model.specs.Stopping.{is_stop, stop_from}
 use Rattle.login_model.specs.declared.event.Event.{Event}
 use Rattle.login_model.specs.declared.mark.Entry.{Entry}
 use Rattle.link_serve.specs.Owners.{events_heard}
-use Rattle.link_serve.specs.Serving.{Came, Prompt, Told, has_hung_up}
+use Rattle.link_serve.specs.Serving.{Came, Prompt, Told, ToldUnstopped, has_hung_up}
+
+-- a stop is found in each journal that goes on
+pub stop-longer : (n k : ℕ) (J more : List Entry) → stop_from n J ≡ Some k → stop_from n (J ++ more) ≡ Some k
+stop-longer n k [] more e = absurd (let z : ⊥ = cc in z)
+stop-longer n k (x ∷ J) more e = by (is_stop x.event) e (stop-longer (n + 1) k J more)
+  where
+    by : (b : Bool) → (if b then Some n else stop_from (n + 1) J) ≡ Some k → (stop_from (n + 1) J ≡ Some k → stop_from (n + 1) (J ++ more) ≡ Some k) → (if b then Some n else stop_from (n + 1) (J ++ more)) ≡ Some k
+    by true e later = e
+    by false e later = later e
+
+-- where there is none, there is none in a front
+front-unstopped : (front rest : List Entry) → stop_from 1 (front ++ rest) ≡ None → stop_from 1 front ≡ None
+front-unstopped front rest none = by (stop_from 1 front) refl
+  where
+    by : (o : Option ℕ) → stop_from 1 front ≡ o → stop_from 1 front ≡ None
+    by None e = e
+    by (Some k) e = absurd (let s : Some k ≡ None = sym (stop-longer 1 k front rest e) ∙ none in cc)
 
 pub Grew-none : (o : Option (List Exchange)) → Grew o o []
 Grew-none None = refl
@@ -59,7 +77,7 @@ pub hung-same : (x y : List Exchange) → has_hung_up x ≡ false → OnlySaid y
 hung-same x y is o = hung-append x y ∙ (ap (λ (b : Bool). b || has_hung_up y) is ∙ hung-only y o)
 
 module _ (c : ConnId) (u : Uid) (guid : List ℕ) where
-  pub told-longer : (J more : List Entry) (events : List Event) (text spoken : List ℕ) → Told c u guid J events text spoken → Told c u guid (J ++ more) events text spoken
+  abbrev pub told-longer : (J more : List Entry) (events : List Event) (text spoken : List ℕ) → Told c u guid J events text spoken → Told c u guid (J ++ more) events text spoken
   told-longer J more events text spoken t = record {
     front = t.front;
     rest = t.rest ++ more;
@@ -68,15 +86,22 @@ module _ (c : ConnId) (u : Uid) (guid : List ℕ) where
     said_is = t.said_is;
   }
 
+  unstopped-longer : (J more : List Entry) (events : List Event) (text spoken : List ℕ) → ToldUnstopped c u guid J events text spoken → ToldUnstopped c u guid (J ++ more) events text spoken
+  unstopped-longer J more events text spoken t = record { told = told-longer J more events text spoken t.told; no_stop = t.no_stop }
+
+  -- what was told by a journal without the stop
+  pub unstopped : (J : List Entry) (events : List Event) (text spoken : List ℕ) → Told c u guid J events text spoken → stop_from 1 J ≡ None → ToldUnstopped c u guid J events text spoken
+  unstopped J events text spoken t none = record { told = t; no_stop = front-unstopped t.front t.rest (sym (ap (stop_from 1) t.journal_is) ∙ none) }
+
   pub prompt-longer : (J more : List Entry) (text spoken : List ℕ) (ts : List Exchange) → Prompt c u guid J text spoken ts → Prompt c u guid (J ++ more) text spoken ts
   prompt-longer J more text spoken [] p = tt
   prompt-longer J more text spoken (heard b ∷ ts) p =
-      (told-longer J more (events_heard c u guid text) text spoken p.0, prompt-longer J more (text ++ b) spoken ts p.1)
+      (unstopped-longer J more (events_heard c u guid text) text spoken p.0, prompt-longer J more (text ++ b) spoken ts p.1)
   prompt-longer J more text spoken (said b ∷ ts) p = prompt-longer J more text (spoken ++ b) ts p
   prompt-longer J more text spoken (quiet ∷ ts) p =
-      (told-longer J more (events_heard c u guid text) text spoken p.0, prompt-longer J more text spoken ts p.1)
+      (unstopped-longer J more (events_heard c u guid text) text spoken p.0, prompt-longer J more text spoken ts p.1)
   prompt-longer J more text spoken (ended ∷ ts) p =
-      (told-longer J more (events_heard c u guid text) text spoken p.0, prompt-longer J more text spoken ts p.1)
+      (unstopped-longer J more (events_heard c u guid text) text spoken p.0, prompt-longer J more text spoken ts p.1)
 
   pub prompt-append : (J : List Entry) (text spoken : List ℕ) (xs ys : List Exchange) → Prompt c u guid J text spoken xs
       → Prompt c u guid J (text ++ heard_of xs) (spoken ++ said_of xs) ys → Prompt c u guid J text spoken (xs ++ ys)

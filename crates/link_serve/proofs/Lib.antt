@@ -10,7 +10,7 @@ mod PiecesHeard
 mod Resting
 mod Answering
 mod Following
-mod ConnectionsClosed
+pub mod ConnectionsClosed
 mod Completing
 mod WhoIsConnected
 mod AtDesk

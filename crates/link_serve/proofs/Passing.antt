@@ -1,18 +1,23 @@
 -- What a turn of a pass leaves.
-use Rattle.std.proofs.Common.{◌≡◌, ℕ, ◌<◌, List, [], ◌∷◌, ◌++◌, refl, ap, sym, ◌∙◌, append-nil}
+use Rattle.std.proofs.Common.{◌≡◌, ℕ, ◌<◌, List, [], ◌∷◌, ◌++◌, refl, ap, sym, ◌∙◌, append-nil, append_assoc, ap₂, Bool, cond}
+use Rattle.std.proofs.lemmas.Bool.{eq-eqb}
 use Rattle.std.proofs.lemmas.List.{append_cancel_left}
 use Rattle.login_model.specs.declared.mark.Entry.{Entry}
 use Rattle.login_model.specs.declared.setup.Setup.{Setup}
-use Rattle.desk.specs.History.{entries, numbered, of_who}
+use Rattle.desk.specs.History.{entries, numbered, of_pass, of_who}
 use Rattle.desk.specs.Passes.{TakesTurn}
 use Rattle.desk.specs.declared.view.View.{View}
-use Rattle.desk.specs.inner.Appended.{entries_append}
+use Rattle.desk.specs.inner.Appended.{entries_append, of_pass_append}
 use Rattle.link_serve.specs.Owners.{entry_who}
 use Rattle.link_serve.specs.Turned.{Acts}
 
 numbers-dropped : (n : ℕ) (es : List Entry) → entries (numbered n es) ≡ es
 numbers-dropped n [] = refl
 numbers-dropped n (e ∷ es) = ap (λ (xs : List Entry). e ∷ xs) (numbers-dropped n es)
+
+own-numbered : (n : ℕ) (es : List Entry) → of_pass n (numbered n es) ≡ es
+own-numbered n [] = refl
+own-numbered n (e ∷ es) = ap (λ (b : Bool). cond b (e ∷ of_pass n (numbered n es)) (of_pass n (numbered n es))) (eq-eqb n n refl) ∙ ap (λ (xs : List Entry). e ∷ xs) (own-numbered n es)
 
 -- a turn, with the entries that its act appended
 pub turned : {does : Setup → List Entry → List Entry → Type 0} (v w : View Setup Entry) (own : List Entry) (t : TakesTurn entry_who does v w)
@@ -30,6 +35,16 @@ turned v w own t mine is =
       setup_is = ap (λ (z : View Setup Entry). z.setup) t.now;
       who_is = ap (λ (z : View Setup Entry). z.who) t.now;
       number_is = ap (λ (z : View Setup Entry). z.number) t.now;
+      seen_on = (t.more ++ numbered v.number t.own, ap (λ (z : View Setup Entry). z.seen) t.now ∙ append_assoc v.seen t.more (numbered v.number t.own));
+      own_on = λ was.
+          ap (λ (z : View Setup Entry). of_pass z.number z.seen) t.now
+          ∙ (of_pass_append v.number (v.seen ++ t.more) (numbered v.number t.own)
+          ∙ (ap (λ (z : List Entry). z ++ of_pass v.number (numbered v.number t.own)) (of_pass_append v.number v.seen t.more ∙ ap₂ (λ (a b : List Entry). a ++ b) was t.others ∙ append-nil v.mine)
+          ∙ (ap (λ (z : List Entry). v.mine ++ z) (own-numbered v.number t.own) ∙ sym (ap (λ (z : View Setup Entry). z.mine) t.now))));
+      given_is = ap (λ (z : View Setup Entry). z.given) t.now;
+      made_is = ap (λ (z : View Setup Entry). z.made) t.now;
+      out_is = ap (λ (z : View Setup Entry). z.out) t.now;
+      joined_is = ap (λ (z : View Setup Entry). z.joined) t.now;
       in_journal = mine;
     }
 

@@ -10,6 +10,7 @@ use Rattle.login_edge.specs.Hearing.{SaysAll}
 use Rattle.login_edge.specs.declared.writing.WriteEnd.TheVariants as write
 use Rattle.login_edge.proofs.Grown.{Grew-more, said_of-append}
 use Rattle.login_model.specs.Legal.{events_of}
+use Rattle.login_model.specs.Stopping.{stop_from}
 use Rattle.login_model.specs.declared.event.Event.{Event}
 use Rattle.login_model.specs.declared.event.Event.TheVariants.{Connect, Call as Calls}
 use Rattle.login_model.specs.declared.mark.Entry.{Entry}
@@ -25,12 +26,12 @@ use Rattle.login_office.specs.declared.teller.HeardPiece.{HeardPiece}
 use Rattle.wire_out.specs.Mail.{bytes_of, mail, wire}
 use Rattle.wire_out.proofs.Growing.{wire_grows}
 use Rattle.link_serve.specs.Owners.{entries_of, events_heard, is_let_in}
-use Rattle.link_serve.specs.Serving.{Came, Causes, FaultsAt, IsShort, Prompt, SaidAt, Told, has_hung_up, is_cut, is_hang_up, is_too_many}
+use Rattle.link_serve.specs.Serving.{Came, Causes, FaultsAt, IsShort, Prompt, SaidAt, Told, ToldUnstopped, has_hung_up, is_cut, is_hang_up, is_too_many}
 use Rattle.link_serve.specs.inner.Standing.{Goes, Moment, Rests, Stands, Stops, hung_up_end, new_events, who_of}
 use Rattle.link_serve.specs.inner.Turning.{IsHeard, moment}
 use Rattle.link_serve.specs.declared.serving.Progress.{Progress}
 use Rattle.link_serve.proofs.BytesGrow.{begun-replies, begun-stays, events-begun, events-grow, events-next, events-unbegun, no-more-replies, replies-grow}
-use Rattle.link_serve.proofs.Exchanged.{Grew-none, came-more, came-none, heard_of-append, heard_of-only, hung-append, hung-only, prompt-append, prompt-only}
+use Rattle.link_serve.proofs.Exchanged.{Grew-none, came-more, came-none, heard_of-append, heard_of-only, hung-append, hung-only, prompt-append, prompt-only, unstopped}
 use Rattle.link_serve.proofs.LetIn.{stands-let-in}
 use Rattle.link_serve.proofs.OwnEntries.{no-events, no-mail, own-front}
 
@@ -48,18 +49,20 @@ swapped r w more true none f =
 swapped r w more false f none =
     ap (λ (z : List ℕ). (r ++ z) ++ more) (none refl) ∙ (ap (λ (z : List ℕ). z ++ more) (append-nil r) ∙ (sym (append-nil (r ++ more)) ∙ ap (λ (z : List ℕ). (r ++ more) ++ z) (sym (none refl))))
 
-module _ (u : Uid) (start : Moment) (view : View Setup Entry) (t0 : Option (List Exchange)) (l0 : Option (List ℕ)) (f0 : ℕ) (p : Progress) (r : Rests u start (moment view t0 l0 f0) p) where
+module _ (u : Uid) (start : Moment) (view : View Setup Entry) (t0 : Option (List Exchange)) (l0 : Option (List ℕ)) (f0 : ℕ) (p : Progress) (unstopped-yet : stop_from 1 (entries view.seen) ≡ None) (r : Rests u start (moment view t0 l0 f0) p) where
   abbrev pub here : Stands u start (moment view t0 l0 f0) p.teller r.text r.made r.made
   here = r.stands
 
   -- all that is due was said
-  told-here : Told (who_of start) u here.setup.guid (entries view.seen) (events_heard (who_of start) u here.setup.guid (heard_of here.talk)) (heard_of here.talk) (said_of here.talk)
+  told-here : ToldUnstopped (who_of start) u here.setup.guid (entries view.seen) (events_heard (who_of start) u here.setup.guid (heard_of here.talk)) (heard_of here.talk) (said_of here.talk)
   told-here =
       let c = who_of start in
       let g = here.setup.guid in
       let all : r.made ≡ events_heard c u g (heard_of here.talk) = r.made_is ∙ ap (events_heard c u g) (sym here.text_is) in
-      subst (λ (x : List ℕ). Told c u g (entries view.seen) (events_heard c u g (heard_of here.talk)) x (said_of here.talk)) (sym here.text_is)
-      (subst (λ (es : List Event). Told c u g (entries view.seen) es r.text (said_of here.talk)) all here.said)
+      unstopped c u g (entries view.seen) (events_heard c u g (heard_of here.talk)) (heard_of here.talk) (said_of here.talk)
+      (subst (λ (x : List ℕ). Told c u g (entries view.seen) (events_heard c u g (heard_of here.talk)) x (said_of here.talk)) (sym here.text_is)
+      (subst (λ (es : List Event). Told c u g (entries view.seen) es r.text (said_of here.talk)) all here.said))
+      unstopped-yet
 
   -- nothing came of what is left
   came-still : (l1 : Option (List ℕ)) → l1 ≡ l0 → Came l0 l1 []

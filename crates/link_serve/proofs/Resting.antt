@@ -133,6 +133,10 @@ rests-stopped u start old new p x n r tells is =
     let now = rests-told u start old new p q x r tells refl refl in
     stands-stop u start new x.0 now.text now.made now.stands (end.Stopped n) (sym told.1 ∙ is) (λ shown q every. absurd (let k : None ≡ Some shown = sym now.going ∙ q in cc)) refl refl refl now.stands.faults
 
+-- the stop is not there
+pub rests-unstopped : (u : Uid) (start old new : Moment) (p : Progress) (x : TellerState × Option ℕ) → Rests u start old p → Tells p.teller old new (Ok x) → x.1 ≡ None → stop_from 1 (entries new.view.seen) ≡ None
+rests-unstopped u start old new p x r tells is = sym (tells u start r.text r.made r.made r.stands).1 ∙ is
+
 -- at rest the teller's place is one in what was seen
 pub rests-placed : (u : Uid) (now : Moment) (p : Progress) → HasRested u now p → IsPlaceIn p.teller.place (entries now.view.seen)
 rests-placed u now p r = stands-placed u r.0 now p.teller r.1.text r.1.made r.1.made r.1.stands

@@ -36,15 +36,20 @@ module _ (c : ConnId) (u : Uid) (guid : List ℕ) where
     pub made : events_of (entries_of c front) ≡ events
     pub said_is : spoken ≡ replies u guid text ++ wire c front
 
+  -- this front is one in which the stop is not
+  pub record ToldUnstopped (J : List Entry) (events : List Event) (text spoken : List ℕ) : Type 0 where
+    pub told : Told J events text spoken
+    pub no_stop : stop_from 1 told.front ≡ None
+
   -- before each piece that was heard, and before each answer without bytes, all was said that is due to the bytes before:
-  -- the replies, and the mail through the entry of the last call that these bytes make. This text was heard and this was
-  -- said before these exchanges
+  -- the replies, and the mail through the entry of the last call that these bytes make, and no stop was seen. This text was
+  -- heard and this was said before these exchanges
   abbrev pub Prompt : List Entry → (text spoken : List ℕ) → List Exchange → Type 0
   Prompt J text spoken [] = Unit {0}
-  Prompt J text spoken (heard piece ∷ es) = Told J (events_heard c u guid text) text spoken × Prompt J (text ++ piece) spoken es
+  Prompt J text spoken (heard piece ∷ es) = ToldUnstopped J (events_heard c u guid text) text spoken × Prompt J (text ++ piece) spoken es
   Prompt J text spoken (said piece ∷ es) = Prompt J text (spoken ++ piece) es
-  Prompt J text spoken (quiet ∷ es) = Told J (events_heard c u guid text) text spoken × Prompt J text spoken es
-  Prompt J text spoken (ended ∷ es) = Told J (events_heard c u guid text) text spoken × Prompt J text spoken es
+  Prompt J text spoken (quiet ∷ es) = ToldUnstopped J (events_heard c u guid text) text spoken × Prompt J text spoken es
+  Prompt J text spoken (ended ∷ es) = ToldUnstopped J (events_heard c u guid text) text spoken × Prompt J text spoken es
 
   -- a front of the replies and of the mail
   abbrev pub IsFront : List Entry → (text spoken : List ℕ) → Type 0

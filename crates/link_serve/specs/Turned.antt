@@ -7,7 +7,7 @@ use Rattle.login_model.specs.declared.event.Event.{Event}
 use Rattle.login_model.specs.declared.event.Event.TheVariants.{Stop}
 use Rattle.login_model.specs.declared.mark.Entry.{Entry}
 use Rattle.login_model.specs.declared.setup.Setup.{Setup}
-use Rattle.desk.specs.History.{entries}
+use Rattle.desk.specs.History.{StartsWith, entries, of_pass}
 use Rattle.desk.specs.declared.view.View.{View}
 use Rattle.link_serve.specs.Acting.{StepGives}
 use Rattle.link_serve.specs.Owners.{entries_of}
@@ -22,6 +22,13 @@ pub record Acts (v w : View Setup Entry) (before own : List Entry) : Type 0 wher
   pub setup_is : w.setup ≡ v.setup
   pub who_is : w.who ≡ v.who
   pub number_is : w.number ≡ v.number
+  -- what a first pass knows besides stays
+  pub seen_on : StartsWith w.seen v.seen
+  pub own_on : of_pass v.number v.seen ≡ v.mine → of_pass w.number w.seen ≡ w.mine
+  pub given_is : w.given ≡ v.given
+  pub made_is : w.made ≡ v.made
+  pub out_is : w.out ≡ v.out
+  pub joined_is : w.joined ≡ v.joined
   pub in_journal : 0 < w.who → entries_of (record { 0 = w.who }) (entries w.seen) ≡ w.mine
 
 -- whether an event was granted, or why it has no entry

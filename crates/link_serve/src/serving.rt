@@ -1,12 +1,13 @@
 // The serving of one link.
 
-ghost use Rattle.std.specs.Prelude.{◌≡◌, ◌≢◌, ◌<◌, [], ◌∷◌, ℕ, List, Option, IfOk, length};
+ghost use Rattle.std.specs.Prelude.{◌≡◌, ◌≢◌, ◌<◌, [], ◌∷◌, ℕ, List, Option, None, IfOk, length};
 ghost use Rattle.desk.specs.History.{entries};
 ghost use Rattle.login_edge.specs.Exchanges.{Exchange};
 ghost use Rattle.login_office.specs.Hearing.{MayCome};
 ghost use Rattle.wire_calls.specs.Laws.{MayStand};
 ghost use Rattle.wire_out.specs.Places.{IsPlaceIn};
 ghost use Rattle.link_serve.specs.Serving.{Served, ServesOn};
+ghost use Rattle.login_model.specs.Stopping.{stop_from};
 ghost use Rattle.login_model.specs.declared.mark.Entry.{Entry};
 ghost use Rattle.login_model.specs.declared.setup.Setup.{Setup};
 ghost use Rattle.desk.specs.declared.view.View.{View};
@@ -216,7 +217,7 @@ impl<'a, R: Wait, G: Gate> Server<'a, R, G> {
         requires buf { 0 < length buf.old }
         ensures number { L.number link.new ≡ L.number link.old }
         ensures buf { length buf.new ≡ length buf.old }
-        ensures hears { (view : View Setup Entry) (start : Moment)
+        ensures hears { (view : View Setup Entry) (start : Moment) → stop_from 1 (entries view.seen) ≡ None
             → Rests self.now.uid start (moment view (L.talk link.old) (L.left link.old) (L.faults link.old)) progress.old
             → Hears self.now.uid start (moment view (L.talk link.new) (L.left link.new) (L.faults link.new)) progress.new result }
     {
