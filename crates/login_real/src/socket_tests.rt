@@ -1,8 +1,10 @@
 // Sockets, the clock and threads of the machine, both ends of each socket in one process.
 
+ghost use Rattle.std.specs.Prelude.{◌≡◌, ◌+◌, IfOk, IfSome};
+
 use crate::{LinkWaker, MonotonicClock, SocketLink, SocketListener, ThreadSpawner};
 use libc::geteuid;
-use login_base::{Items, Uid};
+use login_base::{ConnId, Items, Uid};
 use login_edge::{
     Accepted, Clock, Heard, Job, Link, Listener, Opened, Reading, Spawner, Started, Took, WriteEnd,
     say_all,
@@ -46,12 +48,16 @@ fn new_place(rt: &HostRuntime, name: &str) -> Result<Place, Fail> {
     })
 }
 
-fn open_once<N: Listener>(listener: &mut N, dir: &str, uids: &Items<Uid>) -> Opened {
+fn open_once<N: Listener>(listener: &mut N, dir: &str, uids: &Items<Uid>) -> Opened
+    ensures given { N.given listener.new ≡ N.given listener.old }
+{
     listener.open(dir.as_bytes(), uids)
 }
 
 /// Asks until a link comes, so often at most.
-fn take_link<N: Listener>(listener: &mut N) -> Option<(N::Link, Uid)> {
+fn take_link<N: Listener>(listener: &mut N) -> Option<(N::Link, Uid)>
+    ensures number { IfSome result (λ r. N.Link.number r.0 ≡ N.given listener.old + 1) }
+{
     for _ in 0..100u32 {
         if let Accepted::Came(link, uid) = listener.accept() {
             return Some((link, uid));
@@ -60,11 +66,15 @@ fn take_link<N: Listener>(listener: &mut N) -> Option<(N::Link, Uid)> {
     None
 }
 
-fn read_once<L: Link>(link: &mut L, buf: &mut [u8; 4]) -> Heard {
+fn read_once<L: Link>(link: &mut L, buf: &mut [u8; 4]) -> Heard
+    ensures number { L.number link.new ≡ L.number link.old }
+{
     link.read(buf)
 }
 
-fn write_once<L: Link>(link: &mut L, piece: &[u8; 4096]) -> Took {
+fn write_once<L: Link>(link: &mut L, piece: &[u8; 4096]) -> Took
+    ensures number { L.number link.new ≡ L.number link.old }
+{
     link.write(piece)
 }
 
@@ -73,7 +83,9 @@ fn connected<R: Files<File = File> + Net + SystemClock>(
     rt: &R,
     listener: &mut SocketListener<R>,
     path: &str,
-) -> Result<(UnixStream, SocketLink), Fail> {
+) -> Result<(UnixStream, SocketLink), Fail>
+    ensures number { IfOk result (λ r. r.1.number ≡ listener.old.given + 1) }
+{
     let client = UnixStream::connect(rt, path)?;
     match take_link(listener) {
         Some((link, Uid(1000))) => Ok((client, link)),
@@ -85,7 +97,9 @@ fn connected<R: Files<File = File> + Net + SystemClock>(
 fn opened<R: Files<File = File> + Net + SystemClock>(
     listener: &mut SocketListener<R>,
     place: &Place,
-) -> Result<(), Fail> {
+) -> Result<(), Fail>
+    ensures given { listener.new.given ≡ listener.old.given }
+{
     match open_once(listener, place.dir.as_str(), &place.uids) {
         Opened::Ready => Ok(()),
         Opened::Failed => Err(Fail::new("the listener was not opened")),
@@ -143,13 +157,15 @@ fn leave_unread<R: Abort + Files<File = File> + Net + SystemClock>(
     rt: &R,
     listener: &mut SocketListener<R>,
     place: &Place,
-) -> Result<(), Fail> {
+) -> Result<(), Fail>
+    requires new { listener.old.given ≡ 0 }
+{
     opened(listener, place)?;
     let (client, mut link) = connected(rt, listener, place.second.as_str())?;
     assert_eq!(rt; say_all(&mut link, b"good"), WriteEnd::Done);
     drop(client);
     assert_eq!(rt; read_once(&mut link, &mut [0; 4]), Heard::End);
-    drop(link);
+    listener.give_back(ConnId(1), link);
     Ok(())
 }
 
@@ -198,6 +214,79 @@ fn sockets_have_modes_and_owners(rt: HostRuntime) -> Result<(), Fail> {
     let seen = see_modes(&rt, &mut listener, &place);
     listener.close();
     seen?;
+    gone(&rt, &place)
+}
+
+/// How many users the listener of the next test has.
+const MANY: u32 = 300;
+
+/// Whether somebody else could have connected to a socket that is meant for a user alone, when it was looked at: the folder was
+/// open, and the socket was then not yet the user's alone.
+fn was_open_to_others<F: Files>(files: &F, dir: &str, socket: &str, owner: u32) -> bool {
+    let Ok(folder) = fs::symlink_metadata(files, dir) else {
+        return false;
+    };
+    let Ok(found) = fs::symlink_metadata(files, socket) else {
+        return false;
+    };
+    let is_entered = folder.permissions().mode() & 0o077 != 0;
+    is_entered && (found.permissions().mode() & 0o777 != 0o600 || found.uid() != owner)
+}
+
+/// Looks at a socket until it is told to end. How often the socket was open to others.
+fn watch<F: Files>(files: &F, dir: &str, socket: &str, owner: u32, is_over: &AtomicBool) -> u32 {
+    let mut times = 0u32;
+    for _ in 0..u32::MAX {
+        if is_over.load(Ordering::SeqCst) {
+            return times;
+        }
+        if was_open_to_others(files, dir, socket, owner) {
+            times = times.saturating_add(1);
+        }
+    }
+    times
+}
+
+/// Opens a listener while its last socket is watched. Whether it was opened, and how often the socket was open to others.
+fn open_watched<R: Threads + Wait + Sync>(
+    rt: &R,
+    host: &HostRuntime,
+    listener: &mut SocketListener<HostRuntime>,
+    place: &Place,
+) -> Result<(Opened, u32), Fail> {
+    let is_over = AtomicBool::new(false);
+    let own = geteuid();
+    let owner = if own == 0 { MANY } else { own };
+    let (dir, socket) = (place.dir.as_str(), place.second.as_str());
+    thread::scope(thread::scope_env(), rt, |scope| {
+        let watcher = scope.spawn(|| watch(host, dir, socket, owner, &is_over))?;
+        let opened = open_once(listener, dir, &place.uids);
+        is_over.store(true, Ordering::SeqCst);
+        Ok((opened, watcher.join(rt)))
+    })
+}
+
+/// A place for so many users.
+fn crowded_place(rt: &HostRuntime) -> Result<Place, Fail> {
+    let mut place = new_place(rt, "never")?;
+    let dir = place.dir.as_str();
+    place.second = format!(in rt.alloc(); "{dir}/uid-{MANY}")?;
+    place.uids = Items::new(rt.alloc());
+    for uid in 0..MANY + 1 {
+        place.uids.push(Uid(uid))?;
+    }
+    Ok(place)
+}
+
+/// While sockets come into being, nobody but their users can connect to them.
+#[test]
+fn sockets_are_never_open_to_others(rt: HostRuntime) -> Result<(), Fail> {
+    let place = crowded_place(&rt)?;
+    let waker = LinkWaker::new(&rt);
+    let mut listener = SocketListener::new(&rt, rt.alloc(), &waker);
+    let watched = open_watched(&rt, &rt, &mut listener, &place);
+    listener.close();
+    assert!(rt; watched? == (Opened::Ready, 0));
     gone(&rt, &place)
 }
 
