@@ -26,6 +26,7 @@ pub record Says (status : ℕ) (old new : Option (List ℕ)) (before now : ℕ) 
   pub read_fault : status ≡ 3 → Reported old new before now (status_line line.ReadFault)
   pub write_fault : status ≡ 4 → Reported old new before now (status_line line.WriteFault)
   pub no_memory : status ≡ 5 → Reported old new before now (status_line line.NoMemory)
+  pub listener_or_clock_fault : status ≡ 7 → Reported old new before now (status_line line.ListenerOrClockFault)
 
 -- a text and its count of faults stay as they were
 pub record Stays (old new : Option (List ℕ)) (before now : ℕ) : Type 0 where

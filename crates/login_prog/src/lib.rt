@@ -3,6 +3,7 @@
 
 mod command;
 mod outside;
+mod serve;
 mod words;
 
 pub use command::run;

@@ -1,0 +1,6 @@
+-- What serves private functions.
+pub mod Endings
+pub mod Input
+pub mod Jobs
+pub mod House
+pub mod Left
