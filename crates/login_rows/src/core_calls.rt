@@ -6,5 +6,4 @@ mod devices;
 mod full;
 mod judging;
 mod locks;
-pub mod playing;
 mod stepping;

@@ -2,8 +2,8 @@
 
 use crate::one_by_one::OneByOne;
 use crate::running::{Outcome, expect, joined, run_with, source};
-use crate::turns::{BLOCKS, LINES};
 use login_base::NoMemory;
+use login_cases::turns::{BLOCKS, LINES};
 use std::alloc::Global;
 use std::process::Abort;
 use std::sync::Wait;
@@ -16,7 +16,7 @@ const USAGE: &[u8] = b"usage: login replay or login serve --dir DIR or login loa
 const MANY: u64 = 10_000;
 
 /// Words that are no command.
-const WORDS: [&[&[u8]]; 14] = [
+const WORDS: [&[&[u8]]; 19] = [
     &[],
     &[b""],
     &[b"Replay"],
@@ -28,7 +28,12 @@ const WORDS: [&[&[u8]]; 14] = [
     &[b"replay", b"replay"],
     &[b"--help"],
     &[b"--version"],
-    &[b"serve", b"--dir", b"d"],
+    &[b"serve"],
+    &[b"serve", b"--dir"],
+    &[b"serve", b"--dir", b""],
+    &[b"serve", b"--dir", b"-d"],
+    &[b"serve", b"--dir="],
+    &[b"serve", b"--dir", b"d", b"d"],
     &[b"load", b"5"],
     &[b"\xff"],
 ];
@@ -42,7 +47,7 @@ fn refuse_words<R: Abort + Wait + Threads + Sync>(
     at: usize,
 ) -> Result<(), NoMemory> {
     let refused = run_with(rt, alloc, words, source(alloc, text, &[])?, &[])?;
-    expect(rt, &refused, 1, b"", USAGE, at);
+    expect(rt, &refused, 1, b"", USAGE, "words", at);
     assert!(rt; refused.input.rest() == text, "at {at}");
     Ok(())
 }

@@ -1,7 +1,8 @@
 // The greatest lengths of texts and lines, the greatest numbers, and how many users there may be.
 
-use crate::running::{accept, compare, joined, replay};
+use crate::running::{accept_case, compare, joined, replay};
 use login_base::NoMemory;
+use login_cases::limits::NUMBERS;
 use std::alloc::Global;
 use std::process::Abort;
 use std::sync::Wait;
@@ -59,72 +60,9 @@ fn texts_and_lines_have_a_greatest_length(rt: HostRuntime) -> Result<(), NoMemor
     Ok(())
 }
 
-/// The greatest number of each type.
-const NUMBERS: &str = "\
-login-recording 1
-user 4294967295 4294967295 nobody
-go
-connect 4294967295 4294967295
-call 4294967295 4294967295 kill c1 all -2147483648
-call 4294967295 4294967295 kill c1 all 2147483647
-call 4294967295 4294967295 kill-user 4294967295 1
-call 4294967295 4294967295 close 4294967295
-vtkey 4294967295
-exit c4294967295
-add 4294967295 4294967295 evdev seat0
-input 4294967295 4294967295 65535 65535 -2147483648
-call 4294967295 4294967295 take c1 4294967295 4294967295
-call 4294967295 4294967295 read 4294967295
-call 4294967295 4294967295 set-mode 4294967295 4294967295
-remove 4294967295 4294967295
-tick 18446744073709551615
-tick 0
-end
-";
-
-/// Its transcript.
-const NUMBERS_TRANSCRIPT: &str = "\
-login-transcript 1
-1 connect 4294967295 4294967295
- granted
- set conn 4294967295 4294967295
-2 call 4294967295 4294967295 kill c1 all -2147483648
- denied P04 no-such-session
-3 call 4294967295 4294967295 kill c1 all 2147483647
- denied P04 no-such-session
-4 call 4294967295 4294967295 kill-user 4294967295 1
- denied P05 no-such-user
-5 call 4294967295 4294967295 close 4294967295
- denied P07 no-such-handle
-6 vtkey 4294967295
- denied P03 bad-arguments
-7 exit c4294967295
- denied P04 no-such-session
-8 add 4294967295 4294967295 evdev seat0
- granted
- set dev 4294967295:4294967295 evdev seat0
-9 input 4294967295 4294967295 65535 65535 -2147483648
- granted
-10 call 4294967295 4294967295 take c1 4294967295 4294967295
- denied P04 no-such-session
-11 call 4294967295 4294967295 read 4294967295
- denied P07 no-such-handle
-12 call 4294967295 4294967295 set-mode 4294967295 4294967295
- denied P07 no-such-handle
-13 remove 4294967295 4294967295
- granted
- set dev 4294967295:4294967295 absent
-14 tick 18446744073709551615
- granted
- set now 18446744073709551615
-15 tick 0
- denied P33 clock-backwards 18446744073709551615
-end 15
-";
-
 #[test]
 fn the_greatest_numbers(rt: HostRuntime) -> Result<(), Fail> {
-    accept(&rt, rt.alloc(), NUMBERS, NUMBERS_TRANSCRIPT)
+    accept_case(&rt, rt.alloc(), &NUMBERS)
 }
 
 /// A recording of a setup with so many users beside root, and no event.

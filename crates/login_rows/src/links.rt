@@ -1,20 +1,14 @@
 // What comes in by links and what goes out, and the limit of connected links.
 
-mod clients;
 mod crowd;
-mod ends;
 mod full;
-mod machine;
-mod manager;
-mod objects;
-mod operations;
 mod pieces;
 mod places;
 mod talking;
-mod turns;
 
-use crate::running::compare;
+use crate::running::{accept_case, compare};
 use login_base::NoMemory;
+use login_cases::links;
 use std::alloc::Global;
 use std::process::Abort;
 use std::sync::Wait;
@@ -93,4 +87,55 @@ fn the_next_link_is_denied(rt: HostRuntime) -> Result<(), Fail> {
         connect(&rt, rt.alloc(), count, line, last, errors, status)?;
     }
     Ok(())
+}
+
+// A test for each case: a table of all would be too long a text for one proof.
+#[test]
+fn first_messages_are_answered(rt: HostRuntime) -> Result<(), Fail> {
+    accept_case(&rt, rt.alloc(), &links::FIRST_MESSAGES)
+}
+
+#[test]
+fn links_do_not_begin(rt: HostRuntime) -> Result<(), Fail> {
+    accept_case(&rt, rt.alloc(), &links::NOT_BEGUN)
+}
+
+#[test]
+fn links_are_malformed(rt: HostRuntime) -> Result<(), Fail> {
+    accept_case(&rt, rt.alloc(), &links::MALFORMED)
+}
+
+#[test]
+fn links_end_in_a_message(rt: HostRuntime) -> Result<(), Fail> {
+    accept_case(&rt, rt.alloc(), &links::CUT_OFF)
+}
+
+#[test]
+fn devices_are_told(rt: HostRuntime) -> Result<(), Fail> {
+    accept_case(&rt, rt.alloc(), &links::DEVICES)
+}
+
+#[test]
+fn manager_answers(rt: HostRuntime) -> Result<(), Fail> {
+    accept_case(&rt, rt.alloc(), &links::MANAGER_CALLS)
+}
+
+#[test]
+fn manager_refuses(rt: HostRuntime) -> Result<(), Fail> {
+    accept_case(&rt, rt.alloc(), &links::MANAGER_REFUSALS)
+}
+
+#[test]
+fn objects_answer(rt: HostRuntime) -> Result<(), Fail> {
+    accept_case(&rt, rt.alloc(), &links::OBJECT_CALLS)
+}
+
+#[test]
+fn operations_are_told(rt: HostRuntime) -> Result<(), Fail> {
+    accept_case(&rt, rt.alloc(), &links::OPERATIONS)
+}
+
+#[test]
+fn links_take_turns(rt: HostRuntime) -> Result<(), Fail> {
+    accept_case(&rt, rt.alloc(), &links::TURNS)
 }

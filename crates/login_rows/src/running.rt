@@ -1,6 +1,9 @@
 // How the tests run the program, and what a run left.
 
+ghost use Rattle.std.specs.Prelude.{◌≡◌, [], IfOk};
+
 use login_base::{Bytes, Items, Millis, NoMemory, Word};
+use login_cases::{Answered, Case, Front, Refused};
 use login_edge::{MemClock, MemListener, MemSink, MemSource, MemSpawner, OpenGate, Source};
 use login_prog::{Outside, run};
 use std::alloc::Global;
@@ -64,31 +67,41 @@ fn output(alloc: Global, fails: &[u64]) -> Result<MemSink, NoMemory> {
     MemSink::new(alloc, ROOM, fails)
 }
 
-/// An outside with this input, of which no link comes. Of the writes to its output those of these numbers fail.
+/// A listener of which no link comes.
+fn listener(alloc: Global) -> Result<MemListener, NoMemory>
+    ensures new { IfOk result (λ listener. listener.register.links ≡ []) }
+{
+    MemListener::new(alloc, Items::new(alloc), Items::new(alloc))
+}
+
+/// An outside with this input and this listener. Of the writes to its output those of these numbers fail.
 fn outside<S: Source + Drop>(
     alloc: Global,
     input: S,
+    listener: MemListener,
     fails: &[u64],
-) -> Result<Outside<S, MemSink, MemSink, MemListener, MemClock, MemSpawner>, NoMemory> {
+) -> Result<Outside<S, MemSink, MemSink, MemListener, MemClock, MemSpawner>, NoMemory>
+    ensures listener { IfOk result (λ outside. outside.listener ≡ listener) }
+{
     Ok(Outside {
         input,
         output: output(alloc, fails)?,
         errors: output(alloc, &[])?,
-        listener: MemListener::new(alloc, Items::new(alloc), Items::new(alloc))?,
+        listener,
         clock: clock(alloc)?,
         spawner: MemSpawner::new(alloc, Items::new(alloc))?,
     })
 }
 
 /// Runs the program with these words. Of its writes to the output those of these numbers fail. No link comes.
-pub fn run_with<R: Wait + Threads + Sync, S: Source + Drop>(
+pub fn run_with<R: Wait + Threads + Sync, S: Source + Drop + Send>(
     rt: &R,
     alloc: Global,
     words: &[&[u8]],
     input: S,
     fails: &[u64],
 ) -> Result<Outcome<S>, NoMemory> {
-    let outside = outside(alloc, input, fails)?;
+    let outside = outside(alloc, input, listener(alloc)?, fails)?;
     let list = words_of(alloc, words)?;
     let (status, outside) = run(rt, alloc, &list, outside, &OpenGate);
     let Outside {
@@ -123,21 +136,37 @@ pub fn joined(alloc: Global, pieces: &[&[u8]]) -> Result<Vec<u8>, NoMemory> {
     Ok(text)
 }
 
-/// Compares all that a run left, at this place of a table.
+/// Compares all that a run left. What differs is told with the name of its case, and its place among its lines.
 pub fn expect<R: Abort, S>(
     rt: &R,
     run: &Outcome<S>,
     status: u8,
     output: &[u8],
     errors: &[u8],
+    name: &str,
     at: usize,
 ) {
-    assert_eq!(rt; run.status, status, "at {at}");
-    assert_eq!(rt; run.output(), output, "at {at}");
-    assert_eq!(rt; run.errors(), errors, "at {at}");
+    assert_eq!(rt; run.status, status, "{name}: at {at}");
+    assert_eq!(rt; run.output(), output, "{name}: at {at}");
+    assert_eq!(rt; run.errors(), errors, "{name}: at {at}");
 }
 
-/// Runs a recording, and compares all that it leaves.
+/// Runs the recording of a case, and compares all that it leaves.
+pub fn compare_case<R: Abort + Wait + Threads + Sync>(
+    rt: &R,
+    alloc: Global,
+    name: &str,
+    recording: &[u8],
+    transcript: &[u8],
+    status: u8,
+    errors: &str,
+) -> Result<(), Fail> {
+    let run = replay(rt, alloc, recording)?;
+    expect(rt, &run, status, transcript, errors.as_bytes(), name, 0);
+    Ok(())
+}
+
+/// The same of the only recording of a test.
 pub fn compare<R: Abort + Wait + Threads + Sync>(
     rt: &R,
     alloc: Global,
@@ -146,50 +175,25 @@ pub fn compare<R: Abort + Wait + Threads + Sync>(
     status: u8,
     errors: &str,
 ) -> Result<(), Fail> {
-    let run = replay(rt, alloc, recording)?;
-    expect(rt, &run, status, transcript, errors.as_bytes(), 0);
-    Ok(())
+    compare_case(rt, alloc, "run", recording, transcript, status, errors)
 }
 
-/// Runs a recording, which is accepted whole, and compares its transcript.
-pub fn accept<R: Abort + Wait + Threads + Sync>(
+/// Runs the recording of a case, which is accepted whole, and compares its transcript.
+pub fn accept_case<R: Abort + Wait + Threads + Sync>(
     rt: &R,
     alloc: Global,
-    recording: &str,
-    transcript: &str,
-) -> Result<(), Fail> {
-    compare(
-        rt,
-        alloc,
-        recording.as_bytes(),
-        transcript.as_bytes(),
-        0,
-        "",
-    )
-}
-
-/// Some lines of a recording, and what its transcript has of them.
-#[derive(Clone, Copy)]
-pub struct Piece {
-    pub lines: &'static str,
-    pub blocks: &'static str,
-}
-
-/// Runs a recording that is made of these pieces, and compares its transcript.
-pub fn accept_pieces<R: Abort + Wait + Threads + Sync>(
-    rt: &R,
-    alloc: Global,
-    pieces: &[Piece],
+    case: &Case,
 ) -> Result<(), Fail> {
     let mut recording = Vec::new(alloc);
     let mut transcript = Vec::new(alloc);
-    for piece in pieces {
+    for piece in case.pieces {
         recording.extend_from_slice(piece.lines.as_bytes())?;
         transcript.extend_from_slice(piece.blocks.as_bytes())?;
     }
-    compare(
+    compare_case(
         rt,
         alloc,
+        case.name,
         recording.as_slice(),
         transcript.as_slice(),
         0,
@@ -197,24 +201,29 @@ pub fn accept_pieces<R: Abort + Wait + Threads + Sync>(
     )
 }
 
-/// The front of a recording through some of its events, its transcript, and how many events these are.
-#[derive(Clone, Copy)]
-pub struct Front {
-    pub recording: &'static str,
-    pub transcript: &'static str,
-    pub entries: u32,
+/// The same of each of these cases.
+pub fn accept_cases<R: Abort + Wait + Threads + Sync>(
+    rt: &R,
+    alloc: Global,
+    cases: &[Case],
+) -> Result<(), Fail> {
+    for case in cases {
+        accept_case(rt, alloc, case)?;
+    }
+    Ok(())
 }
 
 /// Runs a recording with these lines behind a front, none of which makes a mark, and compares what each
 /// of them is answered.
-pub fn answer<R: Abort + Wait + Threads + Sync>(
+fn answer<R: Abort + Wait + Threads + Sync>(
     rt: &R,
     alloc: Global,
+    name: &str,
     front: &Front,
     lines: &[(&str, &str)],
 ) -> Result<(), Fail> {
-    let mut recording = Vec::from_slice(alloc, front.recording.as_bytes())?;
-    let mut transcript = Vec::from_slice(alloc, front.transcript.as_bytes())?;
+    let mut recording = Vec::from_slice(alloc, front.piece.lines.as_bytes())?;
+    let mut transcript = Vec::from_slice(alloc, front.piece.blocks.as_bytes())?;
     let mut number = front.entries;
     for (line, reply) in lines {
         number = number.saturating_add(1);
@@ -224,14 +233,27 @@ pub fn answer<R: Abort + Wait + Threads + Sync>(
     }
     recording.extend_from_slice(b"end\n")?;
     transcript.extend_from_slice(format!(in alloc; "end {number}\n")?.as_bytes())?;
-    compare(
+    compare_case(
         rt,
         alloc,
+        name,
         recording.as_slice(),
         transcript.as_slice(),
         0,
         "",
     )
+}
+
+/// The same of each of these cases.
+pub fn answer_cases<R: Abort + Wait + Threads + Sync>(
+    rt: &R,
+    alloc: Global,
+    cases: &[Answered],
+) -> Result<(), Fail> {
+    for case in cases {
+        answer(rt, alloc, case.name, &case.front, case.lines)?;
+    }
+    Ok(())
 }
 
 /// Runs a recording that ends with this line, which has to be refused with these errors.
@@ -241,11 +263,12 @@ fn refuse_one<R: Abort + Wait + Threads + Sync>(
     pieces: &[&[u8]],
     transcript: &[u8],
     errors: &str,
+    name: &str,
     at: usize,
 ) -> Result<(), Fail> {
     let text = joined(alloc, pieces)?;
     let run = replay(rt, alloc, text.as_slice())?;
-    expect(rt, &run, 2, transcript, errors.as_bytes(), at);
+    expect(rt, &run, 2, transcript, errors.as_bytes(), name, at);
     Ok(())
 }
 
@@ -254,6 +277,7 @@ fn refuse_one<R: Abort + Wait + Threads + Sync>(
 pub fn refuse<R: Abort + Wait + Threads + Sync>(
     rt: &R,
     alloc: Global,
+    name: &str,
     front: &[u8],
     lines: &[(&[u8], &str)],
     number: u32,
@@ -261,7 +285,28 @@ pub fn refuse<R: Abort + Wait + Threads + Sync>(
 ) -> Result<(), Fail> {
     for (at, (line, cause)) in lines.iter().enumerate() {
         let errors = format!(in alloc; "line {number}: {cause}\n")?;
-        refuse_one(rt, alloc, &[front, line], transcript, errors.as_str(), at)?;
+        let pieces = [front, line];
+        refuse_one(rt, alloc, &pieces, transcript, errors.as_str(), name, at)?;
+    }
+    Ok(())
+}
+
+/// The same of each of these cases.
+pub fn refuse_cases<R: Abort + Wait + Threads + Sync>(
+    rt: &R,
+    alloc: Global,
+    cases: &[Refused],
+) -> Result<(), Fail> {
+    for case in cases {
+        refuse(
+            rt,
+            alloc,
+            case.name,
+            case.front,
+            case.lines,
+            case.number,
+            case.transcript,
+        )?;
     }
     Ok(())
 }

@@ -1,6 +1,6 @@
 // Answers that take memory.
 
-use super::playing::{call, creation, finish, new_core, play};
+use crate::playing::{call, creation, finish, new_core, play};
 use login_base::{ConnId, HandleNo, NoMemory, SeatName, SessId, Uid};
 use login_core::Core;
 use login_model::{Answer, Call, Event};

@@ -1,6 +1,6 @@
 // What is read of a device, by way of the core's own calls.
 
-use super::playing::{call, creation, finish, new_core, play, refusal};
+use crate::playing::{call, creation, finish, new_core, play, refusal};
 use login_base::{ConnId, DevNo, HandleNo, NoMemory, SeatName, Uid, Word};
 use login_core::Core;
 use login_model::{Answer, Call, DevKind, Event, Hardware, Input};

@@ -1,7 +1,7 @@
 // The journal is full.
 
 use super::devices::listening;
-use super::playing::{close, finish, play, refusal};
+use crate::playing::{close, finish, play, refusal};
 use login_base::{ConnId, Millis, Uid};
 use login_core::{Core, Refused};
 use login_model::{Count, Event, Hardware, Key, Look};

@@ -1,6 +1,6 @@
 // Verdicts over the facts of a core.
 
-use super::playing::{call, finish, new_core, play};
+use crate::playing::{call, finish, new_core, play};
 use login_base::{ConnId, HandleNo, Millis, NoMemory, Uid};
 use login_core::Core;
 use login_judge::{judge, meant_user};

@@ -1,7 +1,7 @@
 // How many locks there can be, and what is said to locks, keys and operations under setups other than the
 // default one.
 
-use super::playing::{call, creation, finish, new_core, play};
+use crate::playing::{call, creation, finish, new_core, play};
 use login_base::{Bytes, ConnId, HandleNo, Items, LockNo, NoMemory, Uid, Word};
 use login_core::Core;
 use login_judge::{can, judge};

@@ -1,6 +1,6 @@
 // Entries are made one after the other.
 
-use super::playing::{close, finish, new_core, play, refusal};
+use crate::playing::{close, finish, new_core, play, refusal};
 use login_base::{ConnId, Millis, Uid};
 use login_core::Refused;
 use login_model::{Answer, Event, Fact, Key, Mark, Verdict};
@@ -10,7 +10,7 @@ use std::test::Fail;
 fn a_core_begins_without_entries(rt: HostRuntime) -> Result<(), Fail> {
     let core = new_core(rt.alloc())?;
     assert_eq!(rt; core.journal().len(), 0);
-    assert_eq!(rt; core.setup().users.len(), 1);
+    assert_eq!(rt; core.setup().users.len(), 2);
     finish(core);
     Ok(())
 }

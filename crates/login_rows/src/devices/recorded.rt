@@ -1,10 +1,10 @@
 // A journal that is written as a recording, which plays it again.
 
-use super::fronts::{ASKS, SESSIONS, TAKES};
-use super::pausing::ACKNOWLEDGED;
-use crate::core_calls::playing::{finish, play};
+use crate::playing::{finish, play};
 use crate::running::{compare, joined, source};
 use login_base::{Items, NoMemory};
+use login_cases::devices::fronts::{ASKS, SESSIONS, TAKES};
+use login_cases::devices::pausing::ACKNOWLEDGED;
 use login_core::Core;
 use login_edge::MemSink;
 use login_model::Event;

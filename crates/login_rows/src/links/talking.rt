@@ -1,30 +1,13 @@
 // What a link says in pieces, and what comes of it.
 
-use crate::running::{Piece, compare};
+use crate::running::compare;
 use login_base::NoMemory;
+use login_cases::links::pieces::{Part, Talk};
 use std::alloc::Global;
 use std::process::Abort;
 use std::sync::Wait;
 use std::test::Fail;
 use std::thread::Threads;
-
-/// Bytes of a link the last of which makes something whole, and what comes of it: blocks, bytes that are
-/// due, and the end of the link. Bytes are in hex.
-#[derive(Clone, Copy)]
-pub struct Part {
-    pub sent: &'static str,
-    pub blocks: &'static str,
-    pub due: &'static str,
-    pub closed: &'static str,
-}
-
-/// What link 2 sends, and the lines in front of that and behind it.
-#[derive(Clone, Copy)]
-pub struct Talk {
-    pub front: Piece,
-    pub parts: &'static [Part],
-    pub rest: Piece,
-}
 
 /// Which text of a part is meant.
 #[derive(Clone, Copy)]
