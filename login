@@ -25,7 +25,7 @@ log=$program.log    # what rt said while it was built
 
 # Whether the words are a command of the program.
 is_command() {
-    [[ $# == 1 && $1 == replay ]]
+    [[ ($# == 1 && $1 == replay) || ($# == 2 && $1 == serve && $2 == --dir=*) || ($# == 3 && $1 == serve && $2 == --dir) ]]
 }
 
 # The program's line for words that are no command, as its sources have it.
