@@ -3,7 +3,8 @@
 #![tactic(auto)]
 
 ghost use Rattle.std.specs.Prelude.{◌≡◌};
-ghost use Rattle.controller.specs.Own.{is_controller_key};
+ghost use Rattle.login_table.specs.Home.{is_home};
+ghost use Rattle.login_table.specs.declared.home.Home.TheVariants.{Controls};
 ghost use Rattle.login_model.specs.Names.{IsNext, conn_lt};
 ghost use Rattle.login_model.specs.Trail.{Trail};
 ghost use Rattle.login_model.specs.Where.{is_connected};
@@ -11,16 +12,9 @@ ghost use Rattle.login_table.specs.Stands.{Stands};
 
 use login_base::{ConnId, NoMemory};
 use login_model::{Fact, Key};
-use login_table::{CONNECTIONS, Rows, Table, kind_place};
+use login_table::{CONNECTIONS, Home, Rows, Table, kind_place};
 use std::alloc::Global;
 use std::marker::Model;
-
-/// Whether a key is one of the table of connections and controllers.
-pub fn is_controller_key(key: &Key) -> bool
-    ensures { result ≡ is_controller_key key.now }
-{
-    matches!(key, Key::Conn(_) | Key::Ctl(_))
-}
 
 /// Whose each connection is, and which connection controls each session. The numbers of both keep growing, so
 /// each has rows of its own.
@@ -42,12 +36,12 @@ impl Model for Controller {
 
 #[tactic(auto, unfolding(login_table::specs::Parts::joined))]
 impl Table for Controller {
-    ghost owns = { is_controller_key };
+    ghost owns = { is_home Controls };
 
     ghost list = { λ t. t };
 
     fn is_own(key: &Key) -> bool {
-        is_controller_key(key)
+        Home::Controls.has(key)
     }
 
     fn new(alloc: Global) -> Controller {
@@ -82,7 +76,7 @@ impl Table for Controller {
 impl Controller {
     /// The least connection above that one that is connected.
     pub fn next_conn(&self, above: Option<ConnId>) -> Option<ConnId>
-        ensures { (t : Trail) → Stands is_controller_key self.now.trail t → IsNext conn_lt (is_connected t) above result }
+        ensures { (t : Trail) → Stands (is_home Controls) self.now.trail t → IsNext conn_lt (is_connected t) above result }
     {
         self.next(above)
     }

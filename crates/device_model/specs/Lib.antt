@@ -1,2 +1,1 @@
 pub mod Ears
-pub mod Own

@@ -4,7 +4,8 @@
 
 ghost use Rattle.std.specs.Prelude.{◌≡◌, ◌==◌, ◌+◌, ◌<◌, ◌≤◌, [], ◌∷◌, IsSome, List, None, OnOk, Some, false, is_some, length, option_map};
 ghost use Rattle.device_model.specs.Ears.{AreOnce, heard_of, hears};
-ghost use Rattle.device_model.specs.Own.{is_device_key};
+ghost use Rattle.login_table.specs.Home.{is_home};
+ghost use Rattle.login_table.specs.declared.home.Home.TheVariants.{Devices};
 ghost use Rattle.login_base.specs.declared.ids.DevNo.{DevNo as AnyDevice};
 ghost use Rattle.login_base.specs.declared.ids.HandleNo.{HandleNo as AnyHandle};
 ghost use Rattle.login_model.specs.Names.{IsNext, device_lt};
@@ -21,16 +22,9 @@ use crate::ears::Ears;
 pub use ears::Ear;
 use login_base::{DevNo, HandleNo, NoMemory};
 use login_model::{Fact, Input, Inputs, Key};
-use login_table::{Rows, Table};
+use login_table::{Home, Rows, Table};
 use std::alloc::Global;
 use std::marker::Model;
-
-/// Whether a key is one of the table of devices: whether one is there, or its mode.
-pub fn is_device_key(key: &Key) -> bool
-    ensures { result ≡ is_device_key key.now }
-{
-    matches!(key, Key::Dev(_) | Key::Mode(_))
-}
 
 /// Which devices are there, of which kind and on which seat, and their modes. Beside these facts stand the
 /// handles that listen to devices: each has a ring, which keeps the last 64 inputs that it has heard.
@@ -49,16 +43,16 @@ impl Model for DeviceModel {
 }
 
 impl Table for DeviceModel {
-    ghost owns = { is_device_key };
+    ghost owns = { is_home Devices };
 
     ghost list = { λ t. record { trail = t.trail; spare = t.spare } };
 
     fn is_own(key: &Key) -> bool {
-        is_device_key(key)
+        Home::Devices.has(key)
     }
 
     fn new(alloc: Global) -> DeviceModel
-        ensures stands { Stands is_device_key result.trail [] }
+        ensures stands { Stands (is_home Devices) result.trail [] }
         ensures ears { result.ears ≡ [] }
         ensures rings { result.rings ≡ 0 }
     {
@@ -94,13 +88,13 @@ impl Table for DeviceModel {
 
     fn apply(&mut self, key: Key, fact: Fact)
         requires { 0 < self.old.spare }
-        ensures stands { (t : Trail) → Stands is_device_key self.old.trail t → Stands is_device_key self.new.trail (Set key fact ∷ t) }
-        ensures other { is_device_key key ≡ false → self.new ≡ self.old }
+        ensures stands { (t : Trail) → Stands (is_home Devices) self.old.trail t → Stands (is_home Devices) self.new.trail (Set key fact ∷ t) }
+        ensures other { is_home Devices key ≡ false → self.new ≡ self.old }
         ensures spare { self.old.spare ≤ self.new.spare + 1 }
         ensures ears { self.new.ears ≡ self.old.ears }
         ensures rings { self.new.rings ≡ self.old.rings }
     {
-        if is_device_key(&key) {
+        if Home::Devices.has(&key) {
             self.set(key, fact);
         }
     }
@@ -109,7 +103,7 @@ impl Table for DeviceModel {
 impl DeviceModel {
     /// The least device above that one that is there.
     pub fn next_device(&self, above: Option<DevNo>) -> Option<DevNo>
-        ensures { (t : Trail) → Stands is_device_key self.now.trail t → IsNext device_lt (is_device t) above result }
+        ensures { (t : Trail) → Stands (is_home Devices) self.now.trail t → IsNext device_lt (is_device t) above result }
     {
         self.next(above)
     }

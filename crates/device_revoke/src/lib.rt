@@ -3,7 +3,8 @@
 #![tactic(auto)]
 
 ghost use Rattle.std.specs.Prelude.{◌≡◌};
-ghost use Rattle.device_revoke.specs.Own.{is_revoke_key};
+ghost use Rattle.login_table.specs.Home.{is_home};
+ghost use Rattle.login_table.specs.declared.home.Home.TheVariants.{Takes};
 ghost use Rattle.login_model.specs.Devices.{is_taken};
 ghost use Rattle.login_model.specs.Names.{IsNext, device_lt, session_lt};
 ghost use Rattle.login_model.specs.Trail.{Trail};
@@ -14,19 +15,9 @@ mod kind;
 use crate::kind::Kind;
 use login_base::{DevNo, NoMemory, SessId};
 use login_model::{Fact, Key};
-use login_table::{Rows, Table, kind_place};
+use login_table::{Home, Rows, Table, kind_place};
 use std::alloc::Global;
 use std::marker::Model;
-
-/// Whether a key is one of the table of devices that sessions have taken.
-pub fn is_revoke_key(key: &Key) -> bool
-    ensures { result ≡ is_revoke_key key.now }
-{
-    matches!(
-        key,
-        Key::Taken(_, _) | Key::Owner(_) | Key::Live(_) | Key::Awaited(_, _)
-    )
-}
 
 /// Whose each handle is, which handles give access to their devices, what sessions have taken, and which
 /// pauses are awaited. The numbers of handles and sessions keep growing, so each kind has rows of its own.
@@ -50,12 +41,12 @@ impl Model for DeviceRevoke {
 
 #[tactic(auto, unfolding(login_table::specs::Parts::joined))]
 impl Table for DeviceRevoke {
-    ghost owns = { is_revoke_key };
+    ghost owns = { is_home Takes };
 
     ghost list = { λ t. t };
 
     fn is_own(key: &Key) -> bool {
-        is_revoke_key(key)
+        Home::Takes.has(key)
     }
 
     fn new(alloc: Global) -> DeviceRevoke {
@@ -96,14 +87,14 @@ impl Table for DeviceRevoke {
 impl DeviceRevoke {
     /// The least device above that one that a session has taken.
     pub fn next_taken(&self, session: SessId, above: Option<DevNo>) -> Option<DevNo>
-        ensures { (t : Trail) → Stands is_revoke_key self.now.trail t → IsNext device_lt (is_taken t session) above result }
+        ensures { (t : Trail) → Stands (is_home Takes) self.now.trail t → IsNext device_lt (is_taken t session) above result }
     {
         self.takes.next_taken(session, above)
     }
 
     /// The least session above that one that has a device taken.
     pub fn next_taker(&self, device: DevNo, above: Option<SessId>) -> Option<SessId>
-        ensures { (t : Trail) → Stands is_revoke_key self.now.trail t → IsNext session_lt (λ s. is_taken t s device) above result }
+        ensures { (t : Trail) → Stands (is_home Takes) self.now.trail t → IsNext session_lt (λ s. is_taken t s device) above result }
     {
         self.takes.next_taker(device, above)
     }

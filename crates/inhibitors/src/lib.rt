@@ -2,7 +2,8 @@
 #![tactic(auto)]
 
 ghost use Rattle.std.specs.Prelude.{◌≡◌};
-ghost use Rattle.inhibitors.specs.Own.{is_inhibitor_key};
+ghost use Rattle.login_table.specs.Home.{is_home};
+ghost use Rattle.login_table.specs.declared.home.Home.TheVariants.{Locks};
 ghost use Rattle.login_model.specs.Names.{IsNext, lock_lt};
 ghost use Rattle.login_model.specs.Trail.{Trail};
 ghost use Rattle.login_model.specs.Where.{is_lock};
@@ -10,16 +11,9 @@ ghost use Rattle.login_table.specs.Stands.{Stands};
 
 use login_base::{LockNo, NoMemory};
 use login_model::{Fact, Key};
-use login_table::{Rows, Table};
+use login_table::{Home, Rows, Table};
 use std::alloc::Global;
 use std::marker::Model;
-
-/// Whether a key is one of the table of inhibitor locks.
-pub fn is_inhibitor_key(key: &Key) -> bool
-    ensures { result ≡ is_inhibitor_key key.now }
-{
-    matches!(key, Key::Lock(_))
-}
 
 /// What each inhibitor lock holds up, how, and for whom.
 #[derive(Drop)]
@@ -36,12 +30,12 @@ impl Model for Inhibitors {
 }
 
 impl Table for Inhibitors {
-    ghost owns = { is_inhibitor_key };
+    ghost owns = { is_home Locks };
 
     ghost list = { λ t. t };
 
     fn is_own(key: &Key) -> bool {
-        is_inhibitor_key(key)
+        Home::Locks.has(key)
     }
 
     fn new(alloc: Global) -> Inhibitors {
@@ -66,7 +60,7 @@ impl Table for Inhibitors {
 impl Inhibitors {
     /// The least lock above that one that stands.
     pub fn next_lock(&self, above: Option<LockNo>) -> Option<LockNo>
-        ensures { (t : Trail) → Stands is_inhibitor_key self.now.trail t → IsNext lock_lt (is_lock t) above result }
+        ensures { (t : Trail) → Stands (is_home Locks) self.now.trail t → IsNext lock_lt (is_lock t) above result }
     {
         self.next(above)
     }

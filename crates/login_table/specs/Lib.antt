@@ -1,4 +1,5 @@
 pub mod Appended
+pub mod Home
 pub mod KeyOrder
 pub mod KeySet
 pub mod Listed

@@ -2,6 +2,7 @@
 #![tactic(auto)]
 
 mod active;
+mod home;
 mod key_order;
 mod key_set;
 mod listed;
@@ -12,6 +13,7 @@ mod search;
 mod table;
 
 pub use active::{active_on, current_vt, is_active, is_on_seat, seat_of_session, session_on};
+pub use home::Home;
 pub use key_order::{
     CONNECTIONS, DEVICES, HINTS, LIVES, LOCKS, OWNERS, SEATS, SESSIONS, TAKES, USERS, kind_place,
 };

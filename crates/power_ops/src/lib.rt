@@ -3,23 +3,17 @@
 #![tactic(auto)]
 
 ghost use Rattle.std.specs.Prelude.{◌≡◌};
-ghost use Rattle.power_ops.specs.Own.{is_power_key};
+ghost use Rattle.login_table.specs.Home.{is_home};
+ghost use Rattle.login_table.specs.declared.home.Home.TheVariants.{Power};
 
 mod operations;
 
 use login_base::NoMemory;
 use login_model::{Fact, Key};
-use login_table::{Rows, Table};
+use login_table::{Home, Rows, Table};
 pub use operations::{ended, request, settle};
 use std::alloc::Global;
 use std::marker::Model;
-
-/// Whether a key is one of the table of operations: the operation, the clock, or the dock.
-pub fn is_power_key(key: &Key) -> bool
-    ensures { result ≡ is_power_key key.now }
-{
-    matches!(key, Key::Op | Key::Now | Key::Docked)
-}
 
 /// How far an operation has come, the moment that the clock reached last, and whether the machine is in its dock.
 #[derive(Drop)]
@@ -36,12 +30,12 @@ impl Model for PowerOps {
 }
 
 impl Table for PowerOps {
-    ghost owns = { is_power_key };
+    ghost owns = { is_home Power };
 
     ghost list = { λ t. t };
 
     fn is_own(key: &Key) -> bool {
-        is_power_key(key)
+        Home::Power.has(key)
     }
 
     fn new(alloc: Global) -> PowerOps {

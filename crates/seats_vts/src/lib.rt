@@ -3,23 +3,14 @@
 #![tactic(auto)]
 
 ghost use Rattle.std.specs.Prelude.{◌≡◌};
-ghost use Rattle.seats_vts.specs.Own.{is_seat_key};
+ghost use Rattle.login_table.specs.Home.{is_home};
+ghost use Rattle.login_table.specs.declared.home.Home.TheVariants.{Seats};
 
 use login_base::NoMemory;
 use login_model::{Fact, Key};
-use login_table::{Rows, Table};
+use login_table::{Home, Rows, Table};
 use std::alloc::Global;
 use std::marker::Model;
-
-/// Whether a key is one of the table of seats and virtual terminals.
-pub fn is_seat_key(key: &Key) -> bool
-    ensures { result ≡ is_seat_key key.now }
-{
-    matches!(
-        key,
-        Key::Seat(_) | Key::Act(_) | Key::Vt | Key::Getty(_) | Key::Pending
-    )
-}
 
 /// Which seats are there, which session was made active on one without terminals, the current and the
 /// pending virtual terminal of seat0, and where a getty is asked for.
@@ -37,12 +28,12 @@ impl Model for SeatsVts {
 }
 
 impl Table for SeatsVts {
-    ghost owns = { is_seat_key };
+    ghost owns = { is_home Seats };
 
     ghost list = { λ t. t };
 
     fn is_own(key: &Key) -> bool {
-        is_seat_key(key)
+        Home::Seats.has(key)
     }
 
     fn new(alloc: Global) -> SeatsVts {

@@ -3,23 +3,14 @@
 #![tactic(auto)]
 
 ghost use Rattle.std.specs.Prelude.{◌≡◌};
-ghost use Rattle.sessions.specs.Own.{is_session_key};
+ghost use Rattle.login_table.specs.Home.{is_home};
+ghost use Rattle.login_table.specs.declared.home.Home.TheVariants.{Sessions};
 
 use login_base::NoMemory;
 use login_model::{Fact, Key};
-use login_table::{Rows, SESSIONS, Table, kind_place};
+use login_table::{Home, Rows, SESSIONS, Table, kind_place};
 use std::alloc::Global;
 use std::marker::Model;
-
-/// Whether a key is one of the table of sessions: what one is, a hint, or the last signal.
-pub fn is_session_key(key: &Key) -> bool
-    ensures { result ≡ is_session_key key.now }
-{
-    matches!(
-        key,
-        Key::Sess(_) | Key::Idle(_) | Key::Locked(_) | Key::Sig(_)
-    )
-}
 
 /// What each session is, whether it is idle or locked, and the last signal sent to it. What is told of one
 /// besides has rows of its own, so that a hint which comes late moves no session.
@@ -41,12 +32,12 @@ impl Model for Sessions {
 
 #[tactic(auto, unfolding(login_table::specs::Parts::joined))]
 impl Table for Sessions {
-    ghost owns = { is_session_key };
+    ghost owns = { is_home Sessions };
 
     ghost list = { λ t. t };
 
     fn is_own(key: &Key) -> bool {
-        is_session_key(key)
+        Home::Sessions.has(key)
     }
 
     fn new(alloc: Global) -> Sessions {

@@ -2,20 +2,14 @@
 #![tactic(auto)]
 
 ghost use Rattle.std.specs.Prelude.{◌≡◌};
-ghost use Rattle.users_linger.specs.Own.{is_user_key};
+ghost use Rattle.login_table.specs.Home.{is_home};
+ghost use Rattle.login_table.specs.declared.home.Home.TheVariants.{Users};
 
 use login_base::NoMemory;
 use login_model::{Fact, Key};
-use login_table::{Rows, Table};
+use login_table::{Home, Rows, Table};
 use std::alloc::Global;
 use std::marker::Model;
-
-/// Whether a key is one of the table of users: whether one is known, or lingers.
-pub fn is_user_key(key: &Key) -> bool
-    ensures { result ≡ is_user_key key.now }
-{
-    matches!(key, Key::User(_) | Key::Linger(_))
-}
 
 /// Whether each user is known, and whether it lingers.
 #[derive(Drop)]
@@ -32,12 +26,12 @@ impl Model for UsersLinger {
 }
 
 impl Table for UsersLinger {
-    ghost owns = { is_user_key };
+    ghost owns = { is_home Users };
 
     ghost list = { λ t. t };
 
     fn is_own(key: &Key) -> bool {
-        is_user_key(key)
+        Home::Users.has(key)
     }
 
     fn new(alloc: Global) -> UsersLinger {
