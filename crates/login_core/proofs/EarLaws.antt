@@ -22,22 +22,23 @@ use Rattle.login_core.specs.inner.Ears.{AreEnough, ListenLive, ListenOn, heard_w
 use Rattle.login_core.specs.inner.Facts.{Tables, StandFor}
 use Rattle.login_core.specs.inner.UnderWay.{so_far}
 use Rattle.login_core.proofs.Drafting.{seen}
-use Rattle.login_core.proofs.HomeLaws.{devices-stand, takes-stand}
+use Rattle.login_table.specs.declared.home.Home.TheVariants.{Devices, Takes}
+use Rattle.login_core.proofs.HomeLaws.{stand-at}
 use Rattle.login_core.proofs.Standing.{opened}
 
 -- a handle is live in the table where it is after the marks
 live-there : (f : Tables) (t : Trail) → StandFor f t → (h : HandleNo) → is_live f.takes h ≡ is_live t h
-live-there f t s h = ap is_set (takes-stand f t (opened f t s) (key.Live h) refl)
+live-there f t s h = ap is_set (stand-at f t Takes (opened f t s) (key.Live h) refl)
 
 begins-there : (f : Tables) (t : Trail) → StandFor f t → (h : HandleNo) → begins f.takes h ≡ begins t h
 begins-there f t s h =
     ap (λ (b : Bool). cond b (unheard (value f.takes (key.Owner h))) None) (live-there f t s h)
-    ∙ ap (λ (x : Fact). cond (is_live t h) (unheard x) None) (takes-stand f t (opened f t s) (key.Owner h) refl)
+    ∙ ap (λ (x : Fact). cond (is_live t h) (unheard x) None) (stand-at f t Takes (opened f t s) (key.Owner h) refl)
 
 -- a device is of the same kind in the table
 evdev-there : (f : Tables) (t : Trail) → StandFor f t → (o : Option Heard) → of_evdev f.devices o ≡ of_evdev t o
 evdev-there f t s None = refl
-evdev-there f t s (Some p) = ap (λ (x : Fact). cond (is_evdev x) (Some p) None) (devices-stand f t (opened f t s) (key.Dev p.0) refl)
+evdev-there f t s (Some p) = ap (λ (x : Fact). cond (is_evdev x) (Some p) None) (stand-at f t Devices (opened f t s) (key.Dev p.0) refl)
 
 -- rings that are enough for the draft are enough for the table
 all-live : (f : Tables) (t : Trail) → StandFor f t → (handles : List HandleNo) → AllByRecursion (λ h. is_live f.takes h ≡ true) handles → AllByRecursion (λ h. is_live t h ≡ true) handles

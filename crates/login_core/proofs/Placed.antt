@@ -8,12 +8,12 @@ use Rattle.login_model.specs.Trail.{Trail, value}
 use Rattle.login_model.proofs.Keys.{same_key-true, test}
 use Rattle.login_table.proofs.Standing.{value-set}
 use Rattle.device_model.specs.declared.ears.Ear.{Ear}
-use Rattle.login_core.specs.declared.board.home.Home.{Home}
-use Rattle.login_core.specs.declared.board.home.Home.TheVariants.{Users, Sessions, Seats, Devices, Controls, Takes, Locks, Power}
+use Rattle.login_table.specs.declared.home.Home.{Home}
+use Rattle.login_table.specs.declared.home.Home.TheVariants.{Users, Sessions, Seats, Devices, Controls, Takes, Locks, Power}
 use Rattle.login_core.specs.declared.room.counts.Counts.{Counts}
 use Rattle.login_core.specs.inner.Counts.{Follow, counts_of}
 use Rattle.login_core.specs.inner.Facts.{Tables, StandFor, table, opens, gives, inhibits}
-use Rattle.login_core.specs.inner.Home.{home}
+use Rattle.login_table.specs.Home.{home}
 use Rattle.login_core.proofs.CountedLaws.{counted-set}
 use Rattle.login_core.proofs.Counting.{sessions-set, handles-set, locks-set}
 use Rattle.login_core.proofs.HomeLaws.{at-home}

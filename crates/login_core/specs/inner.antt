@@ -1,7 +1,6 @@
 pub mod Chosen
 pub mod Rounds
 pub mod Counts
-pub mod Home
 pub mod Ears
 pub mod Facts
 pub mod Told

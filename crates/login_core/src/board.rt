@@ -3,14 +3,13 @@
 pub mod choosing;
 pub mod facts;
 pub mod hearing;
-pub mod home;
 pub mod rounds;
 pub mod seating;
 pub mod setting;
 pub mod so_far;
 pub mod taking_over;
 
-ghost use Rattle.std.specs.Prelude.{◌≡◌, ◌+◌, ◌<◌, ◌≤◌, ◌^◌, [], IsSome, List, OnOk, OnErr, Some, length};
+ghost use Rattle.std.specs.Prelude.{◌≡◌, ◌+◌, ◌<◌, ◌≤◌, ◌^◌, [], IfOk, IsSome, List, OnOk, OnErr, Some, length};
 ghost use Rattle.login_base.specs.declared.ids.DevNo.{DevNo as AnyDevice};
 ghost use Rattle.login_base.specs.declared.ids.HandleNo.{HandleNo as AnyHandle};
 ghost use Rattle.login_model.specs.declared.answer.Input.{Input as AnyInput};
@@ -280,7 +279,7 @@ impl Board {
     ghost use Rattle.login_core.specs.inner.Board.{Closes, IsBegun};
 
     /// The empty journal, and no marks. It takes no memory.
-    pub fn new(alloc: Global) -> Board
+    fn new(alloc: Global) -> Board
         ensures journal { result.journal.items ≡ [] }
         ensures marks { result.draft.trail ≡ [] }
         ensures ears { result.draft.ears ≡ [] }
@@ -290,6 +289,24 @@ impl Board {
             journal: Ledger::new(alloc),
             draft: Draft::new(alloc),
             alloc,
+        }
+    }
+
+    /// The empty journal with room for an entry, and no marks.
+    pub fn with_room(alloc: Global) -> Result<Board, NoMemory>
+        ensures journal { IfOk result (λ board. board.journal.items ≡ []) }
+        ensures entries { IfOk result (λ board. 1 ≤ board.journal.entries) }
+        ensures marks { IfOk result (λ board. board.draft.trail ≡ []) }
+        ensures ears { IfOk result (λ board. board.draft.ears ≡ []) }
+        ensures begun { IfOk result (λ board. IsBegun board) }
+    {
+        let mut board = Board::new(alloc);
+        match board.reserve(1, 0) {
+            Ok(()) => Ok(board),
+            Err(NoMemory) => {
+                drop(board);
+                Err(NoMemory)
+            }
         }
     }
 

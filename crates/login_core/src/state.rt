@@ -138,19 +138,24 @@ impl Core {
         ensures journal { IfOk result (λ core. core.journal ≡ []) }
     {
         let read = Inputs::new(alloc)?;
-        let mut board = Board::new(alloc);
-        board.reserve(1, 0)?;
-        Ok(Core {
-            setup,
-            board,
-            texts: Texts::new(alloc),
-            ready: Ready {
-                verdict: Verdict::Granted,
-                answer: Answer::Nothing,
-            },
-            stop: None,
-            read,
-        })
+        match Board::with_room(alloc) {
+            Ok(board) => Ok(Core {
+                setup,
+                board,
+                texts: Texts::new(alloc),
+                ready: Ready {
+                    verdict: Verdict::Granted,
+                    answer: Answer::Nothing,
+                },
+                stop: None,
+                read,
+            }),
+            Err(NoMemory) => {
+                drop(setup);
+                drop(read);
+                Err(NoMemory)
+            }
+        }
     }
 
     /// Makes ready for an event: takes the memory of its entry, its marks, its answer, its texts and the
@@ -191,6 +196,13 @@ impl Core {
             Event::Disconnect(_) => None,
             _ => self.stop,
         }
+    }
+
+    /// The facts, as the journal leaves them.
+    fn draft(&self) -> &Draft
+        ensures { result.now.trail ≡ trail_of self.now.journal }
+    {
+        &self.board.draft
     }
 
     /// Whether the journal is full for an event, and of what.
@@ -330,66 +342,66 @@ impl Look for Core {
     ghost trail = { λ core. trail_of core.journal };
 
     fn fact(&self, key: &Key) -> &Fact {
-        self.board.draft.fact(key)
+        self.draft().fact(key)
     }
 
     fn fresh_handle(&self) -> HandleNo {
-        self.board.draft.fresh_handle()
+        self.draft().fresh_handle()
     }
 
     fn next_session(&self, after: Option<SessId>) -> Option<SessId> {
-        self.board.draft.next_session(after)
+        self.draft().next_session(after)
     }
 
     fn next_user(&self, after: Option<Uid>) -> Option<Uid> {
-        self.board.draft.next_user(after)
+        self.draft().next_user(after)
     }
 
     fn next_seat(&self, after: Option<SeatName>) -> Option<SeatName> {
-        self.board.draft.next_seat(after)
+        self.draft().next_seat(after)
     }
 
     fn next_device(&self, after: Option<DevNo>) -> Option<DevNo> {
-        self.board.draft.next_device(after)
+        self.draft().next_device(after)
     }
 
     fn next_taken(&self, session: SessId, after: Option<DevNo>) -> Option<DevNo> {
-        self.board.draft.next_taken(session, after)
+        self.draft().next_taken(session, after)
     }
 
     fn next_taker(&self, device: DevNo, after: Option<SessId>) -> Option<SessId> {
-        self.board.draft.next_taker(device, after)
+        self.draft().next_taker(device, after)
     }
 
     fn next_lock(&self, after: Option<LockNo>) -> Option<LockNo> {
-        self.board.draft.next_lock(after)
+        self.draft().next_lock(after)
     }
 
     fn next_conn(&self, after: Option<ConnId>) -> Option<ConnId> {
-        self.board.draft.next_conn(after)
+        self.draft().next_conn(after)
     }
 
     fn session_count(&self) -> u32 {
-        self.board.draft.session_count()
+        self.draft().session_count()
     }
 
     fn conn_count(&self) -> u32 {
-        self.board.draft.conn_count()
+        self.draft().conn_count()
     }
 
     fn device_count(&self) -> u32 {
-        self.board.draft.device_count()
+        self.draft().device_count()
     }
 
     fn lock_count(&self) -> u32 {
-        self.board.draft.lock_count()
+        self.draft().lock_count()
     }
 
     fn on_terminal(&self, vt: u32) -> Option<SessId> {
-        self.board.draft.on_terminal(vt)
+        self.draft().on_terminal(vt)
     }
 
     fn is_seated(&self, uid: u32) -> bool {
-        self.board.draft.is_seated(uid)
+        self.draft().is_seated(uid)
     }
 }

@@ -16,7 +16,7 @@ use login_model::{Key, Look};
 use login_table::{active_on, current_vt, is_on_seat};
 
 /// Which way a seat turns.
-#[derive(Clone, Copy, Debug, PartialEq, Eq)]
+#[derive(Clone, Copy)]
 pub(crate) enum Way {
     Next,
     Previous,

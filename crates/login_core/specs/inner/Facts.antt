@@ -6,11 +6,11 @@ use Rattle.login_model.specs.declared.fact.Fact.{Fact}
 use Rattle.login_model.specs.Trail.{Trail, value}
 use Rattle.login_model.specs.Fresh.{fresh_session, fresh_handle, fresh_lock, is_owned_fact}
 use Rattle.device_model.specs.declared.ears.Ear.{Ear}
-use Rattle.login_core.specs.declared.board.home.Home.{Home}
-use Rattle.login_core.specs.declared.board.home.Home.TheVariants.{Users, Sessions, Seats, Devices, Controls, Takes, Locks, Power}
+use Rattle.login_table.specs.declared.home.Home.{Home}
+use Rattle.login_table.specs.declared.home.Home.TheVariants.{Users, Sessions, Seats, Devices, Controls, Takes, Locks, Power}
 use Rattle.login_core.specs.declared.room.counts.Counts.{Counts}
 use Rattle.login_core.specs.inner.Counts.{AreCounted, counts_of}
-use Rattle.login_core.specs.inner.Home.{home}
+use Rattle.login_table.specs.Home.{home}
 
 -- what facts are seen as: what each table has, as settings; the handles that listen to devices, and how many rings
 -- are spare; how many there are of what needs room; the numbers of the next session, the next handle and the next

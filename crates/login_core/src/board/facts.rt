@@ -16,7 +16,6 @@ ghost use Rattle.login_core.specs.inner.Ears.{AreEnough, ListenOn, ring_count, s
 ghost use Rattle.login_core.specs.inner.Facts.{StandFor, StandForFew, table, gives};
 
 use crate::board::hearing::settle;
-use crate::board::home::Home;
 use crate::room::counts::Counts;
 use controller::Controller;
 use device_model::DeviceModel;
@@ -24,7 +23,7 @@ use device_revoke::DeviceRevoke;
 use inhibitors::Inhibitors;
 use login_base::{ConnId, DevNo, HandleNo, LockNo, NoMemory, SeatName, SessId, Uid};
 use login_model::{Event, Fact, Input, Inputs, Key, Mark, Verdict};
-use login_table::Table;
+use login_table::{Home, Table};
 use power_ops::PowerOps;
 use seats_vts::SeatsVts;
 use sessions::Sessions;

@@ -24,7 +24,7 @@ fn bucket_of(number: u32) -> usize
 
 /// How many sessions there are by a number of each: a terminal, or a user. Numbers that leave the same remainder
 /// share a bucket.
-#[derive(Clone, Copy, Debug)]
+#[derive(Clone, Copy)]
 pub struct Tally {
     counts: [u32; BUCKETS],
 }
@@ -128,7 +128,7 @@ fn user_in(fact: &Fact) -> Option<u32>
 
 /// How many open sessions of seat0 there are by their terminal, and how many open sessions with a seat by their
 /// user; and which session came last to the terminals of each bucket.
-#[derive(Clone, Copy, Debug)]
+#[derive(Clone, Copy)]
 pub struct Seating {
     terminals: Tally,
     /// Those whose terminal has no bucket of its own.

@@ -70,13 +70,15 @@ impl Draft {
         requires room { Fits (close_owned handle (owner_fact owner)) self.old }
         ensures marked { self.new ≡ marked_by (close_owned handle (owner_fact owner)) self.old }
     {
-        if let Some(owner) = owner {
-            match owner {
-                Owner::Fifo(_, session) => self.close_fifo(handle, session, closing),
-                Owner::Lock(_, lock) => self.close_lock(handle, lock),
-                Owner::Device(_, session, device) => self.close_device(handle, session, device),
-                Owner::Closed => {}
-            }
+        if let Some(Owner::Fifo(_, session)) = owner {
+            self.close_fifo(handle, session, closing);
+            return;
+        }
+        drop(closing);
+        match owner {
+            Some(Owner::Lock(_, lock)) => self.close_lock(handle, lock),
+            Some(Owner::Device(_, session, device)) => self.close_device(handle, session, device),
+            _ => {}
         }
     }
 

@@ -8,7 +8,7 @@ use login_model::{Creation, Session, SessionTexts, Slot};
 use std::alloc::Global;
 
 /// The texts of a session that is created, and memory for the session: for its mark and for its fact.
-#[derive(Debug, Drop)]
+#[derive(Drop)]
 pub struct Copies {
     pub mark: SessionTexts,
     pub fact: SessionTexts,
@@ -35,10 +35,10 @@ pub fn copies_of(alloc: Global, creation: &Creation) -> Result<Copies, NoMemory>
     ensures mark { IfOk result (λ copies. copies.mark ≡ session_texts creation.now) }
     ensures fact { IfOk result (λ copies. copies.fact ≡ session_texts creation.now) }
 {
-    let mark = copied_texts(creation)?;
-    let fact = copied_texts(creation)?;
     let mark_slot = Slot::new(alloc)?;
     let fact_slot = Slot::new(alloc)?;
+    let mark = copied_texts(creation)?;
+    let fact = copied_texts(creation)?;
     Ok(Copies {
         mark,
         fact,

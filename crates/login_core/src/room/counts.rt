@@ -8,7 +8,7 @@ ghost use Rattle.login_core.specs.inner.Counts.{AreCounted, CanAllMove, Follow, 
 use login_model::{Fact, Key};
 
 /// How many there are of what needs room in the journal or has a limit.
-#[derive(Clone, Copy, Debug)]
+#[derive(Clone, Copy)]
 pub struct Counts {
     /// Clients that are connected.
     pub connections: u32,

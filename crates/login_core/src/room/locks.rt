@@ -9,14 +9,14 @@ use login_model::{Inhibition, Lock, Slot};
 use std::alloc::Global;
 
 /// What people read of a lock.
-#[derive(Debug, Drop)]
+#[derive(Drop)]
 pub struct LockTexts {
     pub who: Word,
     pub why: Word,
 }
 
 /// The texts of a lock that is asked for, and memory for the lock: for its mark and for its fact.
-#[derive(Debug, Drop)]
+#[derive(Drop)]
 pub struct LockCopies {
     pub mark: LockTexts,
     pub fact: LockTexts,

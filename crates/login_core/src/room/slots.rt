@@ -5,7 +5,7 @@ use login_model::Slot;
 use std::alloc::Global;
 
 /// Memory for the seat of a device that comes: for its mark and for its fact.
-#[derive(Debug, Drop)]
+#[derive(Drop)]
 pub struct SeatSlots {
     pub mark: Slot<SeatName>,
     pub fact: Slot<SeatName>,

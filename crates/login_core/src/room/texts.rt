@@ -2,7 +2,7 @@
 
 ghost use Rattle.std.specs.Prelude.{◌≡◌, OnOk, IfOk, Some, None};
 ghost use Rattle.login_base.specs.declared.ids.SessId.{SessId as SessionId};
-ghost use Rattle.login_core.specs.Kept.{AreReady, AreReadyFor, AreReadyToCall, AreReadyToHappen, AreFresh, HasLock, copies_in};
+ghost use Rattle.login_core.specs.Kept.{AreOf, AreReady, AreReadyFor, AreReadyToCall, AreReadyToHappen, AreFresh, HasLock, copies_in};
 
 use crate::room::copies::{Copies, copies_of};
 use crate::room::kept::Spares;
@@ -11,6 +11,7 @@ use crate::room::slots::SeatSlots;
 use login_base::NoMemory;
 use login_model::{Call, Creation, Event, Hardware, Inhibition};
 use std::alloc::Global;
+use std::mem;
 
 /// The texts of a session that is created, for its whole life.
 #[derive(Drop)]
@@ -31,18 +32,43 @@ pub struct Texts {
     pub seats: Option<SeatSlots>,
 }
 
+/// The copies of a creation's texts, with those that the session is created with.
+fn fresh_with(
+    alloc: Global,
+    creation: &Creation,
+    created: Copies,
+    closing: Copies,
+) -> Result<FreshTexts, NoMemory>
+    requires created { AreOf creation.now created }
+    requires closing { AreOf creation.now closing }
+    ensures { IfOk result (λ f. AreFresh creation.now (Some f)) }
+{
+    match copies_of(alloc, creation) {
+        Ok(gone) => Ok(FreshTexts {
+            created,
+            closing,
+            gone,
+        }),
+        Err(NoMemory) => {
+            drop(created);
+            drop(closing);
+            Err(NoMemory)
+        }
+    }
+}
+
 /// The copies of a creation's texts.
 fn fresh_of(alloc: Global, creation: &Creation) -> Result<FreshTexts, NoMemory>
     ensures { IfOk result (λ f. AreFresh creation.now (Some f)) }
 {
     let created = copies_of(alloc, creation)?;
-    let closing = copies_of(alloc, creation)?;
-    let gone = copies_of(alloc, creation)?;
-    Ok(FreshTexts {
-        created,
-        closing,
-        gone,
-    })
+    match copies_of(alloc, creation) {
+        Ok(closing) => fresh_with(alloc, creation, created, closing),
+        Err(NoMemory) => {
+            drop(created);
+            Err(NoMemory)
+        }
+    }
 }
 
 impl Texts {
@@ -68,7 +94,8 @@ impl Texts {
     {
         self.closing.reserve()?;
         self.gone.reserve()?;
-        self.fresh = Some(fresh_of(alloc, creation)?);
+        let fresh = fresh_of(alloc, creation)?;
+        drop(mem::replace(&mut self.fresh, Some(fresh)));
         Ok(())
     }
 

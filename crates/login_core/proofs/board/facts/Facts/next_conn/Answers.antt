@@ -1,10 +1,11 @@
 use Rattle.std.proofs.Common.{sym, subst}
 use Rattle.login_core.specs.inner.Facts.{Tables, StandFor}
-use Rattle.login_core.proofs.HomeLaws.{controls-stand}
+use Rattle.login_table.specs.declared.home.Home.TheVariants.{Controls}
+use Rattle.login_core.proofs.HomeLaws.{stand-at}
 use Rattle.login_core.proofs.Standing.{opened}
 use Rattle.login_core.proofs.board.facts.Facts.next_conn.Goals as goal
 
 pub returns : goal.returns
 returns c = λ t s.
     let P : Tables → Type 0 = λ f. StandFor f t in
-    c.next_conn.ensures t (controls-stand _ t (opened _ t (subst P (sym c.self.view_is) s)))
+    c.next_conn.ensures t (stand-at _ t Controls (opened _ t (subst P (sym c.self.view_is) s)))

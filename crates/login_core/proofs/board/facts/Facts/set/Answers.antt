@@ -3,7 +3,7 @@ use Rattle.login_model.specs.declared.fact.Key.{Key}
 use Rattle.login_model.specs.declared.fact.Fact.{Fact}
 use Rattle.login_model.specs.Fresh.{fresh_session, fresh_handle, fresh_lock}
 use Rattle.login_model.specs.Trail.{value}
-use Rattle.login_core.specs.declared.board.home.Home.TheVariants.{Users, Sessions, Seats, Devices, Controls, Takes, Locks, Power}
+use Rattle.login_table.specs.declared.home.Home.TheVariants.{Users, Sessions, Seats, Devices, Controls, Takes, Locks, Power}
 use Rattle.login_core.specs.declared.board.facts.Facts.TheInside.{Inside}
 use Rattle.login_core.specs.declared.room.counts.Counts.{Counts}
 use Rattle.login_core.specs.inner.Counts.{CanAllMove, Follow, counts_of}
