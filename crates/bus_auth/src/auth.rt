@@ -101,7 +101,7 @@ impl Auth {
     pub fn is_begun(&self) -> bool
         ensures { IsTrue result ↔ (self.now.state ≡ Begun []) }
     {
-        self.progress == Progress::Begun
+        matches!(self.progress, Progress::Begun)
     }
 
     /// How it ended with no connection, where it has.

@@ -6,7 +6,7 @@ ghost use Rattle.bus_auth.specs.Commands.{first_word, identity, response_of, res
 use login_base::{Uid, read_number};
 
 /// What a line asks for: its first word, up to its first space.
-#[derive(Clone, Copy, Debug, PartialEq, Eq)]
+#[derive(Clone, Copy)]
 pub enum Command {
     Auth(Response),
     Data(Response),
@@ -18,7 +18,7 @@ pub enum Command {
 }
 
 /// What a client answers to the challenge of EXTERNAL.
-#[derive(Clone, Copy, Debug, PartialEq, Eq)]
+#[derive(Clone, Copy)]
 pub enum Response {
     /// Nothing: the server is to take the user that the socket tells.
     Empty,

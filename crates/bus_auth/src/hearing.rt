@@ -18,7 +18,7 @@ const MOST_BYTES: usize = 512;
 const MOST_LINES: u8 = 64;
 
 /// A handshake between two lines.
-#[derive(Clone, Copy, Debug, PartialEq, Eq)]
+#[derive(Clone, Copy, Debug)]
 pub struct Talk {
     /// What the server waits for.
     pub stage: Stage,
@@ -27,7 +27,7 @@ pub struct Talk {
 }
 
 /// How far a handshake is.
-#[derive(Clone, Copy, Debug, PartialEq, Eq)]
+#[derive(Clone, Copy, Debug)]
 pub enum Progress {
     /// The NUL has not come.
     WaitingForNul,
@@ -40,7 +40,7 @@ pub enum Progress {
 }
 
 /// Where the lines of a text ended.
-#[derive(Debug, Drop)]
+#[derive(Drop)]
 pub(crate) enum Outcome {
     /// A line is open, behind so many bytes of whole lines.
     Talking(Talk, usize),
@@ -50,7 +50,7 @@ pub(crate) enum Outcome {
 }
 
 /// What the lines of a text led to.
-#[derive(Debug, Drop)]
+#[derive(Drop)]
 pub(crate) struct Heard {
     pub replies: Bytes,
     pub outcome: Outcome,

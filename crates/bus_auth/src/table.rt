@@ -7,7 +7,7 @@ use crate::command::{Command, Response};
 use login_base::NoMemory;
 
 /// What the server waits for ("Authentication state diagrams").
-#[derive(Clone, Copy, Debug, PartialEq, Eq)]
+#[derive(Clone, Copy, Debug)]
 pub enum Stage {
     WaitingForAuth,
     WaitingForData,
@@ -15,7 +15,7 @@ pub enum Stage {
 }
 
 /// What the server replies to a line.
-#[derive(Clone, Copy, Debug, PartialEq, Eq)]
+#[derive(Clone, Copy)]
 pub enum Reply {
     Accepted,
     Challenge,
@@ -37,7 +37,7 @@ pub enum Ending {
 }
 
 /// What a line leads to.
-#[derive(Clone, Copy, Debug, PartialEq, Eq)]
+#[derive(Clone, Copy)]
 pub enum Turn {
     Answer(Reply, Stage),
     Begin,

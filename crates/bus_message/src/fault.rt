@@ -58,14 +58,14 @@ pub struct Malformed {
 }
 
 /// What is wrong with a message, with the offset from its start.
-#[derive(Clone, Copy, Debug, PartialEq, Eq)]
+#[derive(Clone, Copy)]
 pub struct Fault {
     pub offset: usize,
     pub cause: Cause,
 }
 
 /// Why no message is read.
-#[derive(Clone, Copy, Debug, PartialEq, Eq)]
+#[derive(Clone, Copy)]
 pub(crate) enum Refusal {
     Malformed(Fault),
     NoMemory,

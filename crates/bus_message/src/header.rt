@@ -14,7 +14,7 @@ pub(crate) const SIZE: usize = 16;
 const MOST_BYTES: usize = 1048576;
 
 /// What the first 16 bytes say.
-#[derive(Clone, Copy, Debug, PartialEq, Eq)]
+#[derive(Clone, Copy)]
 pub struct Header {
     pub order: Order,
     pub kind: u8,

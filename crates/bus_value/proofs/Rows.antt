@@ -1,5 +1,5 @@
 -- Values that are written one behind the other.
-use Rattle.std.proofs.Common.{◌≡◌, ℕ, zero, suc, ◌+◌, ◌-◌, ◌<◌, ◌≤◌, List, [], ◌∷◌, ◌++◌, length, take, drop, get_or, refl, ap, subst, arith, append_assoc, append-nil, length-append, add-one, sym, ◌∙◌}
+use Rattle.std.proofs.Common.{◌≡◌, ℕ, zero, suc, ◌+◌, ◌-◌, ◌^◌, ◌<◌, ◌≤◌, List, [], ◌∷◌, ◌++◌, length, take, drop, get_or, refl, ap, subst, arith, append_assoc, append-nil, length-append, add-one, sym, ◌∙◌}
 use Rattle.std.proofs.lemmas.List.{length-replicate}
 use Rattle.std.proofs.Math.Seq.{drop-append-add}
 use Rattle.std.proofs.lemmas.List.{take_all}
@@ -196,6 +196,35 @@ dict_written o start at n k t old first whole closed es shown self a b place c a
     let elements : whole ≡ first ++ entry_spellings o (first_element p 8) (entries es) =
     b ∙ ap (λ (us : List (BasicValue × Val)). first ++ entry_spellings o (start + length first) (entries us)) (take_all n shown all ∙ same) ∙ ap (λ (m : ℕ). first ++ entry_spellings o m (entries es)) (behind_front o start p 8 old first refl a) in
     array_closed o p 8 at old first _ whole closed a elements place c ∙ ap (λ (v : Val). old ++ spelling o p v) is
+
+-- the place of an array's length is in front of its elements, and these are within the limit
+pub record Closes (at first : ℕ) (whole : List ℕ) : Type 0 where
+  pub room : at + 4 ≤ first
+  pub within : first ≤ length whole
+  pub small : length whole < first + 2 ^ 32
+
+closes : (o : Order) (p align at : ℕ) (old first elements whole : List ℕ) → first ≡ old ++ array_front o p align 0 → whole ≡ first ++ elements → at ≡ length old + pad_size p 4 → length elements ≤ 2 ^ 26 → Closes at (length first) whole
+closes o p align at old first elements whole a b place few =
+    let long : length first ≡ length old + length (array_front o p align 0) = ap length a ∙ length-append old (array_front o p align 0) in
+    let size : length (array_front o p align 0) ≡ pad_size p 4 + (4 + pad_size (behind_length p) align) = front_length o p align 0 in
+    let all : length whole ≡ length first + length elements = ap length b ∙ length-append first elements in
+    record { room = omega arith; within = omega arith; small = omega arith }
+
+pub array_closes : (o : Order) (start at n : ℕ) (t : Shape) (old first whole : List ℕ) (vs shown : List Val) (self : Val) → first ≡ old ++ array_front o (start + length old) (boundary t) 0 →
+    whole ≡ first ++ spellings o (start + length first) (vals (take n shown)) → at ≡ length old + pad_size (start + length old) 4 → length shown ≤ n → shown ≡ vs → array t (vals vs) ≡ self → Fits o (start + length old) self → Closes at (length first) whole
+array_closes o start at n t old first whole vs shown self a b place all same is fit =
+    let p : ℕ = start + length old in
+    let fits : Fits o p (array t (vals vs)) = subst (λ (v : Val). Fits o p v) (sym is) fit in
+    closes o p (boundary t) at old first (spellings o (first_element p (boundary t)) (vals vs)) whole a
+    (b ∙ ap (λ (us : List Val). first ++ spellings o (start + length first) (vals us)) (take_all n shown all ∙ same) ∙ ap (λ (m : ℕ). first ++ spellings o m (vals vs)) (behind_front o start p (boundary t) old first refl a)) place fits.0
+
+pub dict_closes : (o : Order) (start at n : ℕ) (k : Basic) (t : Shape) (old first whole : List ℕ) (es shown : List (BasicValue × Val)) (self : Val) → first ≡ old ++ array_front o (start + length old) 8 0 →
+    whole ≡ first ++ entry_spellings o (start + length first) (entries (take n shown)) → at ≡ length old + pad_size (start + length old) 4 → length shown ≤ n → shown ≡ es → dict k t (entries es) ≡ self → Fits o (start + length old) self → Closes at (length first) whole
+dict_closes o start at n k t old first whole es shown self a b place all same is fit =
+    let p : ℕ = start + length old in
+    let fits : Fits o p (dict k t (entries es)) = subst (λ (v : Val). Fits o p v) (sym is) fit in
+    closes o p 8 at old first (entry_spellings o (first_element p 8) (entries es)) whole a
+    (b ∙ ap (λ (us : List (BasicValue × Val)). first ++ entry_spellings o (start + length first) (entries us)) (take_all n shown all ∙ same) ∙ ap (λ (m : ℕ). first ++ entry_spellings o m (entries es)) (behind_front o start p 8 old first refl a)) place fits.0
 
 -- a part is smaller than the whole
 parts_at : (vs : List Val) (n : ℕ) (d : Val) → n < length vs → parts (get_or vs n d) ≤ parts_in (vals vs)

@@ -7,7 +7,7 @@ use Rattle.bus_value.specs.Spelling.{first_element, pad_size, array_front}
 use Rattle.bus_value.specs.Numbers.{number_bytes}
 use Rattle.bus_value.specs.Limits.{Fits, AllFit, EntriesFit}
 use Rattle.bus_names.proofs.Fronts.{kept_once, kept_behind, on_err}
-use Rattle.bus_value.proofs.Rows.{value_fits, value_pushed, behind_padding, behind_front, entry_fits, entry_pushed, value_place, array_written, dict_written, item_smaller, pair_smaller}
+use Rattle.bus_value.proofs.Rows.{value_fits, value_pushed, behind_padding, behind_front, entry_fits, entry_pushed, value_place, Closes, array_closes, dict_closes, array_written, dict_written, item_smaller, pair_smaller}
 use Rattle.bus_value.proofs.value.Value.+push.Goals as goal
 
 pub push-requires : goal.push-requires
@@ -122,3 +122,24 @@ returns-in_err-push-in-Dict-clause-kept t c =
     let keyed = kept_behind c.loop-key.out.items c.push_padding-in-loop-key.new.out.items c.push_basic-in-loop-key.new.out.items c.push-in-loop-key.new.out.items _ _ c.in_ok-push_padding-in-Dict.ensures.value c.in_ok-push_basic-in-Dict.ensures.value c.in_err-push-in-Dict.ensures.kept in
     on_err c.from_residual-in_err-push-in-Dict.result
     (kept_behind c.args.out.now.items c.begin_array-in-Dict.new.out.items c.loop-key.out.items c.push-in-loop-key.new.out.items _ _ c.in_ok-at-in-Dict.ensures.bytes c.loop-key.invariant keyed)
+
+pub end_array-requires : goal.end_array-requires
+end_array-requires t c =
+    let kind = c.in-Array.kind in
+    let whole : array kind (vals c.in-Array.elements.items) ≡ c.args.self.now = ap value_of (sym c.in-Array.is) ∙ c.self.view_is in
+    let front : c.begin_array.new.out.items ≡ c.args.out.now.items ++ array_front c.args.order (c.args.start + length c.args.out.now.items) (boundary kind) 0 =
+    c.in_ok-at-in-Array.ensures.bytes ∙ ap (λ (n : ℕ). c.args.out.now.items ++ array_front c.args.order (c.args.start + length c.args.out.now.items) n 0) c.boundary.ensures.value in
+    let long : c.len-first.result ≡ length c.begin_array.new.out.items = search rules in
+    let k : Closes c.in_ok-at-in-Array.at c.len-first.result c.loop-element.out.items = subst (λ (n : ℕ). Closes c.in_ok-at-in-Array.at n c.loop-element.out.items) (sym long)
+    (array_closes c.args.order c.args.start c.in_ok-at-in-Array.at c.loop-element.element-index kind c.args.out.now.items c.begin_array.new.out.items c.loop-element.out.items c.in-Array.elements.items c.deref-element-items.result.now c.args.self.now
+    front c.loop-element.invariant c.in_ok-at-in-Array.ensures.place c.loop-element-test.false c.deref-element-items.ensures.value whole c.requires) in
+    record { room = k.room; within = k.within; small = k.small }
+
+pub end_array-requires-in-Dict : goal.end_array-requires-in-Dict
+end_array-requires-in-Dict t c =
+    let whole : dict c.in-Dict.field-0 c.in-Dict.field-1 (entries c.in-Dict.pairs.items) ≡ c.args.self.now = ap value_of (sym c.in-Dict.is) ∙ c.self.view_is in
+    let long : c.len-first-in-Dict.result ≡ length c.begin_array-in-Dict.new.out.items = search rules in
+    let k : Closes c.in_ok-at-in-Dict.at c.len-first-in-Dict.result c.loop-key.out.items = subst (λ (n : ℕ). Closes c.in_ok-at-in-Dict.at n c.loop-key.out.items) (sym long)
+    (dict_closes c.args.order c.args.start c.in_ok-at-in-Dict.at c.loop-key.key-index c.in-Dict.field-0 c.in-Dict.field-1 c.args.out.now.items c.begin_array-in-Dict.new.out.items c.loop-key.out.items c.in-Dict.pairs.items c.deref-key-items.result.now c.args.self.now
+    c.in_ok-at-in-Dict.ensures.bytes c.loop-key.invariant c.in_ok-at-in-Dict.ensures.place c.loop-key-test.false c.deref-key-items.ensures.value whole c.requires) in
+    record { room = k.room; within = k.within; small = k.small }
