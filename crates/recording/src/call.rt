@@ -26,12 +26,11 @@ fn read_other_call(alloc: Global, word: &[u8], words: &[&[u8]]) -> Result<Call, 
     ensures { Reads (other_call_of word.now (map (λ word. word.now) words.now)) (known_fault (behind_in word.now other_shapes) (map (λ word. word.now) words.now)) result }
 {
     if is_word(word, b"get") {
-        Ok(Call::GetProperty(read(alloc, words)?))
+        read(alloc, words).map(Call::GetProperty)
     } else if is_word(word, b"get-all") {
-        let (path, interface) = read(alloc, words)?;
-        Ok(Call::GetAllProperties(path, interface))
+        read(alloc, words).map(|(path, interface)| Call::GetAllProperties(path, interface))
     } else if is_word(word, b"set") {
-        Ok(Call::SetProperty(read(alloc, words)?))
+        read(alloc, words).map(Call::SetProperty)
     } else if is_word(word, b"ping") {
         read_alone(Call::Ping, words)
     } else if is_word(word, b"machine-id") {
@@ -39,11 +38,11 @@ fn read_other_call(alloc: Global, word: &[u8], words: &[&[u8]]) -> Result<Call, 
     } else if is_word(word, b"hello") {
         read_alone(Call::Hello, words)
     } else if is_word(word, b"owner") {
-        Ok(Call::GetNameOwner(read(alloc, words)?))
+        read(alloc, words).map(Call::GetNameOwner)
     } else if is_word(word, b"add-match") {
-        Ok(Call::AddMatch(read(alloc, words)?))
+        read(alloc, words).map(Call::AddMatch)
     } else if is_word(word, b"remove-match") {
-        Ok(Call::RemoveMatch(read(alloc, words)?))
+        read(alloc, words).map(Call::RemoveMatch)
     } else if is_word(word, b"nothing") {
         read_alone(Call::NoCall, words)
     } else if is_word(word, b"no-object") {
@@ -63,29 +62,25 @@ fn read_seat_call(alloc: Global, word: &[u8], words: &[&[u8]]) -> Result<Call, L
     ensures { Reads (seat_call_of word.now (map (λ word. word.now) words.now)) (known_fault (behind_in word.now seat_shapes) (map (λ word. word.now) words.now)) result }
 {
     if is_word(word, b"switch") {
-        let (seat, vt) = read(alloc, words)?;
-        Ok(Call::SwitchTo(seat, vt))
+        read(alloc, words).map(|(seat, vt)| Call::SwitchTo(seat, vt))
     } else if is_word(word, b"next") {
-        Ok(Call::SwitchToNext(read(alloc, words)?))
+        read(alloc, words).map(Call::SwitchToNext)
     } else if is_word(word, b"prev") {
-        Ok(Call::SwitchToPrevious(read(alloc, words)?))
+        read(alloc, words).map(Call::SwitchToPrevious)
     } else if is_word(word, b"terminate-seat") {
-        Ok(Call::TerminateSeat(read(alloc, words)?))
+        read(alloc, words).map(Call::TerminateSeat)
     } else if is_word(word, b"terminate-user") {
-        Ok(Call::TerminateUser(read(alloc, words)?))
+        read(alloc, words).map(Call::TerminateUser)
     } else if is_word(word, b"kill-user") {
-        let (uid, signal) = read(alloc, words)?;
-        Ok(Call::KillUser(uid, signal))
+        read(alloc, words).map(|(uid, signal)| Call::KillUser(uid, signal))
     } else if is_word(word, b"linger") {
-        let (uid, on) = read(alloc, words)?;
-        Ok(Call::SetLinger(uid, on))
+        read(alloc, words).map(|(uid, on)| Call::SetLinger(uid, on))
     } else if is_word(word, b"read") {
-        Ok(Call::ReadInput(read(alloc, words)?))
+        read(alloc, words).map(Call::ReadInput)
     } else if is_word(word, b"set-mode") {
-        let (handle, mode) = read(alloc, words)?;
-        Ok(Call::SetMode(handle, mode))
+        read(alloc, words).map(|(handle, mode)| Call::SetMode(handle, mode))
     } else if is_word(word, b"close") {
-        Ok(Call::Close(read(alloc, words)?))
+        read(alloc, words).map(Call::Close)
     } else {
         read_other_call(alloc, word, words)
     }
@@ -97,39 +92,31 @@ fn read_session_call(alloc: Global, word: &[u8], words: &[&[u8]]) -> Result<Call
     ensures { Reads (session_call_of word.now (map (λ word. word.now) words.now)) (known_fault (behind_in word.now session_shapes) (map (λ word. word.now) words.now)) result }
 {
     if is_word(word, b"activate") {
-        Ok(Call::Activate(read(alloc, words)?))
+        read(alloc, words).map(Call::Activate)
     } else if is_word(word, b"activate-on") {
-        let (id, seat) = read(alloc, words)?;
-        Ok(Call::ActivateOnSeat(id, seat))
+        read(alloc, words).map(|(id, seat)| Call::ActivateOnSeat(id, seat))
     } else if is_word(word, b"lock") {
-        Ok(Call::Lock(read(alloc, words)?))
+        read(alloc, words).map(Call::Lock)
     } else if is_word(word, b"unlock") {
-        Ok(Call::Unlock(read(alloc, words)?))
+        read(alloc, words).map(Call::Unlock)
     } else if is_word(word, b"kill") {
-        let (id, (who, signal)) = read(alloc, words)?;
-        Ok(Call::Kill(id, who, signal))
+        read(alloc, words).map(|(id, (who, signal))| Call::Kill(id, who, signal))
     } else if is_word(word, b"terminate") {
-        Ok(Call::Terminate(read(alloc, words)?))
+        read(alloc, words).map(Call::Terminate)
     } else if is_word(word, b"idle") {
-        let (id, on) = read(alloc, words)?;
-        Ok(Call::SetIdle(id, on))
+        read(alloc, words).map(|(id, on)| Call::SetIdle(id, on))
     } else if is_word(word, b"locked") {
-        let (id, on) = read(alloc, words)?;
-        Ok(Call::SetLocked(id, on))
+        read(alloc, words).map(|(id, on)| Call::SetLocked(id, on))
     } else if is_word(word, b"control") {
-        let (id, force) = read(alloc, words)?;
-        Ok(Call::Control(id, force))
+        read(alloc, words).map(|(id, force)| Call::Control(id, force))
     } else if is_word(word, b"uncontrol") {
-        Ok(Call::Uncontrol(read(alloc, words)?))
+        read(alloc, words).map(Call::Uncontrol)
     } else if is_word(word, b"take") {
-        let (id, device) = read(alloc, words)?;
-        Ok(Call::TakeDevice(id, device))
+        read(alloc, words).map(|(id, device)| Call::TakeDevice(id, device))
     } else if is_word(word, b"release") {
-        let (id, device) = read(alloc, words)?;
-        Ok(Call::ReleaseDevice(id, device))
+        read(alloc, words).map(|(id, device)| Call::ReleaseDevice(id, device))
     } else if is_word(word, b"paused") {
-        let (id, device) = read(alloc, words)?;
-        Ok(Call::PauseComplete(id, device))
+        read(alloc, words).map(|(id, device)| Call::PauseComplete(id, device))
     } else {
         read_seat_call(alloc, word, words)
     }
@@ -141,13 +128,13 @@ fn read_manager_call(alloc: Global, word: &[u8], words: &[&[u8]]) -> Result<Call
     ensures { Reads (manager_call_of word.now (map (λ word. word.now) words.now)) (known_fault (behind_in word.now manager_shapes) (map (λ word. word.now) words.now)) result }
 {
     if is_word(word, b"create") {
-        Ok(Call::Create(read(alloc, words)?))
+        read(alloc, words).map(Call::Create)
     } else if is_word(word, b"get-session") {
-        Ok(Call::GetSession(read(alloc, words)?))
+        read(alloc, words).map(Call::GetSession)
     } else if is_word(word, b"get-user") {
-        Ok(Call::GetUser(read(alloc, words)?))
+        read(alloc, words).map(Call::GetUser)
     } else if is_word(word, b"get-seat") {
-        Ok(Call::GetSeat(read(alloc, words)?))
+        read(alloc, words).map(Call::GetSeat)
     } else if is_word(word, b"list-sessions") {
         read_alone(Call::ListSessions, words)
     } else if is_word(word, b"list-users") {
@@ -161,11 +148,11 @@ fn read_manager_call(alloc: Global, word: &[u8], words: &[&[u8]]) -> Result<Call
     } else if is_word(word, b"unlock-all") {
         read_alone(Call::UnlockAll, words)
     } else if is_word(word, b"power") {
-        Ok(Call::Power(read(alloc, words)?))
+        read(alloc, words).map(Call::Power)
     } else if is_word(word, b"can") {
-        Ok(Call::Can(read(alloc, words)?))
+        read(alloc, words).map(Call::Can)
     } else if is_word(word, b"inhibit") {
-        Ok(Call::Inhibit(read(alloc, words)?))
+        read(alloc, words).map(Call::Inhibit)
     } else {
         read_session_call(alloc, word, words)
     }

@@ -97,6 +97,7 @@ fn meant_there(call: Call) -> Call
     if are_short(&call) {
         call
     } else {
+        drop(call);
         Call::BadArguments
     }
 }

@@ -55,6 +55,21 @@ pub(crate) fn two_texts(
     Ok((first, second))
 }
 
+/// The texts at four places, which stand in twos.
+pub(crate) fn four_texts(
+    alloc: Global,
+    values: &[Value],
+    first: (usize, usize),
+    second: (usize, usize),
+) -> Result<((Word, Word), (Word, Word)), NoMemory>
+    ensures first { IfOk result (λ texts. (texts.0.0 ≡ text_at first.0 values.now) × (texts.0.1 ≡ text_at first.1 values.now)) }
+    ensures second { IfOk result (λ texts. (texts.1.0 ≡ text_at second.0 values.now) × (texts.1.1 ≡ text_at second.1 values.now)) }
+{
+    let first = two_texts(alloc, values, first.0, first.1)?;
+    let second = two_texts(alloc, values, second.0, second.1)?;
+    Ok((first, second))
+}
+
 /// The number at a place; elsewhere 0.
 pub(crate) fn number_at(values: &[Value], place: usize) -> u32
     ensures { result ≡ number_at place values.now }

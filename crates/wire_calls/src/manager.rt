@@ -3,7 +3,7 @@
 ghost use Rattle.std.specs.Prelude.{◌≡◌, IfOk};
 ghost use Rattle.wire_calls.specs.Calls.{creation_of, inhibition_of, manager_call};
 
-use crate::arguments::{flag_at, number_at, signed_at, text_at, two_texts};
+use crate::arguments::{flag_at, four_texts, number_at, signed_at, text_at, two_texts};
 use bus_value::Value;
 use login_base::{NoMemory, Uid};
 use login_model::{Call, Creation, Inhibition, OpKind};
@@ -185,11 +185,9 @@ impl ManagerMethod {
 fn creation(alloc: Global, values: &[Value]) -> Result<Creation, NoMemory>
     ensures { IfOk result (λ made. made ≡ creation_of values.now) }
 {
-    let (service, session_type) = two_texts(alloc, values, 2, 3)?;
-    let (class, desktop) = two_texts(alloc, values, 4, 5)?;
-    let (seat, tty) = two_texts(alloc, values, 6, 8)?;
-    let (display, remote_user) = two_texts(alloc, values, 9, 11)?;
     let remote_host = text_at(alloc, values, 12)?;
+    let ((service, session_type), (class, desktop)) = four_texts(alloc, values, (2, 3), (4, 5))?;
+    let ((seat, tty), (display, remote_user)) = four_texts(alloc, values, (6, 8), (9, 11))?;
     Ok(Creation {
         uid: Uid(number_at(values, 0)),
         process: number_at(values, 1),
@@ -211,8 +209,7 @@ fn creation(alloc: Global, values: &[Value]) -> Result<Creation, NoMemory>
 fn inhibition(alloc: Global, values: &[Value]) -> Result<Inhibition, NoMemory>
     ensures { IfOk result (λ made. made ≡ inhibition_of values.now) }
 {
-    let (what, who) = two_texts(alloc, values, 0, 1)?;
-    let (why, mode) = two_texts(alloc, values, 2, 3)?;
+    let ((what, who), (why, mode)) = four_texts(alloc, values, (0, 1), (2, 3))?;
     Ok(Inhibition {
         what,
         who,

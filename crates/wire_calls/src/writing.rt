@@ -7,8 +7,9 @@ ghost use Rattle.login_model.specs.Texts.{has_object};
 ghost use Rattle.wire_calls.specs.declared.method.Method.TheVariants.{User};
 ghost use Rattle.wire_calls.specs.declared.user.UserMethod.TheVariants.{Kill};
 ghost use Rattle.wire_calls.specs.inner.Fitting.{FitsAny, FitsMethod};
+ghost use Rattle.wire_calls.specs.Methods.{signed_any};
 ghost use Rattle.wire_calls.specs.Reading.{call_of};
-ghost use Rattle.wire_calls.specs.Sending.{HasTexts, IsSent, arguments_of, creation_values, device_values, flag, inhibition_values, is_other, message_with, number, own_sent_as, path_at, place_values, property_type, purpose_values, sent_as, setting_values, signal, text};
+ghost use Rattle.wire_calls.specs.Sending.{HasTexts, IsSent, arguments_of, creation_values, device_values, flag, inhibition_values, interface_at, is_other, message_with, number, own_sent_as, path_at, place_values, property_type, purpose_values, sent_as, setting_values, signal, text};
 
 use crate::bus::{BusMethod, PeerMethod, PropertiesMethod};
 use crate::machine::MachineMethod;
@@ -19,7 +20,7 @@ use crate::seat::SeatMethod;
 use crate::session::SessionMethod;
 use crate::user::UserMethod;
 use bus_message::{Message, made_interface, made_member};
-use bus_names::{Basic, Type};
+use bus_names::{Basic, Interface, Member, ObjectPath, Type};
 use bus_value::{BasicValue, Order, Value, Values};
 use login_base::{DevNo, Items, NoMemory, Uid, Word};
 use login_model::{Call, Creation, Inhibition, PropertyName};
@@ -307,6 +308,17 @@ fn arguments_of(alloc: Global, call: &Call) -> Result<Vec<Value>, NoMemory>
     }
 }
 
+/// The path of a method's object, its interface and its name.
+fn address(alloc: Global, method: AnyMethod) -> Result<(ObjectPath, Interface, Member), NoMemory>
+    requires { path_fault (path_at method) ≡ None }
+    ensures { IfOk result (λ address. (address.0 ≡ path_at method) × (address.1 ≡ interface_at method) × (address.2 ≡ (signed_any method).name)) }
+{
+    let member = made_member(alloc, method.name())?;
+    let (path, interface) = method.into_place(alloc)?;
+    let interface = made_interface(alloc, interface)?;
+    Ok((path, interface, member))
+}
+
 /// The call of a method with these arguments.
 fn message_with(
     alloc: Global,
@@ -317,23 +329,26 @@ fn message_with(
     requires { path_fault (path_at method) ≡ None }
     ensures { IfOk result (λ message. message ≡ message_with method arguments.items serial) }
 {
-    let member = made_member(alloc, method.name())?;
-    let (path, interface) = method.into_place(alloc)?;
-    let interface = made_interface(alloc, interface)?;
-    Ok(Message {
-        order: Order::Little,
-        kind: METHOD_CALL,
-        flags: 0,
-        serial,
-        path: Some(path),
-        interface: Some(interface),
-        member: Some(member),
-        error: None,
-        reply_to: None,
-        destination: None,
-        sender: None,
-        body: Values::made(Items::from_vec(arguments)),
-    })
+    match address(alloc, method) {
+        Ok((path, interface, member)) => Ok(Message {
+            order: Order::Little,
+            kind: METHOD_CALL,
+            flags: 0,
+            serial,
+            path: Some(path),
+            interface: Some(interface),
+            member: Some(member),
+            error: None,
+            reply_to: None,
+            destination: None,
+            sender: None,
+            body: Values::made(Items::from_vec(arguments)),
+        }),
+        Err(error) => {
+            drop(arguments);
+            Err(error)
+        }
+    }
 }
 
 /// The message that a call is sent as, which is read as the call again: the method of the manager where it has one, else

@@ -1,6 +1,7 @@
 // The mail of a connection while it is put together.
 
-ghost use Rattle.std.specs.Prelude.{◌≡◌, IfOk};
+ghost use Rattle.std.specs.Prelude.{◌≡◌, ◌<◌, IfOk};
+ghost use Rattle.bus_message.specs.Spelling.{message_bytes};
 ghost use Rattle.wire_out.specs.Errors.{error_name, rule_text};
 ghost use Rattle.wire_out.specs.Messages.{error_message, return_message};
 ghost use Rattle.wire_out.specs.Replies.{answer_values};
@@ -91,6 +92,19 @@ fn reply(
     }
 }
 
+/// The bytes of a message with this serial.
+fn encoded(alloc: Global, message: Message, serial: u32) -> Result<Bytes, NoMemory>
+    requires writable { IsWritable message }
+    requires serial { 0 < serial }
+    ensures { IfOk result (λ bytes. bytes ≡ message_bytes (record message { serial = serial })) }
+{
+    let mut message = message;
+    message.serial = serial;
+    let bytes = encode(alloc, &message);
+    drop(message);
+    bytes
+}
+
 /// The messages of a connection by the entries so far: their number, and the bytes of those behind the first `from`.
 #[derive(Drop)]
 pub(crate) struct Delivery {
@@ -134,13 +148,14 @@ impl Delivery {
         requires room { self.old.sent + 1 < 2 ^ 32 }
         ensures { OnOk result (Adds self.old self.new (message ∷ [])) }
     {
-        let mut message = message;
-        message.serial = self.sent + 1;
+        let serial = self.sent + 1;
         if self.sent >= self.from {
-            let bytes = encode(alloc, &message)?;
+            let bytes = encoded(alloc, message, serial)?;
             self.bytes.extend_from_slice(bytes.as_slice())?;
+        } else {
+            drop(message);
         }
-        self.sent = message.serial;
+        self.sent = serial;
         Ok(())
     }
 

@@ -6,7 +6,7 @@ ghost use Rattle.wire_out.specs.Messages.{error_message, return_message, sender,
 
 use crate::values::{alone, text};
 use bus_message::{Message, made_bus_name, made_interface, made_member};
-use bus_names::{BusName, ObjectPath};
+use bus_names::{BusName, Interface, Member, ObjectPath};
 use bus_value::{Order, Value, Values};
 use login_base::{Items, NoMemory};
 use std::alloc::Global;
@@ -75,6 +75,22 @@ pub(crate) fn error_message(
     })
 }
 
+/// The names that a signal has, and its sender.
+fn signal_names(
+    alloc: Global,
+    interface: &[u8],
+    member: &[u8],
+) -> Result<(Interface, Member, BusName), NoMemory>
+    requires interface { interface_fault interface.now ≡ None }
+    requires member { member_fault member.now ≡ None }
+    ensures { IfOk result (λ names. (names.0 ≡ interface.now) × (names.1 ≡ member.now) × (names.2 ≡ sender)) }
+{
+    let interface = made_interface(alloc, interface)?;
+    let member = made_member(alloc, member)?;
+    let sender = sender(alloc)?;
+    Ok((interface, member, sender))
+}
+
 /// A signal of an object.
 pub(crate) fn signal_message(
     alloc: Global,
@@ -87,20 +103,25 @@ pub(crate) fn signal_message(
     requires member { member_fault member.now ≡ None }
     ensures { IfOk result (λ message. message ≡ signal_message object interface.now member.now values.items) }
 {
-    let interface = made_interface(alloc, interface)?;
-    let member = made_member(alloc, member)?;
-    Ok(Message {
-        order: Order::Little,
-        kind: SIGNAL,
-        flags: 0,
-        serial: 0,
-        path: Some(object),
-        interface: Some(interface),
-        member: Some(member),
-        error: None,
-        reply_to: None,
-        destination: None,
-        sender: Some(sender(alloc)?),
-        body: Values::made(Items::from_vec(values)),
-    })
+    match signal_names(alloc, interface, member) {
+        Ok((interface, member, sender)) => Ok(Message {
+            order: Order::Little,
+            kind: SIGNAL,
+            flags: 0,
+            serial: 0,
+            path: Some(object),
+            interface: Some(interface),
+            member: Some(member),
+            error: None,
+            reply_to: None,
+            destination: None,
+            sender: Some(sender),
+            body: Values::made(Items::from_vec(values)),
+        }),
+        Err(error) => {
+            drop(object);
+            drop(values);
+            Err(error)
+        }
+    }
 }

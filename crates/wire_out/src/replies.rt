@@ -81,11 +81,8 @@ impl Row for KnownUser {
     ghost ranged = { λ x. IsNumber x.uid.0 };
 
     fn fields(&self, alloc: Global) -> Result<Vec<Value>, NoMemory> {
-        let mut out = pair(
-            alloc,
-            number(self.uid.0),
-            text(alloc, self.name.as_slice())?,
-        )?;
+        let name = text(alloc, self.name.as_slice())?;
+        let mut out = pair(alloc, number(self.uid.0), name)?;
         push(&mut out, user_object(alloc, self.uid)?)?;
         Ok(out)
     }
@@ -311,8 +308,8 @@ fn property_entry(alloc: Global, row: &PropertyRow) -> Result<(BasicValue, Value
     ensures entry { IfOk result (λ entry. entry ≡ property_entry row.now) }
     ensures ranged { OnOk result (HasValueNumbers row.now.value) }
 {
-    let value = property_variant(alloc, &row.value)?;
     let name = Word::from_slice(alloc, row.property.name())?;
+    let value = property_variant(alloc, &row.value)?;
     Ok((BasicValue::Str(name), value))
 }
 

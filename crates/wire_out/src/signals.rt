@@ -78,8 +78,15 @@ fn device_values(alloc: Global, device: DevNo, last: Value) -> Result<Vec<Value>
 fn property_values(alloc: Global, property: &[u8], value: Value) -> Result<Value, NoMemory>
     ensures { IfOk result (λ made. made ≡ dict Str variant_type (entry (StrValue property.now) (variant value) no_entries)) }
 {
-    let name = BasicValue::Str(Word::from_slice(alloc, property)?);
-    let pairs = Vec::from_array(alloc, [(name, Value::variant(alloc, value)?)])?;
+    let value = Value::variant(alloc, value)?;
+    let name = match Word::from_slice(alloc, property) {
+        Ok(name) => BasicValue::Str(name),
+        Err(error) => {
+            drop(value);
+            return Err(error);
+        }
+    };
+    let pairs = Vec::from_array(alloc, [(name, value)])?;
     Ok(Value::dict(Basic::Str, Type::variant(), pairs))
 }
 

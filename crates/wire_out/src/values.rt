@@ -98,8 +98,9 @@ pub(crate) fn session_reference(alloc: Global, session: SessId) -> Result<Vec<Va
     ensures values { IfOk result (λ values. values.items ≡ session_reference session) }
     ensures ranged { OnOk result (IsNumber session.0) }
 {
+    let path = session_path(alloc, session)?;
     let id = session_id(alloc, session)?;
-    pair(alloc, id, session_object(alloc, session)?)
+    pair(alloc, id, Value::basic(BasicValue::Path(path)))
 }
 
 /// A seat's name and the path of its object.
@@ -107,8 +108,9 @@ pub(crate) fn seat_reference(alloc: Global, seat: &SeatName) -> Result<Vec<Value
     requires { is_seat_name seat.now ≡ true }
     ensures { IfOk result (λ values. values.items ≡ seat_reference seat.now) }
 {
+    let path = seat_path(alloc, seat)?;
     let name = text(alloc, seat.as_slice())?;
-    pair(alloc, name, seat_object(alloc, seat)?)
+    pair(alloc, name, Value::basic(BasicValue::Path(path)))
 }
 
 /// A user's number and the path of its object.
@@ -116,15 +118,17 @@ pub(crate) fn user_reference(alloc: Global, uid: Uid) -> Result<Vec<Value>, NoMe
     ensures values { IfOk result (λ values. values.items ≡ user_reference uid) }
     ensures ranged { OnOk result (IsNumber uid.0) }
 {
-    pair(alloc, number(uid.0), user_object(alloc, uid)?)
+    let object = user_object(alloc, uid)?;
+    pair(alloc, number(uid.0), object)
 }
 
 /// The empty text and the root path.
 fn no_reference(alloc: Global) -> Result<Vec<Value>, NoMemory>
     ensures { IfOk result (λ values. values.items ≡ no_reference) }
 {
-    let root = Value::basic(BasicValue::Path(made_path(alloc, b"/")?));
-    pair(alloc, text(alloc, b"")?, root)
+    let root = made_path(alloc, b"/")?;
+    let name = text(alloc, b"")?;
+    pair(alloc, name, Value::basic(BasicValue::Path(root)))
 }
 
 /// A session's id and path, or the empty id and the root path for none.

@@ -2,18 +2,8 @@ use Rattle.std.proofs.Common.{◌≡◌, ◌+◌, ◌++◌, refl, ap, ◌∙◌,
 use Rattle.bus_message.specs.Spelling.{message_bytes}
 use Rattle.wire_out.specs.declared.delivery.Delivery.{Delivery}
 use Rattle.wire_out.proofs.Delivering.{one_left_out, one_written}
-use Rattle.wire_out.proofs.Writable.{fields_limits, size_within, with_serial}
 use Rattle.wire_out.proofs.delivery.Delivery.put.Goals as goal
 use Rattle.wire_out.proofs.delivery.Delivery.put.Goals.{then-self+in_ok-bytes+in_ok-extend_from_slice, else-self}
-
-pub encode-requires-clause-fields : goal.encode-requires-clause-fields
-encode-requires-clause-fields c = (with_serial c.args.message (c.args.self.now.sent + 1) c.requires.writable).required
-
-pub encode-requires-clause-field_limits : goal.encode-requires-clause-field_limits
-encode-requires-clause-field_limits c = fields_limits (record c.args.message { serial = c.args.self.now.sent + 1 }) (with_serial c.args.message (c.args.self.now.sent + 1) c.requires.writable)
-
-pub encode-requires-clause-size : goal.encode-requires-clause-size
-encode-requires-clause-size c = size_within (record c.args.message { serial = c.args.self.now.sent + 1 }) (with_serial c.args.message (c.args.self.now.sent + 1) c.requires.writable)
 
 pub returns : goal.returns
 returns c =

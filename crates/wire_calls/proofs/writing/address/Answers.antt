@@ -1,7 +1,7 @@
 use Rattle.std.proofs.Common.{◌∙◌, ap}
 use Rattle.bus_names.specs.Reading.{interface_fault, member_fault}
 use Rattle.wire_calls.proofs.MethodNames.{any_name_fault, interface_fault-at}
-use Rattle.wire_calls.proofs.writing.message_with.Goals as goal
+use Rattle.wire_calls.proofs.writing.address.Goals as goal
 
 pub made_member-requires : goal.made_member-requires
 made_member-requires c = ap member_fault c.name.ensures ∙ any_name_fault c.args.method
