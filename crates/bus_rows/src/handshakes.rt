@@ -10,40 +10,65 @@ use std::process::Abort;
 
 const GUID: &[u8] = b"0123456789abcdef0123456789abcdef";
 
-/// Hears what was sent in pieces of such a size, and compares all that it gives.
-fn hear_pieces(
-    rt: &impl Abort,
+/// What was heard of a case.
+#[derive(Drop)]
+struct Heard {
+    replies: Vec<u8>,
+    end: End,
+    /// The bytes behind BEGIN.
+    rest: Vec<u8>,
+}
+
+/// Hears one more piece.
+fn hear_piece(
     alloc: Global,
-    case: Case<'_>,
-    size: usize,
+    auth: &mut Auth,
+    heard: &mut Heard,
+    piece: &[u8],
 ) -> Result<(), NoMemory> {
-    let mut auth = Auth::new(alloc, Uid(case.uid), Word::from_slice(alloc, GUID)?);
-    let mut replies = Vec::new(alloc);
-    let mut rest = Vec::new(alloc);
-    let mut end = End::Going;
-    for piece in case.sent.chunks(size.max(1)) {
-        if auth.is_begun() {
-            rest.extend_from_slice(piece)?;
-            continue;
-        }
-        let step = auth.feed(alloc, piece)?;
-        let AuthStep {
-            replies: more,
-            state,
-        } = step;
-        replies.extend_from_slice(more.as_slice())?;
-        match state {
-            AuthState::Going => end = End::Going,
-            AuthState::Begun(bytes) => {
-                end = End::Begun;
-                rest.extend_from_slice(bytes.as_slice())?;
-            }
-            AuthState::Ended(ending) => end = End::Ended(ending),
-        }
+    if auth.is_begun() {
+        heard.rest.extend_from_slice(piece)?;
+        return Ok(());
     }
-    assert!(rt; replies.as_slice() == case.replies);
-    assert!(rt; end == case.end);
-    assert!(rt; rest.as_slice() == case.rest);
+    let AuthStep { replies, state } = auth.feed(alloc, piece)?;
+    heard.replies.extend_from_slice(replies.as_slice())?;
+    match state {
+        AuthState::Going => heard.end = End::Going,
+        AuthState::Begun(bytes) => {
+            heard.end = End::Begun;
+            heard.rest.extend_from_slice(bytes.as_slice())?;
+        }
+        AuthState::Ended(ending) => heard.end = End::Ended(ending),
+    }
+    Ok(())
+}
+
+/// Hears what was sent in pieces of such a size.
+fn hear_pieces(alloc: Global, case: Case<'_>, size: usize) -> Result<Heard, NoMemory> {
+    let mut auth = Auth::new(alloc, Uid(case.uid), Word::from_slice(alloc, GUID)?);
+    let mut heard = Heard {
+        replies: Vec::new(alloc),
+        end: End::Going,
+        rest: Vec::new(alloc),
+    };
+    for piece in case.sent.chunks(size.max(1)) {
+        hear_piece(alloc, &mut auth, &mut heard, piece)?;
+    }
+    Ok(heard)
+}
+
+/// Compares all that was heard.
+fn expect(rt: &impl Abort, heard: &Heard, case: Case<'_>) {
+    assert!(rt; heard.replies.as_slice() == case.replies);
+    assert!(rt; heard.end == case.end);
+    assert!(rt; heard.rest.as_slice() == case.rest);
+}
+
+/// Hears what was sent in pieces of each size.
+fn hear(rt: &impl Abort, alloc: Global, case: Case<'_>) -> Result<(), NoMemory> {
+    for size in SIZES {
+        expect(rt, &hear_pieces(alloc, case, size)?, case);
+    }
     Ok(())
 }
 
@@ -52,16 +77,15 @@ const SIZES: [usize; 5] = [1, 2, 3, 7, 4096];
 #[test]
 fn handshakes_of_real_clients(rt: HostRuntime) -> Result<(), NoMemory> {
     for case in CLIENTS {
-        for size in SIZES {
-            hear_pieces(&rt, rt.alloc(), case, size)?;
-        }
+        hear(&rt, rt.alloc(), case)?;
     }
     Ok(())
 }
 
-#[test]
-fn rows_of_the_table(rt: HostRuntime) -> Result<(), NoMemory> {
-    for (sent, replies, end) in ROWS {
+/// Hears what is sent in each row by the user 1000.
+fn hear_rows(rt: &impl Abort, alloc: Global, rows: &[(&[u8], &[u8], End)]) -> Result<(), NoMemory> {
+    for row in rows {
+        let (sent, replies, end) = *row;
         let case = Case {
             uid: 1000,
             sent,
@@ -69,11 +93,14 @@ fn rows_of_the_table(rt: HostRuntime) -> Result<(), NoMemory> {
             end,
             rest: b"",
         };
-        for size in SIZES {
-            hear_pieces(&rt, rt.alloc(), case, size)?;
-        }
+        hear(rt, alloc, case)?;
     }
     Ok(())
+}
+
+#[test]
+fn rows_of_the_table(rt: HostRuntime) -> Result<(), NoMemory> {
+    hear_rows(&rt, rt.alloc(), &ROWS)
 }
 
 fn repeated(alloc: Global, front: &[u8], part: &[u8], count: usize) -> Result<Vec<u8>, NoMemory> {
@@ -98,9 +125,7 @@ fn limits_of_lines(rt: HostRuntime) -> Result<(), NoMemory> {
             end: limit.end,
             rest: b"",
         };
-        for size in SIZES {
-            hear_pieces(&rt, alloc, case, size)?;
-        }
+        hear(&rt, alloc, case)?;
     }
     Ok(())
 }

@@ -8,7 +8,7 @@ mod faults;
 mod header_fields;
 mod limits;
 
-use accepted::{BY_HAND, GLIB, JEEPNEY};
+use accepted::{BY_HAND, GLIB_BODIES, GLIB_CALLS, GLIB_SIGNALS, JEEPNEY};
 use bus_message::{Cause, Cut, Cutter, Malformed, Message, encode};
 use bus_names::{BusName, Interface, Member, ObjectPath};
 use bus_value::{Order, Values};
@@ -33,6 +33,17 @@ const GET_SESSION: &[u8] = b"l\x01\0\x01\x07\0\0\0\x01\0\0\0\x67\0\0\0\
 const GET_SESSION_BIG: &[u8] =
     b"B\x01\0\x01\0\0\0\x07\0\0\0\x01\0\0\0g\x01\x01o\0\0\0\0\x17/org/freedesktop/login1\0\x02\x01s\0\0\0\0\x1eorg.freedesktop.login1.Manager\0\0\x03\x01s\0\0\0\0\x0aGetSession\0\0\0\0\0\0\x08\x01g\0\x01s\0\0\0\0\0\x02c1\0";
 
+/// Whether the next bytes give no message, and show this.
+fn shows(
+    alloc: Global,
+    cutter: &mut Cutter,
+    bytes: &[u8],
+    wanted: Option<Malformed>,
+) -> Result<bool, NoMemory> {
+    let cut = cutter.feed(alloc, bytes)?;
+    Ok(cut.messages.is_empty() && cut.malformed == wanted)
+}
+
 /// Whether the malformed message behind a whole one is shown with its byte of this number, counted from 1, and from then on.
 fn is_shown(alloc: Global, row: &Row, last: usize) -> Result<bool, NoMemory> {
     let mut cutter = Cutter::new(alloc);
@@ -44,18 +55,16 @@ fn is_shown(alloc: Global, row: &Row, last: usize) -> Result<bool, NoMemory> {
         cause: row.cause,
     };
     for (index, byte) in row.bytes.iter().enumerate() {
-        let cut = cutter.feed(alloc, slice::from_ref(byte))?;
         let wanted = if index.saturating_add(1) < last {
             None
         } else {
             Some(malformed)
         };
-        if !cut.messages.is_empty() || cut.malformed != wanted {
+        if !shows(alloc, &mut cutter, slice::from_ref(byte), wanted)? {
             return Ok(false);
         }
     }
-    let later = cutter.feed(alloc, GET_SESSION)?;
-    Ok(later.messages.is_empty() && later.malformed == Some(malformed))
+    shows(alloc, &mut cutter, GET_SESSION, Some(malformed))
 }
 
 /// Whether each malformed message is shown with its last byte.
@@ -247,9 +256,23 @@ fn messages_of_clients(rt: HostRuntime) -> Result<(), NoMemory> {
 }
 
 #[test]
-fn messages_of_glib(rt: HostRuntime) -> Result<(), NoMemory> {
+fn calls_of_glib(rt: HostRuntime) -> Result<(), NoMemory> {
     let alloc = rt.alloc();
-    assert!(rt; are_accepted(alloc, GLIB)?);
+    assert!(rt; are_accepted(alloc, GLIB_CALLS)?);
+    Ok(())
+}
+
+#[test]
+fn signals_of_glib(rt: HostRuntime) -> Result<(), NoMemory> {
+    let alloc = rt.alloc();
+    assert!(rt; are_accepted(alloc, GLIB_SIGNALS)?);
+    Ok(())
+}
+
+#[test]
+fn bodies_of_glib(rt: HostRuntime) -> Result<(), NoMemory> {
+    let alloc = rt.alloc();
+    assert!(rt; are_accepted(alloc, GLIB_BODIES)?);
     Ok(())
 }
 

@@ -3,6 +3,7 @@
 use bus_names::{
     BusName, Interface, Member, NameFault, ObjectPath, Signature, escape_label, unescape_label,
 };
+use login_base::NoMemory;
 use std::alloc::Global;
 
 /// What a reader is to answer: it reads the text, or it refuses it at an offset.
@@ -12,10 +13,29 @@ enum Want {
     Bad(usize),
 }
 
-fn is_as_wanted<T: Drop>(answer: Result<T, NameFault>, want: Want) -> bool {
-    match (answer, want) {
-        (Ok(_), Want::Read) => true,
-        (Err(NameFault::BadName(at)), Want::Bad(offset)) => at == offset,
+/// What a text is read as.
+#[derive(Clone, Copy)]
+enum Name {
+    Path,
+    Interface,
+    Member,
+    Bus,
+}
+
+/// Why a text is no such name.
+fn fault_of(alloc: Global, name: Name, text: &[u8]) -> Option<NameFault> {
+    match name {
+        Name::Path => ObjectPath::read(alloc, text).err(),
+        Name::Interface => Interface::read(alloc, text).err(),
+        Name::Member => Member::read(alloc, text).err(),
+        Name::Bus => BusName::read(alloc, text).err(),
+    }
+}
+
+fn is_as_wanted(alloc: Global, name: Name, text: &[u8], want: Want) -> bool {
+    match (fault_of(alloc, name, text), want) {
+        (None, Want::Read) => true,
+        (Some(NameFault::BadName(at)), Want::Bad(offset)) => at == offset,
         _ => false,
     }
 }
@@ -69,32 +89,33 @@ const BUS_NAMES: [(&[u8], Want); 10] = [
     (b"org.1a", Want::Bad(4)),
 ];
 
+/// Whether each text is as it is to be.
+fn are_as_wanted(alloc: Global, name: Name, cases: &[(&[u8], Want)]) -> bool {
+    cases
+        .iter()
+        .all(|case| is_as_wanted(alloc, name, case.0, case.1))
+}
+
 #[test]
 fn names_of_the_specification(rt: HostRuntime) {
     let alloc = rt.alloc();
-    for (text, want) in PATHS {
-        assert!(rt; is_as_wanted(ObjectPath::read(alloc, text), want), "a path");
-    }
-    for (text, want) in INTERFACES {
-        assert!(rt;
-            is_as_wanted(Interface::read(alloc, text), want),
-            "an interface"
-        );
-    }
-    for (text, want) in MEMBERS {
-        assert!(rt; is_as_wanted(Member::read(alloc, text), want), "a member");
-    }
-    for (text, want) in BUS_NAMES {
-        assert!(rt;
-            is_as_wanted(BusName::read(alloc, text), want),
-            "a bus name"
-        );
-    }
+    assert!(rt; are_as_wanted(alloc, Name::Path, &PATHS), "a path");
+    assert!(rt;
+        are_as_wanted(alloc, Name::Interface, &INTERFACES),
+        "an interface"
+    );
+    assert!(rt; are_as_wanted(alloc, Name::Member, &MEMBERS), "a member");
+    assert!(rt; are_as_wanted(alloc, Name::Bus, &BUS_NAMES), "a bus name");
+}
+
+#[test]
+fn names_of_any_length(rt: HostRuntime) {
+    let alloc = rt.alloc();
     // 254 bytes with no dot leave no room for one and a second element.
     let long = [b'a'; 300];
-    assert!(rt; is_as_wanted(Interface::read(alloc, &long), Want::Bad(253)));
-    assert!(rt; is_as_wanted(Member::read(alloc, &long), Want::Bad(255)));
-    assert!(rt; is_as_wanted(Member::read(alloc, &long[..255]), Want::Read));
+    assert!(rt; is_as_wanted(alloc, Name::Interface, &long, Want::Bad(253)));
+    assert!(rt; is_as_wanted(alloc, Name::Member, &long, Want::Bad(255)));
+    assert!(rt; is_as_wanted(alloc, Name::Member, &long[..255], Want::Read));
 }
 
 #[test]
@@ -142,17 +163,39 @@ const LABELS: [(&[u8], &[u8]); 7] = [
 
 const NO_LABELS: [&[u8]; 8] = [b"", b"a_2", b"_2D", b"_61", b"a_31", b"a-b", b"1a", b"__"];
 
+/// Whether the label is the escape of the text.
+fn is_escape(alloc: Global, text: &[u8], label: &[u8]) -> Result<bool, NoMemory> {
+    Ok(escape_label(alloc, text)?.as_slice() == label)
+}
+
+/// Whether the label is read as the text.
+fn is_unescaped(alloc: Global, label: &[u8], text: &[u8]) -> Result<bool, NameFault> {
+    Ok(unescape_label(alloc, label)?.as_slice() == text)
+}
+
+/// Whether this is no label.
+fn is_no_label(alloc: Global, text: &[u8]) -> bool {
+    matches!(unescape_label(alloc, text), Err(NameFault::BadLabel))
+}
+
+fn are_labels(alloc: Global, labels: &[(&[u8], &[u8])]) -> Result<bool, NameFault> {
+    for row in labels {
+        let (text, label) = *row;
+        if !is_escape(alloc, text, label)? || !is_unescaped(alloc, label, text)? {
+            return Ok(false);
+        }
+    }
+    Ok(true)
+}
+
+fn are_no_labels(alloc: Global, texts: &[&[u8]]) -> bool {
+    texts.iter().all(|text| is_no_label(alloc, text))
+}
+
 #[test]
 fn labels_are_escapes(rt: HostRuntime) -> Result<(), NameFault> {
-    let alloc = rt.alloc();
-    for (text, label) in LABELS {
-        assert!(rt; escape_label(alloc, text)?.as_slice() == label);
-        assert!(rt; unescape_label(alloc, label)?.as_slice() == text);
-    }
-    for label in NO_LABELS {
-        let refused = matches!(unescape_label(alloc, label), Err(NameFault::BadLabel));
-        assert!(rt; refused);
-    }
+    assert!(rt; are_labels(rt.alloc(), &LABELS)?);
+    assert!(rt; are_no_labels(rt.alloc(), &NO_LABELS));
     Ok(())
 }
 
@@ -188,19 +231,43 @@ const NO_SIGNATURES: [(&[u8], NameFault); 16] = [
     (b"iz", NameFault::BadSignature(1)),
 ];
 
+/// Whether the signature is written so.
+fn is_written(alloc: Global, signature: &Signature, text: &[u8]) -> Result<bool, NoMemory> {
+    Ok(signature.text(alloc)?.as_slice() == text)
+}
+
+/// Whether the signature and a copy of it are written so.
+fn are_written(alloc: Global, signature: &Signature, text: &[u8]) -> Result<bool, NoMemory> {
+    Ok(is_written(alloc, signature, text)? && is_written(alloc, &signature.copied(alloc)?, text)?)
+}
+
+/// Whether the text is read, and written again.
+fn is_signature(alloc: Global, text: &[u8]) -> Result<bool, NameFault> {
+    Ok(are_written(alloc, &Signature::read(alloc, text)?, text)?)
+}
+
+/// Whether the text is refused so.
+fn is_refused(alloc: Global, text: &[u8], fault: NameFault) -> bool {
+    matches!(Signature::read(alloc, text), Err(found) if found == fault)
+}
+
+fn are_signatures(alloc: Global, texts: &[&[u8]]) -> Result<bool, NameFault> {
+    for text in texts {
+        if !is_signature(alloc, text)? {
+            return Ok(false);
+        }
+    }
+    Ok(true)
+}
+
+fn are_refused(alloc: Global, rows: &[(&[u8], NameFault)]) -> bool {
+    rows.iter().all(|row| is_refused(alloc, row.0, row.1))
+}
+
 #[test]
 fn signatures_of_the_specification(rt: HostRuntime) -> Result<(), NameFault> {
-    let alloc = rt.alloc();
-    for text in SIGNATURES {
-        let signature = Signature::read(alloc, text)?;
-        assert!(rt; signature.text(alloc)?.as_slice() == text);
-        assert!(rt; signature.copied(alloc)?.text(alloc)?.as_slice() == text);
-    }
-    for (text, fault) in NO_SIGNATURES {
-        let answer = Signature::read(alloc, text);
-        let refused = matches!(answer, Err(found) if found == fault);
-        assert!(rt; refused);
-    }
+    assert!(rt; are_signatures(rt.alloc(), &SIGNATURES)?);
+    assert!(rt; are_refused(rt.alloc(), &NO_SIGNATURES));
     Ok(())
 }
 
@@ -208,24 +275,11 @@ fn signatures_of_the_specification(rt: HostRuntime) -> Result<(), NameFault> {
 fn signatures_are_bounded(rt: HostRuntime) {
     let alloc = rt.alloc();
     let arrays = [b'a'; 33];
-    let deep = matches!(Signature::read(alloc, &arrays), Err(NameFault::TooDeep(32)));
-    assert!(rt; deep);
-    let open = matches!(
-        Signature::read(alloc, &arrays[..32]),
-        Err(NameFault::BadSignature(32))
-    );
-    assert!(rt; open);
+    assert!(rt; is_refused(alloc, &arrays, NameFault::TooDeep(32)));
+    assert!(rt; is_refused(alloc, &arrays[..32], NameFault::BadSignature(32)));
     let structs = [b'('; 256];
-    let long = matches!(
-        Signature::read(alloc, &structs),
-        Err(NameFault::BadSignature(255))
-    );
-    assert!(rt; long);
-    let deep = matches!(
-        Signature::read(alloc, &structs[..255]),
-        Err(NameFault::TooDeep(32))
-    );
-    assert!(rt; deep);
+    assert!(rt; is_refused(alloc, &structs, NameFault::BadSignature(255)));
+    assert!(rt; is_refused(alloc, &structs[..255], NameFault::TooDeep(32)));
     let most = [b'y'; 255];
     assert!(rt; Signature::read(alloc, &most).is_ok());
 }

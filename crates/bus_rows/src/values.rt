@@ -13,7 +13,7 @@ mod fault_places;
 mod faults;
 
 use accepted::Spelled;
-use basic::{NUMBERS, STRUCTS, TEXTS};
+use basic::{NUMBERS, Number, SMALL_NUMBERS, STRUCTS, Struct, TEXTS, Text};
 use bus_names::{Basic, NameFault, ObjectPath, Signature, Type};
 use bus_value::{
     BasicValue, Order, Value, ValueFault, ValueKind, Values, read_values, write_values,
@@ -73,7 +73,19 @@ fn read(
     }
 }
 
-/// Whether the values that the bytes spell are written as these bytes.
+/// Whether the values of these types that the bytes spell are written as these bytes.
+fn is_same(
+    alloc: Global,
+    order: Order,
+    start: usize,
+    types: &Signature,
+    bytes: &[u8],
+) -> Result<bool, ValueFault> {
+    let values = read_values(alloc, order, start, types, bytes)?;
+    Ok(write_values(alloc, order, start, &values)?.as_slice() == bytes)
+}
+
+/// The same under a signature.
 fn is_written_again(
     alloc: Global,
     order: Order,
@@ -82,27 +94,9 @@ fn is_written_again(
     bytes: &[u8],
 ) -> Result<bool, ValueFault> {
     match Signature::read(alloc, signature) {
-        Ok(types) => {
-            let values = read_values(alloc, order, start, &types, bytes)?;
-            Ok(write_values(alloc, order, start, &values)?.as_slice() == bytes)
-        }
+        Ok(types) => is_same(alloc, order, start, &types, bytes),
         Err(_) => Ok(false),
     }
-}
-
-#[test]
-fn what_is_read_is_written_again(rt: HostRuntime) -> Result<(), ValueFault> {
-    let alloc = rt.alloc();
-    for (signature, order, start, bytes) in CONTAINERS {
-        assert!(rt; is_written_again(alloc, order, start, signature, bytes)?);
-    }
-    for (kind, _, order, start, bytes) in NUMBERS {
-        assert!(rt; is_written_again(alloc, order, start, &[kind.letter()], bytes)?);
-    }
-    for (kind, _, order, start, bytes) in TEXTS {
-        assert!(rt; is_written_again(alloc, order, start, &[kind.letter()], bytes)?);
-    }
-    Ok(())
 }
 
 /// The number in a value of a type of numbers.
@@ -156,6 +150,12 @@ fn are_written_again(alloc: Global, cases: &[Spelled]) -> Result<bool, ValueFaul
 }
 
 #[test]
+fn containers_are_written_again(rt: HostRuntime) -> Result<(), ValueFault> {
+    assert!(rt; are_written_again(rt.alloc(), &CONTAINERS)?);
+    Ok(())
+}
+
+#[test]
 fn values_in_each_place_are_written_again(rt: HostRuntime) -> Result<(), ValueFault> {
     assert!(rt; are_written_again(rt.alloc(), &accepted::VALUES_A)?);
     Ok(())
@@ -176,47 +176,6 @@ fn containers_in_each_place_are_written_again(rt: HostRuntime) -> Result<(), Val
 #[test]
 fn values_at_the_limits_are_written_again(rt: HostRuntime) -> Result<(), ValueFault> {
     assert!(rt; are_written_again(rt.alloc(), &accepted::LIMITS)?);
-    Ok(())
-}
-
-#[test]
-fn numbers_are_read(rt: HostRuntime) -> Result<(), ValueFault> {
-    let alloc = rt.alloc();
-    for (kind, payload, order, start, bytes) in NUMBERS {
-        let values = read(alloc, order, start, &[kind.letter()], bytes)?;
-        assert!(rt; is_number(values.as_slice(), payload));
-    }
-    Ok(())
-}
-
-#[test]
-fn texts_are_read(rt: HostRuntime) -> Result<(), ValueFault> {
-    let alloc = rt.alloc();
-    for (kind, payload, order, start, bytes) in TEXTS {
-        let values = read(alloc, order, start, &[kind.letter()], bytes)?;
-        assert!(rt; is_text(alloc, values.as_slice(), payload)?);
-    }
-    Ok(())
-}
-
-#[test]
-fn structs_are_read(rt: HostRuntime) -> Result<(), ValueFault> {
-    let alloc = rt.alloc();
-    for (order, start, bytes) in STRUCTS {
-        let values = read(alloc, order, start, b"(yu)", bytes)?;
-        assert!(rt;
-            match values.as_slice() {
-                [value] => match value.kind() {
-                    ValueKind::Struct([first, second]) => {
-                        is_number(slice::from_ref(first), 1)
-                            && is_number(slice::from_ref(second), 2)
-                    }
-                    _ => false,
-                },
-                _ => false,
-            }
-        );
-    }
     Ok(())
 }
 
@@ -289,13 +248,53 @@ fn first_faults_are_told(rt: HostRuntime) {
     assert!(rt; are_told(rt.alloc(), &fault_places::FIRST));
 }
 
-#[test]
-fn numbers_are_written(rt: HostRuntime) -> Result<(), NoMemory> {
-    let alloc = rt.alloc();
-    for (kind, payload, order, start, bytes) in NUMBERS {
-        let value = Value::basic(number(kind, payload));
-        assert!(rt; is_written(alloc, order, start, value, bytes)?);
+/// Whether the bytes are read as the number.
+fn is_number_read(alloc: Global, row: Number) -> Result<bool, ValueFault> {
+    let (kind, payload, order, start, bytes) = row;
+    let values = read(alloc, order, start, &[kind.letter()], bytes)?;
+    Ok(is_number(values.as_slice(), payload))
+}
+
+/// Whether the number is written as the bytes.
+fn is_number_written(alloc: Global, row: Number) -> Result<bool, NoMemory> {
+    let (kind, payload, order, start, bytes) = row;
+    is_written(
+        alloc,
+        order,
+        start,
+        Value::basic(number(kind, payload)),
+        bytes,
+    )
+}
+
+/// Both, and whether what is read is written again.
+fn is_number_spelled(alloc: Global, row: Number) -> Result<bool, ValueFault> {
+    let (kind, _, order, start, bytes) = row;
+    Ok(
+        is_number_read(alloc, row)?
+            && is_number_written(alloc, row)?
+            && is_written_again(alloc, order, start, &[kind.letter()], bytes)?,
+    )
+}
+
+fn are_numbers_spelled(alloc: Global, rows: &[Number]) -> Result<bool, ValueFault> {
+    for row in rows {
+        if !is_number_spelled(alloc, *row)? {
+            return Ok(false);
+        }
     }
+    Ok(true)
+}
+
+#[test]
+fn small_numbers_are_read_and_written(rt: HostRuntime) -> Result<(), ValueFault> {
+    assert!(rt; are_numbers_spelled(rt.alloc(), &SMALL_NUMBERS)?);
+    Ok(())
+}
+
+#[test]
+fn numbers_are_read_and_written(rt: HostRuntime) -> Result<(), ValueFault> {
+    assert!(rt; are_numbers_spelled(rt.alloc(), &NUMBERS)?);
     Ok(())
 }
 
@@ -311,27 +310,91 @@ fn text(alloc: Global, kind: Basic, text: &[u8]) -> Result<BasicValue, NameFault
     }
 }
 
-#[test]
-fn texts_are_written(rt: HostRuntime) -> Result<(), NameFault> {
-    let alloc = rt.alloc();
-    for (kind, payload, order, start, bytes) in TEXTS {
-        if payload.len() < 100 {
-            let value = Value::basic(text(alloc, kind, payload)?);
-            assert!(rt; is_written(alloc, order, start, value, bytes)?);
+/// Whether the bytes are read as the text.
+fn is_text_read(alloc: Global, row: Text) -> Result<bool, ValueFault> {
+    let (kind, payload, order, start, bytes) = row;
+    let values = read(alloc, order, start, &[kind.letter()], bytes)?;
+    Ok(is_text(alloc, values.as_slice(), payload)?)
+}
+
+/// Whether the text is written as the bytes, where it is short.
+fn is_text_written(alloc: Global, row: Text) -> Result<bool, NoMemory> {
+    let (kind, payload, order, start, bytes) = row;
+    if payload.len() >= 100 {
+        return Ok(true);
+    }
+    match text(alloc, kind, payload) {
+        Ok(value) => is_written(alloc, order, start, Value::basic(value), bytes),
+        Err(NameFault::NoMemory) => Err(NoMemory),
+        Err(_) => Ok(false),
+    }
+}
+
+/// Both, and whether what is read is written again.
+fn is_text_spelled(alloc: Global, row: Text) -> Result<bool, ValueFault> {
+    let (kind, _, order, start, bytes) = row;
+    Ok(
+        is_text_read(alloc, row)?
+            && is_text_written(alloc, row)?
+            && is_written_again(alloc, order, start, &[kind.letter()], bytes)?,
+    )
+}
+
+fn are_texts_spelled(alloc: Global, rows: &[Text]) -> Result<bool, ValueFault> {
+    for row in rows {
+        if !is_text_spelled(alloc, *row)? {
+            return Ok(false);
         }
     }
-    Ok(())
+    Ok(true)
 }
 
 #[test]
-fn structs_are_written(rt: HostRuntime) -> Result<(), NoMemory> {
-    let alloc = rt.alloc();
-    for (order, start, bytes) in STRUCTS {
-        let first = Value::basic(BasicValue::Byte(1));
-        let second = Value::basic(BasicValue::U32(2));
-        let value = Value::structure(vec![in alloc; first, second]?);
-        assert!(rt; is_written(alloc, order, start, value, bytes)?);
+fn texts_are_read_and_written(rt: HostRuntime) -> Result<(), ValueFault> {
+    assert!(rt; are_texts_spelled(rt.alloc(), &TEXTS)?);
+    Ok(())
+}
+
+/// Whether this is the struct of the two numbers alone.
+fn is_struct(values: &[Value]) -> bool {
+    match values {
+        [value] => match value.kind() {
+            ValueKind::Struct([first, second]) => {
+                is_number(slice::from_ref(first), 1) && is_number(slice::from_ref(second), 2)
+            }
+            _ => false,
+        },
+        _ => false,
     }
+}
+
+/// Whether the bytes are read as the struct.
+fn is_struct_read(alloc: Global, row: Struct) -> Result<bool, ValueFault> {
+    let (order, start, bytes) = row;
+    Ok(is_struct(read(alloc, order, start, b"(yu)", bytes)?.as_slice()))
+}
+
+/// Whether the struct is written as the bytes.
+fn is_struct_written(alloc: Global, row: Struct) -> Result<bool, NoMemory> {
+    let (order, start, bytes) = row;
+    let first = Value::basic(BasicValue::Byte(1));
+    let second = Value::basic(BasicValue::U32(2));
+    let value = Value::structure(vec![in alloc; first, second]?);
+    is_written(alloc, order, start, value, bytes)
+}
+
+fn are_structs_spelled(alloc: Global, rows: &[Struct]) -> Result<bool, ValueFault> {
+    for row in rows {
+        if !is_struct_read(alloc, *row)? || !is_struct_written(alloc, *row)? {
+            return Ok(false);
+        }
+    }
+    Ok(true)
+}
+
+#[test]
+fn structs_are_read_and_written(rt: HostRuntime) -> Result<(), ValueFault> {
+    assert!(rt; are_structs_spelled(rt.alloc(), &STRUCTS)?);
     Ok(())
 }
 

@@ -4,19 +4,19 @@ use crate::{Answered, Front, Piece};
 
 /// Nobody has a session.
 const NOBODY: Front = Front {
-    piece: Piece {
-        lines: "\
+    piece: (
+        "\
 login-recording 1
 go
 connect 1 1000
 ",
-        blocks: "\
+        "\
 login-transcript 1
 1 connect 1 1000
  granted
  set conn 1 1000
 ",
-    },
+    ),
     entries: 1,
 };
 
@@ -37,8 +37,8 @@ const OF_NOBODY: [(&str, &str); 5] = [
 
 /// A session on a terminal, one of root without a seat, and a user who lingers without a session.
 const SOME: Front = Front {
-    piece: Piece {
-        lines: "\
+    piece: (
+        "\
 login-recording 1
 user 1001 1001 bob%20b
 user 1000 1000 alice
@@ -48,7 +48,7 @@ call 1 1 create 1000 1 login % % % seat0 1 % % false % %
 call 1 2 create 0 1 cron mir background % % 0 % % true % %
 call 1 3 linger 1001 true
 ",
-        blocks: "\
+        "\
 login-transcript 1
 1 connect 1 0
  granted
@@ -74,7 +74,7 @@ login-transcript 1
  set user 1001 known
  all user-new 1001
 ",
-    },
+    ),
     entries: 4,
 };
 

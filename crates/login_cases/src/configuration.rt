@@ -3,8 +3,8 @@
 use crate::{Case, Piece, Refused};
 
 /// Keys and values that are wrong are told behind the first line, by their numbers among these lines.
-const WRONG_VALUES: Piece = Piece {
-    lines: "login-recording 1\n\
+const WRONG_VALUES: Piece = (
+    "login-recording 1\n\
              conf [Login]\n\
              conf SessionsMax=1\n\
              conf Foo=1\n\
@@ -12,15 +12,15 @@ const WRONG_VALUES: Piece = Piece {
              conf InhibitDelayMaxSec=1min 30s\n\
              go\n\
              end\n",
-    blocks: "login-transcript 1\n\
+    "login-transcript 1\n\
              diag 3 3\n\
              diag 4 4\n\
              end 0\n",
-};
+);
 
 /// Lines in front of a section, in another one and of another form, between other lines of the preamble.
-const WRONG_LINES: Piece = Piece {
-    lines: "login-recording 1\n\
+const WRONG_LINES: Piece = (
+    "login-recording 1\n\
              conf x\n\
              user 1000 1000 alice\n\
              conf\n\
@@ -34,17 +34,17 @@ const WRONG_LINES: Piece = Piece {
              conf  x\n\
              go\n\
              end\n",
-    blocks: "login-transcript 1\n\
+    "login-transcript 1\n\
              diag 1 1\n\
              diag 3 2\n\
              diag 6 5\n\
              diag 8 5\n\
              end 0\n",
-};
+);
 
 /// Lines that go on behind a backslash.
-const CONTINUED: Piece = Piece {
-    lines: "login-recording 1\n\
+const CONTINUED: Piece = (
+    "login-recording 1\n\
              conf [Login]\n\
              conf NAutoVTs=\\\n\
              conf \\\n\
@@ -52,15 +52,15 @@ const CONTINUED: Piece = Piece {
              conf Foo=\n\
              go\n\
              end\n",
-    blocks: "login-transcript 1\n\
+    "login-transcript 1\n\
              diag 2 4\n\
              diag 5 3\n\
              end 0\n",
-};
+);
 
 /// The file of a distribution (Debian's systemd 252), in which all lines are comments.
-const COMMENTED: Piece = Piece {
-    lines: "login-recording 1\n\
+const COMMENTED: Piece = (
+    "login-recording 1\n\
      conf #  This file is part of systemd.\n\
      conf #\n\
      conf #  systemd is free software; you can redistribute it and/or modify it under the\n\
@@ -112,12 +112,12 @@ const COMMENTED: Piece = Piece {
      conf #StopIdleSessionSec=infinity\n\
      go\n\
      end\n",
-    blocks: "login-transcript 1\nend 0\n",
-};
+    "login-transcript 1\nend 0\n",
+);
 
 /// The same with each key assigned the default that stands in the comment.
-const ASSIGNED: Piece = Piece {
-    lines: "login-recording 1\n\
+const ASSIGNED: Piece = (
+    "login-recording 1\n\
      conf #  This file is part of systemd.\n\
      conf #\n\
      conf #  systemd is free software; you can redistribute it and/or modify it under the\n\
@@ -169,12 +169,12 @@ const ASSIGNED: Piece = Piece {
      conf StopIdleSessionSec=infinity\n\
      go\n\
      end\n",
-    blocks: "login-transcript 1\nend 0\n",
-};
+    "login-transcript 1\nend 0\n",
+);
 
 /// As many sessions as are configured, and the clock.
-const ONE_SESSION: Piece = Piece {
-    lines: "login-recording 1\n\
+const ONE_SESSION: Piece = (
+    "login-recording 1\n\
          user 1000 1000 alice\n\
          user 1001 1001 bob\n\
          conf [Login]\n\
@@ -188,7 +188,7 @@ const ONE_SESSION: Piece = Piece {
          tick 4\n\
          tick 18446744073709551615\n\
          end\n",
-    blocks: "login-transcript 1\n\
+    "login-transcript 1\n\
          1 connect 1 0\n \
          granted\n \
          set conn 1 0\n\
@@ -213,11 +213,11 @@ const ONE_SESSION: Piece = Piece {
          granted\n \
          set now 18446744073709551615\n\
          end 7\n",
-};
+);
 
 /// A line of an action: what power needs then.
-const ACTION_SET: Piece = Piece {
-    lines: "login-recording 1\n\
+const ACTION_SET: Piece = (
+    "login-recording 1\n\
              user 1000 1000 alice\n\
              action power-off no no no\n\
              go\n\
@@ -227,7 +227,7 @@ const ACTION_SET: Piece = Piece {
              call 2 1 power poweroff\n\
              call 2 2 can poweroff\n\
              end\n",
-    blocks: "login-transcript 1\n\
+    "login-transcript 1\n\
              1 connect 1 0\n \
              granted\n \
              set conn 1 0\n\
@@ -247,11 +247,11 @@ const ACTION_SET: Piece = Piece {
              5 call 2 2 can poweroff\n \
              granted no\n\
              end 5\n",
-};
+);
 
 /// The same without it.
-const ACTION_NOT_SET: Piece = Piece {
-    lines: "login-recording 1\n\
+const ACTION_NOT_SET: Piece = (
+    "login-recording 1\n\
              user 1000 1000 alice\n\
              user 1001 1001 bob\n\
              go\n\
@@ -261,7 +261,7 @@ const ACTION_NOT_SET: Piece = Piece {
              connect 3 1001\n\
              call 3 1 power poweroff\n\
              end\n",
-    blocks: "login-transcript 1\n\
+    "login-transcript 1\n\
              1 connect 1 0\n \
              granted\n \
              set conn 1 0\n\
@@ -282,7 +282,7 @@ const ACTION_NOT_SET: Piece = Piece {
              5 call 3 1 power poweroff\n \
              denied P12 action-challenge power-off-multiple-sessions\n\
              end 5\n",
-};
+);
 
 /// Each with what it shows of configurations.
 pub const CASES: [Case; 8] = [

@@ -4,8 +4,8 @@ use crate::{Answered, Front, Piece};
 
 /// A session on a terminal that connection 2 controls, a session without a seat, and a clock that was set.
 const SESSIONS: Front = Front {
-    piece: Piece {
-        lines: "\
+    piece: (
+        "\
 login-recording 1
 user 1000 1000 alice
 user 1001 1001 bob
@@ -18,7 +18,7 @@ call 1 2 create 1001 3 login web user % % 0 % % false % %
 call 2 1 control c1 false
 tick 5
 ",
-        blocks: "\
+        "\
 login-transcript 1
 1 connect 1 0
  granted
@@ -50,7 +50,7 @@ login-transcript 1
  granted
  set now 5
 ",
-    },
+    ),
     entries: 7,
 };
 
@@ -233,8 +233,8 @@ const ORDER: [(&str, &str); 18] = [
 
 /// A session that is closing, since its fifo was closed.
 const CLOSING: Front = Front {
-    piece: Piece {
-        lines: "\
+    piece: (
+        "\
 login-recording 1
 user 1000 1000 alice
 go
@@ -243,7 +243,7 @@ connect 2 1000
 call 1 1 create 1000 2 login tty user % seat0 2 tty2 % false % %
 call 1 2 close 1
 ",
-        blocks: "\
+        "\
 login-transcript 1
 1 connect 1 0
  granted
@@ -263,7 +263,7 @@ login-transcript 1
  set owner 1 closed
  set sess c1 closing
 ",
-    },
+    ),
     entries: 4,
 };
 

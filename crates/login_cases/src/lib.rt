@@ -23,11 +23,7 @@ pub mod terminals;
 pub mod turns;
 
 /// Some lines of a recording, and what its transcript has of them.
-#[derive(Clone, Copy)]
-pub struct Piece {
-    pub lines: &'static str,
-    pub blocks: &'static str,
-}
+pub type Piece = (&'static str, &'static str);
 
 /// A recording that is accepted whole, in pieces.
 #[derive(Clone, Copy)]

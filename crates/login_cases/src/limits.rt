@@ -5,8 +5,8 @@ use crate::{Case, Piece};
 /// The greatest number of each type.
 pub const NUMBERS: Case = Case {
     name: "the greatest numbers",
-    pieces: &[Piece {
-        lines: "\
+    pieces: &[(
+        "\
 login-recording 1
 user 4294967295 4294967295 nobody
 go
@@ -27,7 +27,7 @@ tick 18446744073709551615
 tick 0
 end
 ",
-        blocks: "\
+        "\
 login-transcript 1
 1 connect 4294967295 4294967295
  granted
@@ -65,5 +65,5 @@ login-transcript 1
  denied P33 clock-backwards 18446744073709551615
 end 15
 ",
-    }],
+    )],
 };

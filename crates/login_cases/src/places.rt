@@ -143,8 +143,8 @@ pub const REFUSED: [Refused; 6] = [
 /// An identity between users in no order, and ends behind the stop.
 pub const ACCEPTED: Case = Case {
     name: "in their places",
-    pieces: &[Piece {
-        lines: "\
+    pieces: &[(
+        "\
 login-recording 1
 user 1001 1001 bob
 guid 00000000000000000000000000000000
@@ -157,7 +157,7 @@ disconnect 2
 disconnect 1
 end
 ",
-        blocks: "\
+        "\
 login-transcript 1
 1 connect 2 1001
  granted
@@ -175,5 +175,5 @@ login-transcript 1
  set conn 1 gone
 end 5
 ",
-    }],
+    )],
 };

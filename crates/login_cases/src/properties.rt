@@ -5,8 +5,8 @@ use crate::{Answered, Front, Piece};
 /// A session on a terminal of seat0, one on a seat without terminals, one of root without a seat, two locks and an
 /// operation that waits.
 pub const SOME: Front = Front {
-    piece: Piece {
-        lines: "\
+    piece: (
+        "\
 login-recording 1
 guid 00112233445566778899aabbccddeeff
 user 1000 1007 alice%20a
@@ -27,7 +27,7 @@ call 1 8 inhibit shutdown:idle a b block
 call 1 9 power suspend
 dock true
 ",
-        blocks: "\
+        "\
 login-transcript 1
 1 connect 1 0
  granted
@@ -93,7 +93,7 @@ login-transcript 1
  granted
  set docked true
 ",
-    },
+    ),
     entries: 14,
 };
 
@@ -311,8 +311,8 @@ const SEAT: [(&str, &str); 6] = [
 /// A session that is active and another one of its user, one of a user who has no other, and two that are closing: of a
 /// user who lingers, and of one who doesn't. A seat has no session.
 const CLOSING: Front = Front {
-    piece: Piece {
-        lines: "\
+    piece: (
+        "\
 login-recording 1
 user 1000 1000 alice
 user 1001 1001 bob
@@ -330,7 +330,7 @@ call 1 6 linger 1002 true
 call 1 7 close 4
 call 1 8 close 5
 ",
-        blocks: "\
+        "\
 login-transcript 1
 1 connect 1 0
  granted
@@ -386,7 +386,7 @@ login-transcript 1
  set owner 5 closed
  set sess c5 closing
 ",
-    },
+    ),
     entries: 10,
 };
 

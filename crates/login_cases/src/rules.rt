@@ -3,21 +3,21 @@
 use crate::{Case, Piece};
 
 /// A recording without events.
-const NOTHING: Piece = Piece {
-    lines: "\
+const NOTHING: Piece = (
+    "\
 login-recording 1
 go
 end
 ",
-    blocks: "\
+    "\
 login-transcript 1
 end 0
 ",
-};
+);
 
 /// Who may create a session, for whom, and where; what a first and a second session of a user do.
-const CREATING: Piece = Piece {
-    lines: "\
+const CREATING: Piece = (
+    "\
 login-recording 1
 user 1000 1000 alice
 go
@@ -33,7 +33,7 @@ call 7 6 create 1000 8 login tty user % seat0 1 tty1 % false % %
 call 7 7 create 0 7 login tty user % seat0 63 tty63 % false % %
 end
 ",
-    blocks: "\
+    "\
 login-transcript 1
 1 connect 7 0
  granted
@@ -73,11 +73,11 @@ login-transcript 1
  all session-new c3
 end 10
 ",
-};
+);
 
 /// Who may take and give up control of a session.
-const CONTROLLING: Piece = Piece {
-    lines: "\
+const CONTROLLING: Piece = (
+    "\
 login-recording 1
 user 1000 1000 alice
 user 1001 1001 bob
@@ -106,7 +106,7 @@ call 2 10 uncontrol c1
 call 1 4 control c1 false
 end
 ",
-    blocks: "\
+    "\
 login-transcript 1
 1 connect 1 0
  granted
@@ -166,11 +166,11 @@ login-transcript 1
  set ctl c1 1
 end 22
 ",
-};
+);
 
 /// Texts and the greatest numbers; the last line spells a byte that stands for itself, and is refused.
-pub const SPELLING: Piece = Piece {
-    lines: "\
+pub const SPELLING: Piece = (
+    "\
 login-recording 1
 user 4294967295 0 %
 user 1 4294967295 %e2%82%ac%20%25
@@ -179,7 +179,7 @@ connect 4294967295 0
 call 4294967295 4294967295 create 4294967295 0 a%20b tty user %25 seat0 3 %c3%a9 %7f false %0a !~
 call 4294967295 1 control %63%31 false
 ",
-    blocks: "\
+    "\
 login-transcript 1
 1 connect 4294967295 0
  granted
@@ -192,7 +192,7 @@ login-transcript 1
  set sess c1 open 4294967295 seat0 3 tty user
  all session-new c1
 ",
-};
+);
 
 /// Each with what it shows of rules.
 pub const CASES: [Case; 3] = [

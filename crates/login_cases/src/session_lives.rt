@@ -3,8 +3,8 @@
 use crate::{Case, Piece};
 
 /// A session is created, comes to the front, closes and goes; its user lingers, and then leaves.
-const LEAVING: Piece = Piece {
-    lines: "\
+const LEAVING: Piece = (
+    "\
 login-recording 1
 user 1000 1000 alice
 go
@@ -20,7 +20,7 @@ tick 10000
 call 1 6 activate c1
 end
 ",
-    blocks: "\
+    "\
 login-transcript 1
 1 connect 1 0
  granted
@@ -68,11 +68,11 @@ login-transcript 1
  denied P04 no-such-session
 end 10
 ",
-};
+);
 
 /// Locks, signals and hints, of one session and of all; a hint that stands is not set again.
-const TOLD: Piece = Piece {
-    lines: "\
+const TOLD: Piece = (
+    "\
 login-recording 1
 user 1000 1000 alice
 go
@@ -93,7 +93,7 @@ send 2 8 locked c2 true
 call 1 5 idle c1 false
 end
 ",
-    blocks: "\
+    "\
 login-transcript 1
 1 connect 1 0
  granted
@@ -150,12 +150,12 @@ login-transcript 1
  set idle c1 false
 end 15
 ",
-};
+);
 
 /// Sessions that are closed by a call, with their user, with their seat, and by the end of a connection;
 /// nothing but ends comes behind the stop.
-const CLOSED: Piece = Piece {
-    lines: "\
+const CLOSED: Piece = (
+    "\
 login-recording 1
 user 1000 1000 alice
 user 1001 1001 bob
@@ -178,7 +178,7 @@ disconnect 1
 disconnect 2
 end
 ",
-    blocks: "\
+    "\
 login-transcript 1
 1 connect 1 0
  granted
@@ -252,7 +252,7 @@ login-transcript 1
  set conn 2 gone
 end 16
 ",
-};
+);
 
 /// Each with what happens to sessions.
 pub const CASES: [Case; 3] = [

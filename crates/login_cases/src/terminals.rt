@@ -5,8 +5,8 @@ use crate::{Case, Piece};
 /// Sessions on three terminals, and a terminal without one; the last getty stands already.
 pub const TURNING: Case = Case {
     name: "terminals take turns",
-    pieces: &[Piece {
-        lines: "\
+    pieces: &[(
+        "\
 login-recording 1
 user 1000 1000 alice
 go
@@ -27,7 +27,7 @@ vtkey 5
 vtkey 7
 end
 ",
-        blocks: "\
+        "\
 login-transcript 1
 1 connect 1 0
  granted
@@ -110,5 +110,5 @@ login-transcript 1
  all active seat0 - c3
 end 15
 ",
-    }],
+    )],
 };

@@ -1,7 +1,8 @@
 -- Which events of lines may come next.
-use Rattle.std.proofs.Common.{◌≡◌, true, List, None, refl}
+use Rattle.std.proofs.Common.{◌≡◌, ℕ, true, List, Option, None, Some, refl, sym, subst, inl, inr}
+use Rattle.std.specs.Option.{IsSome}
 use Rattle.std.specs.List.{AllByRecursion}
-use Rattle.login_model.specs.Legal.{Fits, IsPlaced}
+use Rattle.login_model.specs.Legal.{Fits, IsAsked, IsPlaced}
 use Rattle.login_model.specs.Stopping.{stopped}
 use Rattle.login_model.specs.Texts.{IsText, has_seat_name, hardware_texts}
 use Rattle.login_model.specs.declared.event.Event.{Event}
@@ -29,3 +30,11 @@ named_fits J Stop f n = tt
 
 pub placed : (J : List Entry) (e : Event) → IsEventLine e → stopped J e ≡ None → IsNamed J e → IsPlaced J e
 placed J e l s n = (named_fits J e l n, s)
+
+asked_by : (J : List Entry) (e : Event) (s : Option ℕ) → stopped J e ≡ s → Fits J e → IsAsked J e
+asked_by J e None is fits = inl (fits, is)
+asked_by J e (Some n) is fits = inr (subst IsSome (sym is) refl)
+
+-- room may be asked for it, also behind the stop
+pub asked : (J : List Entry) (e : Event) → IsEventLine e → IsNamed J e → IsAsked J e
+asked J e l n = asked_by J e (stopped J e) refl (named_fits J e l n)

@@ -1,6 +1,6 @@
 // The greatest lengths of texts and lines, the greatest numbers, and how many users there may be.
 
-use crate::running::{accept_case, compare, joined, replay};
+use crate::running::{accept_case, compare, joined, push, replay};
 use login_base::NoMemory;
 use login_cases::limits::NUMBERS;
 use std::alloc::Global;
@@ -69,8 +69,7 @@ fn the_greatest_numbers(rt: HostRuntime) -> Result<(), Fail> {
 fn users(alloc: Global, count: u32) -> Result<Vec<u8>, NoMemory> {
     let mut text = Vec::from_slice(alloc, b"login-recording 1\n")?;
     for uid in 1..=count {
-        let line = format!(in alloc; "user {uid} {uid} u{uid}\n")?;
-        text.extend_from_slice(line.as_bytes())?;
+        push(&mut text, format!(in alloc; "user {uid} {uid} u{uid}\n"))?;
     }
     text.extend_from_slice(b"go\nend\n")?;
     Ok(text)

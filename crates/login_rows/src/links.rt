@@ -6,7 +6,7 @@ mod pieces;
 mod places;
 mod talking;
 
-use crate::running::{accept_case, compare};
+use crate::running::{accept_case, compare, push};
 use login_base::NoMemory;
 use login_cases::links;
 use std::alloc::Global;
@@ -22,8 +22,7 @@ const LINKS: u32 = 64;
 fn recording(alloc: Global, count: u32) -> Result<Vec<u8>, NoMemory> {
     let mut text = Vec::from_slice(alloc, b"login-recording 1\ngo\n")?;
     for who in 1..=count {
-        let line = format!(in alloc; "connect {who} 0\n")?;
-        text.extend_from_slice(line.as_bytes())?;
+        push(&mut text, format!(in alloc; "connect {who} 0\n"))?;
     }
     Ok(text)
 }
@@ -32,8 +31,8 @@ fn recording(alloc: Global, count: u32) -> Result<Vec<u8>, NoMemory> {
 fn transcript(alloc: Global, count: u32) -> Result<Vec<u8>, NoMemory> {
     let mut text = Vec::from_slice(alloc, b"login-transcript 1\n")?;
     for who in 1..=count {
-        let block = format!(in alloc; "{who} connect {who} 0\n granted\n set conn {who} 0\n")?;
-        text.extend_from_slice(block.as_bytes())?;
+        let block = format!(in alloc; "{who} connect {who} 0\n granted\n set conn {who} 0\n");
+        push(&mut text, block)?;
     }
     Ok(text)
 }

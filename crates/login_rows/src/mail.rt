@@ -1,13 +1,11 @@
 // What connections are sent. The expected messages were written by libdbus.
 
-mod lines;
-
 ghost use Rattle.std.specs.Prelude.{◌≡◌, [], IfOk, IsTrue};
 ghost use Rattle.wire_out.specs.Conditions.{IsMailable};
 ghost use Rattle.wire_out.specs.Places.{place_of};
 
+use crate::lines::{is_mailable, play};
 use crate::playing::{finish, new_core};
-use lines::{is_mailable, play};
 use login_base::{ConnId, NoMemory};
 use login_cases::mail::{CASES, Case};
 use login_core::Core;
@@ -43,15 +41,6 @@ fn is_sent(alloc: Global, case: &Case) -> Result<bool, NoMemory> {
     let sent = sends(alloc, &mut core, case);
     finish(core);
     sent
-}
-
-#[test]
-fn mail_is_what_libdbus_writes(rt: HostRuntime) -> Result<(), Fail> {
-    for case in CASES {
-        let name = case.name;
-        assert!(rt; is_sent(rt.alloc(), case)?, "{name}");
-    }
-    Ok(())
 }
 
 /// Plays a line, and adds what is due then; whether the line could be played.
@@ -95,11 +84,13 @@ fn is_due(alloc: Global, case: &Case) -> Result<bool, NoMemory> {
     due
 }
 
+/// The mail is what is expected, and what is due behind each event makes it up.
 #[test]
-fn what_is_due_is_the_rest(rt: HostRuntime) -> Result<(), Fail> {
+fn mail_is_what_libdbus_writes(rt: HostRuntime) -> Result<(), Fail> {
     for case in CASES {
         let name = case.name;
-        assert!(rt; is_due(rt.alloc(), case)?, "{name}");
+        assert!(rt; is_sent(rt.alloc(), case)?, "{name}");
+        assert!(rt; is_due(rt.alloc(), case)?, "{name}: due");
     }
     Ok(())
 }

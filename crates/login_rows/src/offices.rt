@@ -5,12 +5,11 @@ mod cases;
 mod playing;
 mod tellers;
 
-use crate::playing::creation;
 use cases::{CALL, HANDSHAKE, REPLIES};
 use login_base::{ConnId, NoMemory, Uid};
-use login_model::{Event, Request};
+use login_model::Event;
 use login_office::{HeardPiece, Office};
-use playing::{close, hear, mail, new_office, open, play, play_calls};
+use playing::{close, hear, mail, new_office, open, play, play_calls, play_line};
 use std::alloc::Global;
 
 /// The reply to alice's first call, which names her session: by hand, from "Message Format".
@@ -20,15 +19,19 @@ const REPLY: &[u8] = b"l\x02\0\x01\x27\0\0\0\x01\0\0\0\x1f\0\0\0\
 \x08\x01g\0\x01o\0\0\
 \x22\0\0\0/org/freedesktop/login1/session/c1\0";
 
+/// Root is connected, and asks for alice's session.
+const BEGIN: [&[u8]; 2] = [
+    b"connect 1 0",
+    b"call 1 1 create 1000 0 login tty user % seat0 1 tty1 % false % %",
+];
+
 /// Alice's session, which the first connection asked for; whether there is one.
-fn begin(office: &mut Office, alloc: Global) -> Result<bool, NoMemory> {
-    let call = Event::Call(Request {
-        who: ConnId(1),
-        serial: 1,
-        quiet: false,
-        call: creation(alloc)?,
-    });
-    Ok(play(office, Event::Connect(ConnId(1), Uid(0))) && play(office, call))
+fn begin(office: &mut Office, alloc: Global) -> bool {
+    let mut all = true;
+    for line in BEGIN {
+        all = play_line(office, alloc, line) && all;
+    }
+    all
 }
 
 /// Hears a piece of a link, and steps what it brings about; whether it could. What is sent goes behind what was sent.
@@ -61,7 +64,7 @@ fn serve(
 /// Whether two links in turn, in pieces of such a size, are each sent what they are to be.
 fn are_served(alloc: Global, size: usize) -> Result<bool, NoMemory> {
     let mut office = new_office(alloc)?;
-    let mut all = begin(&mut office, alloc)?;
+    let mut all = begin(&mut office, alloc);
     all = open(&mut office, alloc, ConnId(2))? && all;
     all = open(&mut office, alloc, ConnId(3))? && all;
     let mut said = Vec::from_slice(alloc, HANDSHAKE)?;

@@ -6,7 +6,7 @@ use login_base::{Bytes, Items, Millis, NoMemory, Word};
 use login_cases::{Answered, Case, Front, Refused};
 use login_edge::{MemClock, MemListener, MemSink, MemSource, MemSpawner, OpenGate, Source};
 use login_prog::{Outside, run};
-use std::alloc::Global;
+use std::alloc::{AllocError, Global};
 use std::process::Abort;
 use std::sync::Wait;
 use std::test::Fail;
@@ -127,13 +127,25 @@ pub fn replay<R: Wait + Threads + Sync>(
     run_with(rt, alloc, &[b"replay"], source(alloc, text, &[])?, &[])
 }
 
-/// The pieces, one after the other.
-pub fn joined(alloc: Global, pieces: &[&[u8]]) -> Result<Vec<u8>, NoMemory> {
-    let mut text = Vec::new(alloc);
+/// Adds the pieces, one after the other.
+pub fn push_all(text: &mut Vec<u8>, pieces: &[&[u8]]) -> Result<(), NoMemory> {
     for piece in pieces {
         text.extend_from_slice(piece)?;
     }
+    Ok(())
+}
+
+/// The pieces, one after the other.
+pub fn joined(alloc: Global, pieces: &[&[u8]]) -> Result<Vec<u8>, NoMemory> {
+    let mut text = Vec::new(alloc);
+    push_all(&mut text, pieces)?;
     Ok(text)
+}
+
+/// Adds a line that was formatted.
+pub fn push(text: &mut Vec<u8>, line: Result<String, AllocError>) -> Result<(), NoMemory> {
+    text.extend_from_slice(line?.as_bytes())?;
+    Ok(())
 }
 
 /// Compares all that a run left. What differs is told with the name of its case, and its place among its lines.
@@ -186,9 +198,9 @@ pub fn accept_case<R: Abort + Wait + Threads + Sync>(
 ) -> Result<(), Fail> {
     let mut recording = Vec::new(alloc);
     let mut transcript = Vec::new(alloc);
-    for piece in case.pieces {
-        recording.extend_from_slice(piece.lines.as_bytes())?;
-        transcript.extend_from_slice(piece.blocks.as_bytes())?;
+    for (lines, blocks) in case.pieces {
+        recording.extend_from_slice(lines.as_bytes())?;
+        transcript.extend_from_slice(blocks.as_bytes())?;
     }
     compare_case(
         rt,
@@ -222,17 +234,17 @@ fn answer<R: Abort + Wait + Threads + Sync>(
     front: &Front,
     lines: &[(&str, &str)],
 ) -> Result<(), Fail> {
-    let mut recording = Vec::from_slice(alloc, front.piece.lines.as_bytes())?;
-    let mut transcript = Vec::from_slice(alloc, front.piece.blocks.as_bytes())?;
+    let mut recording = Vec::from_slice(alloc, front.piece.0.as_bytes())?;
+    let mut transcript = Vec::from_slice(alloc, front.piece.1.as_bytes())?;
     let mut number = front.entries;
     for (line, reply) in lines {
         number = number.saturating_add(1);
-        recording.extend_from_slice(format!(in alloc; "{line}\n")?.as_bytes())?;
-        let block = format!(in alloc; "{number} {line}\n {reply}\n")?;
-        transcript.extend_from_slice(block.as_bytes())?;
+        push_all(&mut recording, &[line.as_bytes(), b"\n"])?;
+        let block = format!(in alloc; "{number} {line}\n {reply}\n");
+        push(&mut transcript, block)?;
     }
     recording.extend_from_slice(b"end\n")?;
-    transcript.extend_from_slice(format!(in alloc; "end {number}\n")?.as_bytes())?;
+    push(&mut transcript, format!(in alloc; "end {number}\n"))?;
     compare_case(
         rt,
         alloc,

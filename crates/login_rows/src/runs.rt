@@ -61,8 +61,8 @@ fn texts_have_one_spelling(rt: HostRuntime) -> Result<(), Fail> {
     compare(
         &rt,
         rt.alloc(),
-        rules::SPELLING.lines.as_bytes(),
-        rules::SPELLING.blocks.as_bytes(),
+        rules::SPELLING.0.as_bytes(),
+        rules::SPELLING.1.as_bytes(),
         2,
         "line 7: bad-hex\n",
     )

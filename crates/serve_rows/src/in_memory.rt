@@ -6,7 +6,7 @@ use crate::handshakes::{HANDSHAKE, ping};
 use crate::running::{
     Outcome, bytes, events_recorded, lines_like, plays_again, run_with, sink, still_clock, threads,
 };
-use login_base::{ConnId, Items, Millis, NoMemory, Uid};
+use login_base::{Bytes, ConnId, Items, Millis, NoMemory, Uid};
 use login_edge::{
     Arrival, Bell, HeldSource, Hold, HoldGate, MemClock, MemLink, MemListener, MemSink, MemSpawner,
     OpenGate, Turn,
@@ -35,23 +35,39 @@ fn pinging(alloc: Global, serials: &[u32], bell: &Bell) -> Result<MemLink, NoMem
     )
 }
 
-/// A preamble with no user, and then these lines, the last of which is held back until a bell was rung so often.
+/// A preamble with no user.
+const PREAMBLE: &[u8] = b"login-recording 1\ngo\n";
+
+/// These lines behind the preamble.
+fn behind_preamble(alloc: Global, lines: &[u8]) -> Result<Vec<u8>, NoMemory> {
+    let mut text = Vec::from_slice(alloc, PREAMBLE)?;
+    text.extend_from_slice(lines)?;
+    Ok(text)
+}
+
+/// A text with the stop behind it.
+fn stopped(text: Vec<u8>) -> Result<Bytes, NoMemory> {
+    let mut text = text;
+    text.extend_from_slice(b"stop\n")?;
+    Ok(Items::from_vec(text))
+}
+
+/// The preamble, these lines, and the stop, which is held back until a bell was rung so often.
 fn held_input(
     alloc: Global,
     lines: &[u8],
     bell: &Bell,
     rings: u64,
 ) -> Result<HeldSource, NoMemory> {
-    let front = b"login-recording 1\ngo\n";
-    let mut text = Vec::from_slice(alloc, front)?;
-    text.extend_from_slice(lines)?;
+    let text = behind_preamble(alloc, lines)?;
+    let place = text.len();
+    let bytes = stopped(text)?;
     let hold = Hold {
         bell: bell.share(),
         rings,
-        place: text.len(),
+        place,
     };
-    text.extend_from_slice(b"stop\n")?;
-    HeldSource::new(alloc, Items::from_vec(text), Items::new(alloc), hold)
+    HeldSource::new(alloc, bytes, Items::new(alloc), hold)
 }
 
 /// Which call of the outside fails.

@@ -4,10 +4,10 @@ use controller::Controller;
 use login_base::{ConnId, NoMemory, SessId, Uid};
 use login_model::{Fact, Key};
 use login_table::Table;
+use std::process::Abort;
 
-#[test]
-fn connections_are_told_in_their_order(rt: HostRuntime) -> Result<(), NoMemory> {
-    let mut controller = Controller::new(rt.alloc());
+/// Two connections, one of which goes.
+fn tell_connections(rt: &impl Abort, controller: &mut Controller) -> Result<(), NoMemory> {
     controller.room(3)?;
     controller.apply(Key::Conn(ConnId(7)), Fact::Connected(Uid(1000)));
     controller.apply(Key::Conn(ConnId(2)), Fact::Connected(Uid(0)));
@@ -15,6 +15,14 @@ fn connections_are_told_in_their_order(rt: HostRuntime) -> Result<(), NoMemory> 
     assert!(rt; controller.next_conn(None) == Some(ConnId(2)));
     assert!(rt; controller.next_conn(Some(ConnId(2))) == None);
     Ok(())
+}
+
+#[test]
+fn connections_are_told_in_their_order(rt: HostRuntime) -> Result<(), NoMemory> {
+    let mut controller = Controller::new(rt.alloc());
+    let told = tell_connections(&rt, &mut controller);
+    drop(controller);
+    told
 }
 
 #[test]

@@ -5,6 +5,7 @@ use login_base::{ConnId, LockNo, NoMemory, Uid, Word};
 use login_model::{Boxed, Fact, Inhibited, Key, Lock, LockMode};
 use login_table::Table;
 use std::alloc::Global;
+use std::process::Abort;
 
 const SLEEP: Inhibited = Inhibited {
     shutdown: false,
@@ -29,9 +30,8 @@ fn delay(alloc: Global) -> Result<Fact, NoMemory> {
     Ok(Fact::Lock(Boxed::new(alloc, lock)?))
 }
 
-#[test]
-fn locks_are_told_in_their_order(rt: HostRuntime) -> Result<(), NoMemory> {
-    let mut locks = Inhibitors::new(rt.alloc());
+/// Two locks, one of which goes.
+fn tell_locks(rt: &(impl Abort + AllocGlobal), locks: &mut Inhibitors) -> Result<(), NoMemory> {
     locks.room(3)?;
     locks.apply(Key::Lock(LockNo(7)), delay(rt.alloc())?);
     locks.apply(Key::Lock(LockNo(2)), delay(rt.alloc())?);
@@ -42,4 +42,12 @@ fn locks_are_told_in_their_order(rt: HostRuntime) -> Result<(), NoMemory> {
     assert!(rt; locks.look(&Key::Lock(LockNo(2))).is_some());
     assert!(rt; locks.look(&Key::Vt).is_none());
     Ok(())
+}
+
+#[test]
+fn locks_are_told_in_their_order(rt: HostRuntime) -> Result<(), NoMemory> {
+    let mut locks = Inhibitors::new(rt.alloc());
+    let told = tell_locks(&rt, &mut locks);
+    drop(locks);
+    told
 }

@@ -4,10 +4,10 @@ use login_base::{NoMemory, SeatName};
 use login_model::{Fact, Key};
 use login_table::Table;
 use seats_vts::SeatsVts;
+use std::process::Abort;
 
-#[test]
-fn the_first_seat_is_there_from_the_start(rt: HostRuntime) -> Result<(), NoMemory> {
-    let mut seats = SeatsVts::new(rt.alloc());
+/// The first seat, and its terminal.
+fn tell_seats(rt: &impl Abort, seats: &mut SeatsVts) -> Result<(), NoMemory> {
     seats.room(1)?;
     seats.apply(Key::Vt, Fact::Number(2));
     match seats.look(&Key::Vt) {
@@ -20,4 +20,12 @@ fn the_first_seat_is_there_from_the_start(rt: HostRuntime) -> Result<(), NoMemor
     }
     assert!(rt; seats.next::<SeatName>(Some(SeatName::SEAT0)).is_none());
     Ok(())
+}
+
+#[test]
+fn the_first_seat_is_there_from_the_start(rt: HostRuntime) -> Result<(), NoMemory> {
+    let mut seats = SeatsVts::new(rt.alloc());
+    let told = tell_seats(&rt, &mut seats);
+    drop(seats);
+    told
 }

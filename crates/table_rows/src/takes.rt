@@ -4,6 +4,7 @@ use device_revoke::DeviceRevoke;
 use login_base::{ConnId, DevNo, HandleNo, NoMemory, SessId};
 use login_model::{Fact, Key, Owner};
 use login_table::Table;
+use std::process::Abort;
 
 const CARD: DevNo = DevNo {
     major: 226,
@@ -15,9 +16,8 @@ const MOUSE: DevNo = DevNo {
     minor: 64,
 };
 
-#[test]
-fn taken_devices_are_told_in_their_order(rt: HostRuntime) -> Result<(), NoMemory> {
-    let mut revoke = DeviceRevoke::new(rt.alloc());
+/// Devices that two sessions take, one of which is given back.
+fn tell_taken(rt: &impl Abort, revoke: &mut DeviceRevoke) -> Result<(), NoMemory> {
     revoke.room(4)?;
     revoke.apply(Key::Taken(SessId(2), CARD), Fact::Handle(HandleNo(3)));
     revoke.apply(Key::Taken(SessId(2), MOUSE), Fact::Handle(HandleNo(4)));
@@ -37,8 +37,15 @@ fn taken_devices_are_told_in_their_order(rt: HostRuntime) -> Result<(), NoMemory
 }
 
 #[test]
-fn handles_are_told(rt: HostRuntime) -> Result<(), NoMemory> {
+fn taken_devices_are_told_in_their_order(rt: HostRuntime) -> Result<(), NoMemory> {
     let mut revoke = DeviceRevoke::new(rt.alloc());
+    let told = tell_taken(&rt, &mut revoke);
+    drop(revoke);
+    told
+}
+
+/// A handle, and that it is live.
+fn tell_handles(rt: &impl Abort, revoke: &mut DeviceRevoke) -> Result<(), NoMemory> {
     revoke.room(2)?;
     revoke.apply(
         Key::Owner(HandleNo(3)),
@@ -55,4 +62,12 @@ fn handles_are_told(rt: HostRuntime) -> Result<(), NoMemory> {
     }
     assert!(rt; revoke.look(&Key::Vt).is_none());
     Ok(())
+}
+
+#[test]
+fn handles_are_told(rt: HostRuntime) -> Result<(), NoMemory> {
+    let mut revoke = DeviceRevoke::new(rt.alloc());
+    let told = tell_handles(&rt, &mut revoke);
+    drop(revoke);
+    told
 }

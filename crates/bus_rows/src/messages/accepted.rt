@@ -3,8 +3,8 @@
 
 use super::clients::Sent;
 
-/// What GLib (Gio.DBusMessage) wrote.
-pub const GLIB: &[Sent] = &[
+/// What GLib (Gio.DBusMessage) wrote of calls, returns and errors.
+pub const GLIB_CALLS: &[Sent] = &[
     // a call with the fields that it requires
     Sent {
         bytes: b"l\x01\0\x01\0\0\0\0\x01\0\0\0\x1a\0\0\0\x01\x01o\0\x01\0\0\0/\0\0\0\0\0\0\0\x03\x01s\0\x01\0\0\0M\0\0\0\0\0\0\0",
@@ -185,6 +185,10 @@ pub const GLIB: &[Sent] = &[
         sender: b"a.b",
         types: b"s",
     },
+];
+
+/// What it wrote of signals, of messages of other types and of flags.
+pub const GLIB_SIGNALS: &[Sent] = &[
     // a signal with the fields that it requires
     Sent {
         bytes: b"l\x04\0\x01\0\0\0\0\x01\0\0\08\0\0\0\x01\x01o\0\x04\0\0\0/a/b\0\0\0\0\x02\x01s\0\x0d\0\0\0org.example.I\0\0\0\x03\x01s\0\x07\0\0\0Changed\0",
@@ -365,6 +369,10 @@ pub const GLIB: &[Sent] = &[
         sender: b"",
         types: b"",
     },
+];
+
+/// What it wrote of unknown fields, of containers and of long names.
+pub const GLIB_BODIES: &[Sent] = &[
     // an unknown field with a number
     Sent {
         bytes: b"l\x01\0\x01\0\0\0\0\x01\0\0\0(\0\0\0\x01\x01o\0\x02\0\0\0/a\0\0\0\0\0\0\x03\x01s\0\x01\0\0\0M\0\0\0\0\0\0\0\x0a\x01u\0\0\0\0\0",

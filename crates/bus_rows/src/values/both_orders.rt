@@ -93,13 +93,23 @@ fn variants_of_no_type_are_told(rt: HostRuntime) {
 }
 
 #[test]
-fn values_that_pass_an_array_are_told(rt: HostRuntime) {
-    assert!(rt; are_told(rt.alloc(), &ends::PASSING_A));
+fn small_values_that_pass_an_array_are_told(rt: HostRuntime) {
+    assert!(rt; are_told(rt.alloc(), &ends::PASSING_SMALL));
 }
 
 #[test]
-fn more_values_that_pass_an_array_are_told(rt: HostRuntime) {
-    assert!(rt; are_told(rt.alloc(), &ends::PASSING_B));
+fn numbers_that_pass_an_array_are_told(rt: HostRuntime) {
+    assert!(rt; are_told(rt.alloc(), &ends::PASSING_NUMBERS));
+}
+
+#[test]
+fn texts_that_pass_an_array_are_told(rt: HostRuntime) {
+    assert!(rt; are_told(rt.alloc(), &ends::PASSING_TEXTS));
+}
+
+#[test]
+fn containers_that_pass_an_array_are_told(rt: HostRuntime) {
+    assert!(rt; are_told(rt.alloc(), &ends::PASSING_CONTAINERS));
 }
 
 #[test]

@@ -5,8 +5,8 @@ use crate::{Case, Piece};
 
 /// What is done with a session's handles: while they are taken, after the device is given back, and after they
 /// are closed.
-const HANDLES: Piece = Piece {
-    lines: "\
+const HANDLES: Piece = (
+    "\
 call 2 2 take c1 13 64
 call 2 3 take c1 226 0
 call 2 4 read 9
@@ -31,7 +31,7 @@ call 2 15 read 3
 call 2 16 set-mode 4 7
 end
 ",
-    blocks: "\
+    "\
 10 call 2 2 take c1 13 64
  granted 3 false
  set owner 3 device 2 c1 13:64
@@ -91,12 +91,12 @@ end
  denied P07 no-such-handle
 end 31
 ",
-};
+);
 
 /// Handles that a controller keeps after another one took control by force. Closing them leaves the new
 /// controller's handle alone.
-const AFTER_OUSTER: Piece = Piece {
-    lines: "\
+const AFTER_OUSTER: Piece = (
+    "\
 call 1 3 control c1 true
 call 2 4 read 4
 call 2 5 close 4
@@ -110,7 +110,7 @@ call 1 6 control c1 false
 call 2 10 uncontrol c1
 end
 ",
-    blocks: "\
+    "\
 14 call 1 3 control c1 true
  granted
  say 2 pause c1 13:64 gone
@@ -148,11 +148,11 @@ end
  denied P18 not-in-control
 end 24
 ",
-};
+);
 
 /// A controller gives a session back, and another one takes control and a device.
-const UNCONTROLLED: Piece = Piece {
-    lines: "\
+const UNCONTROLLED: Piece = (
+    "\
 call 2 4 uncontrol c1
 call 2 5 read 4
 call 2 6 take c1 13 64
@@ -164,7 +164,7 @@ call 2 8 read 7
 call 1 5 read 7
 end
 ",
-    blocks: "\
+    "\
 14 call 2 4 uncontrol c1
  granted
  set live 4 false
@@ -194,11 +194,11 @@ end
  granted [(3 1 -7)]
 end 22
 ",
-};
+);
 
 /// Sessions end by a call and by the end of their last process.
-const ENDED: Piece = Piece {
-    lines: "\
+const ENDED: Piece = (
+    "\
 call 2 4 terminate c1
 exit c2
 call 3 4 release c2 13 64
@@ -206,7 +206,7 @@ call 2 5 release c1 13 64
 call 2 6 close 4
 end
 ",
-    blocks: "\
+    "\
 14 call 2 4 terminate c1
  granted
  set live 4 false
@@ -234,16 +234,16 @@ end
  set owner 4 closed
 end 18
 ",
-};
+);
 
 /// The fifo of a session is closed, and then its creator disconnects.
-const FIFO_CLOSED: Piece = Piece {
-    lines: "\
+const FIFO_CLOSED: Piece = (
+    "\
 call 1 3 close 1
 disconnect 1
 end
 ",
-    blocks: "\
+    "\
 14 call 1 3 close 1
  granted
  set owner 1 closed
@@ -263,11 +263,11 @@ end
  set conn 1 gone
 end 15
 ",
-};
+);
 
 /// A handle that a fresh one replaced is closed, and the device stays taken.
-const REPLACED: Piece = Piece {
-    lines: "\
+const REPLACED: Piece = (
+    "\
 call 1 2 create 1000 2 login tty user % seat-x 0 % % false % %
 call 2 4 activate c1
 call 2 5 close 2
@@ -277,7 +277,7 @@ call 2 7 close 5
 call 2 8 release c1 13 70
 end
 ",
-    blocks: "\
+    "\
 9 call 1 2 create 1000 2 login tty user % seat-x 0 % % false % %
  granted c2 /org/freedesktop/login1/session/c2 /run/user/1000 4 1000 seat-x 0 false
  set owner 4 fifo 1 c2
@@ -315,7 +315,7 @@ end
  denied P20 device-not-taken
 end 15
 ",
-};
+);
 
 /// Each with what it shows of handles and sessions that end.
 pub const CASES: [Case; 6] = [

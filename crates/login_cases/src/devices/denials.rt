@@ -6,8 +6,8 @@ use crate::{Answered, Case, Front, Piece};
 /// A session that has taken a device; one without a seat, which the same connection controls; one that is
 /// closing; and a device on another seat.
 const DEVICES: Front = Front {
-    piece: Piece {
-        lines: "\
+    piece: (
+        "\
 login-recording 1
 user 1000 1000 alice
 user 1001 1001 bob
@@ -28,7 +28,7 @@ call 2 4 take c1 13 64
 call 2 5 take c3 226 0
 call 2 6 terminate c3
 ",
-        blocks: "\
+        "\
 login-transcript 1
 1 connect 1 0
  granted
@@ -92,7 +92,7 @@ login-transcript 1
  set ctl c3 -
  set sess c3 closing
 ",
-    },
+    ),
     entries: 15,
 };
 
@@ -162,8 +162,8 @@ const HAPPENING: [(&str, &str); 9] = [
 ];
 
 /// A session takes a device of its seat once; nobody else takes one for it, and it takes no other.
-const TAKEN_ONCE: Piece = Piece {
-    lines: "\
+const TAKEN_ONCE: Piece = (
+    "\
 call 2 2 take c1 226 0
 call 2 3 take c1 226 0
 call 3 2 take c1 13 64
@@ -172,7 +172,7 @@ call 2 4 take c1 13 80
 call 2 5 take c1 13 99
 end
 ",
-    blocks: "\
+    "\
 10 call 2 2 take c1 226 0
  granted 3 false
  set owner 3 device 2 c1 226:0
@@ -193,7 +193,7 @@ end
  denied P08 no-such-device
 end 15
 ",
-};
+);
 
 /// Each with what it shows of taking a device.
 pub const CASES: [Case; 1] = [Case {

@@ -4,12 +4,12 @@ use super::fronts::{ASKS, SESSIONS, TAKES};
 use crate::{Case, Piece};
 
 /// A call ends the session.
-const TERMINATED: Piece = Piece {
-    lines: "\
+const TERMINATED: Piece = (
+    "\
 call 2 4 terminate c1
 end
 ",
-    blocks: "\
+    "\
 15 call 2 4 terminate c1
  granted
  set live 4 false
@@ -32,15 +32,15 @@ end
  say 3 resume c2 226:0 5
 end 15
 ",
-};
+);
 
 /// A call ends the sessions of its user.
-const USER_TERMINATED: Piece = Piece {
-    lines: "\
+const USER_TERMINATED: Piece = (
+    "\
 call 1 3 terminate-user 1000
 end
 ",
-    blocks: "\
+    "\
 15 call 1 3 terminate-user 1000
  granted
  set live 4 false
@@ -63,15 +63,15 @@ end
  say 3 resume c2 226:0 5
 end 15
 ",
-};
+);
 
 /// A call ends all sessions of the seat, the one that is switched to among them.
-const SEAT_TERMINATED: Piece = Piece {
-    lines: "\
+const SEAT_TERMINATED: Piece = (
+    "\
 call 1 3 terminate-seat seat0
 end
 ",
-    blocks: "\
+    "\
 15 call 1 3 terminate-seat seat0
  granted
  set live 4 false
@@ -92,15 +92,15 @@ end
  set getty 2 true
 end 15
 ",
-};
+);
 
 /// The last process of the session is gone.
-const EXITED: Piece = Piece {
-    lines: "\
+const EXITED: Piece = (
+    "\
 exit c1
 end
 ",
-    blocks: "\
+    "\
 15 exit c1
  granted
  set live 4 false
@@ -126,15 +126,15 @@ end
  say 3 resume c2 226:0 5
 end 15
 ",
-};
+);
 
 /// The fifo of the session is closed.
-const FIFO_CLOSED: Piece = Piece {
-    lines: "\
+const FIFO_CLOSED: Piece = (
+    "\
 call 1 3 close 1
 end
 ",
-    blocks: "\
+    "\
 15 call 1 3 close 1
  granted
  set owner 1 closed
@@ -158,15 +158,15 @@ end
  say 3 resume c2 226:0 5
 end 15
 ",
-};
+);
 
 /// The connection that created the sessions, and owns their fifos, disconnects.
-const CREATOR_GONE: Piece = Piece {
-    lines: "\
+const CREATOR_GONE: Piece = (
+    "\
 disconnect 1
 end
 ",
-    blocks: "\
+    "\
 15 disconnect 1
  granted
  set live 4 false
@@ -188,17 +188,17 @@ end
  set getty 2 true
 end 15
 ",
-};
+);
 
 /// The session that is switched to ends: nobody's pause ends with it, and a getty is asked for on its terminal as the switch completes.
-const TARGET_ENDED: Piece = Piece {
-    lines: "\
+const TARGET_ENDED: Piece = (
+    "\
 call 1 3 terminate c2
 call 2 4 paused c1 13 64
 call 2 5 paused c1 226 0
 end
 ",
-    blocks: "\
+    "\
 15 call 1 3 terminate c2
  granted
  set taken c2 13:64 -
@@ -219,7 +219,7 @@ end
  all active seat0 c1 -
 end 17
 ",
-};
+);
 
 /// Each with what ends the session, and what then becomes of the pauses.
 pub const CASES: [Case; 7] = [

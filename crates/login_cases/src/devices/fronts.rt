@@ -4,8 +4,8 @@ use crate::Piece;
 
 /// Two sessions of seat0, each with its controller, and a device of each kind. The handles 1 and 2 are the
 /// fifos.
-pub const SESSIONS: Piece = Piece {
-    lines: "\
+pub const SESSIONS: Piece = (
+    "\
 login-recording 1
 user 1000 1000 alice
 user 1001 1001 bob
@@ -20,7 +20,7 @@ call 1 2 create 1001 3 login wayland user % seat0 2 tty2 % false % %
 call 2 1 control c1 false
 call 3 1 control c2 false
 ",
-    blocks: "\
+    "\
 login-transcript 1
 1 connect 1 0
  granted
@@ -59,17 +59,17 @@ login-transcript 1
  granted
  set ctl c2 3
 ",
-};
+);
 
 /// Behind them: both sessions take both devices. The first one is active, so its handles are live.
-pub const TAKES: Piece = Piece {
-    lines: "\
+pub const TAKES: Piece = (
+    "\
 call 2 2 take c1 226 0
 call 2 3 take c1 13 64
 call 3 2 take c2 226 0
 call 3 3 take c2 13 64
 ",
-    blocks: "\
+    "\
 10 call 2 2 take c1 226 0
  granted 3 false
  set owner 3 device 2 c1 226:0
@@ -89,14 +89,14 @@ call 3 3 take c2 13 64
  set owner 6 device 3 c2 13:64
  set taken c2 13:64 6
 ",
-};
+);
 
 /// Behind them: the other terminal is asked for, and the pauses of the live devices are awaited.
-pub const ASKS: Piece = Piece {
-    lines: "\
+pub const ASKS: Piece = (
+    "\
 vtkey 2
 ",
-    blocks: "\
+    "\
 14 vtkey 2
  granted
  set pending 2
@@ -105,12 +105,12 @@ vtkey 2
  set awaited c1 226:0 true
  say 2 pause c1 226:0 pause
 ",
-};
+);
 
 /// A seat with a device of each kind, and a session on it that has taken both, beside its fifo with the
 /// handles 2 and 3.
-pub const OTHER_SEAT: Piece = Piece {
-    lines: "\
+pub const OTHER_SEAT: Piece = (
+    "\
 login-recording 1
 user 1000 1000 alice
 go
@@ -123,7 +123,7 @@ call 2 1 control c1 false
 call 2 2 take c1 13 70
 call 2 3 take c1 226 1
 ",
-    blocks: "\
+    "\
 login-transcript 1
 1 connect 1 0
  granted
@@ -162,4 +162,4 @@ login-transcript 1
  set taken c1 226:1 3
  set live 3 true
 ",
-};
+);

@@ -5,8 +5,8 @@ use crate::{Case, Piece};
 
 /// A switch is asked for, and then withdrawn: the handle was live all the time, so it can be read meanwhile, and
 /// keeps what it heard.
-const WITHDRAWN: Piece = Piece {
-    lines: "\
+const WITHDRAWN: Piece = (
+    "\
 input 13 64 1 30 1
 vtkey 2
 call 2 4 read 4
@@ -17,7 +17,7 @@ call 2 5 read 4
 call 2 6 read 4
 end
 ",
-    blocks: "\
+    "\
 14 input 13 64 1 30 1
  granted
 15 vtkey 2
@@ -46,12 +46,12 @@ end
  granted []
 end 21
 ",
-};
+);
 
 /// A session loses its input device, and gets it back with a fresh handle: what came meanwhile, and what the old
 /// handle did not read, is not heard. Then the device comes back as one of another kind.
-const MISSED: Piece = Piece {
-    lines: "\
+const MISSED: Piece = (
+    "\
 input 13 70 1 30 1
 call 1 2 create 1000 2 login tty user % seat-x 0 % % false % %
 input 13 70 1 31 1
@@ -65,7 +65,7 @@ remove 226 1
 remove 13 70
 end
 ",
-    blocks: "\
+    "\
 9 input 13 70 1 30 1
  granted
 10 call 1 2 create 1000 2 login tty user % seat-x 0 % % false % %
@@ -124,12 +124,12 @@ end
  all seat-removed seat-x
 end 19
 ",
-};
+);
 
 /// Two sessions that have the same device taken hear in turn: each what comes while its handle is live. An input
 /// of another device is not heard, nor is a read of the other handle.
-const IN_TURN: Piece = Piece {
-    lines: "\
+const IN_TURN: Piece = (
+    "\
 add 13 71 evdev seat-x
 input 13 70 1 1 1
 input 13 71 1 2 1
@@ -149,7 +149,7 @@ input 13 70 1 7 1
 call 2 5 read 7
 end
 ",
-    blocks: "\
+    "\
 9 add 13 71 evdev seat-x
  granted
  set dev 13:71 evdev seat-x
@@ -215,21 +215,21 @@ end
  granted [(1 7 1)]
 end 25
 ",
-};
+);
 
 /// A live input device.
-pub const LISTENS: Piece = Piece {
-    lines: "\
+pub const LISTENS: Piece = (
+    "\
 call 2 2 take c1 13 64
 ",
-    blocks: "\
+    "\
 10 call 2 2 take c1 13 64
  granted 3 false
  set owner 3 device 2 c1 13:64
  set taken c1 13:64 3
  set live 3 true
 ",
-};
+);
 
 /// Each with what it shows of what a handle hears.
 pub const CASES: [Case; 3] = [

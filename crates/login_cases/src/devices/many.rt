@@ -3,8 +3,8 @@
 use crate::Piece;
 
 /// Behind 129 devices, of which a session has taken 128.
-pub const FULL: Piece = Piece {
-    lines: "\
+pub const FULL: Piece = (
+    "\
 call 2 200 take c1 14 129
 call 2 201 take c1 14 1
 call 2 202 release c1 14 1
@@ -13,7 +13,7 @@ call 2 204 take c1 14 1
 call 3 200 take c2 14 1
 end
 ",
-    blocks: "\
+    "\
 267 call 2 200 take c1 14 129
  denied P26 limit devices-taken 128
 268 call 2 201 take c1 14 1
@@ -35,11 +35,11 @@ end
  set taken c2 14:1 132
 end 272
 ",
-};
+);
 
 /// Behind as many devices as may be.
-pub const PRESENT: Piece = Piece {
-    lines: "\
+pub const PRESENT: Piece = (
+    "\
 add 14 4097 evdev seat0
 add 226 0 drm seat-x
 add 14 4096 evdev seat0
@@ -49,7 +49,7 @@ add 226 0 drm seat-x
 add 14 7 evdev seat0
 end
 ",
-    blocks: "\
+    "\
 4097 add 14 4097 evdev seat0
  denied P26 limit devices 4096
 4098 add 226 0 drm seat-x
@@ -70,4 +70,4 @@ end
  denied P26 limit devices 4096
 end 4103
 ",
-};
+);

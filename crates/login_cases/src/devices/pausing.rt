@@ -4,8 +4,8 @@ use super::fronts::{ASKS, OTHER_SEAT, SESSIONS, TAKES};
 use crate::{Case, Piece};
 
 /// A dead handle is not read; the one that takes its place is, once both pauses are acknowledged.
-const READ: Piece = Piece {
-    lines: "\
+const READ: Piece = (
+    "\
 call 3 4 read 6
 vtkey 2
 call 2 4 paused c1 226 0
@@ -15,7 +15,7 @@ call 3 5 read 7
 call 3 6 read 7
 end
 ",
-    blocks: "\
+    "\
 14 call 3 4 read 6
  denied P27 not-live
 15 vtkey 2
@@ -50,16 +50,16 @@ end
  granted []
 end 20
 ",
-};
+);
 
 /// Both pauses are acknowledged: the switch completes at the last.
-pub const ACKNOWLEDGED: Piece = Piece {
-    lines: "\
+pub const ACKNOWLEDGED: Piece = (
+    "\
 call 2 4 paused c1 226 0
 call 2 5 paused c1 13 64
 end
 ",
-    blocks: "\
+    "\
 15 call 2 4 paused c1 226 0
  granted
  set awaited c1 226:0 false
@@ -79,18 +79,18 @@ end
  say 3 resume c2 226:0 5
 end 16
 ",
-};
+);
 
 /// The last device whose pause is awaited goes.
-const UNPLUGGED: Piece = Piece {
-    lines: "\
+const UNPLUGGED: Piece = (
+    "\
 call 2 4 paused c1 226 0
 remove 13 64
 add 13 64 evdev seat0
 call 2 5 read 4
 end
 ",
-    blocks: "\
+    "\
 15 call 2 4 paused c1 226 0
  granted
  set awaited c1 226:0 false
@@ -116,11 +116,11 @@ end
  denied P27 not-live
 end 18
 ",
-};
+);
 
 /// The switch goes to another terminal and is withdrawn; an acknowledgement that comes late does nothing, and one counts for a later pause.
-const WITHDRAWN: Piece = Piece {
-    lines: "\
+const WITHDRAWN: Piece = (
+    "\
 call 2 4 paused c1 13 64
 vtkey 3
 vtkey 1
@@ -129,7 +129,7 @@ vtkey 2
 call 2 6 paused c1 226 0
 end
 ",
-    blocks: "\
+    "\
 15 call 2 4 paused c1 13 64
  granted
  set awaited c1 13:64 false
@@ -161,18 +161,18 @@ end
  set live 3 false
 end 20
 ",
-};
+);
 
 /// A device that is taken while the switch is pending is lost by force.
-const TAKEN_MEANWHILE: Piece = Piece {
-    lines: "\
+const TAKEN_MEANWHILE: Piece = (
+    "\
 call 2 2 take c1 226 0
 vtkey 2
 call 2 3 take c1 13 64
 call 2 4 paused c1 226 0
 end
 ",
-    blocks: "\
+    "\
 10 call 2 2 take c1 226 0
  granted 3 false
  set owner 3 device 2 c1 226:0
@@ -199,11 +199,11 @@ end
  all active seat0 c1 c2
 end 13
 ",
-};
+);
 
 /// Acknowledgements of a device that is not awaited, of another session's, and of one for the second time.
-const NOT_AWAITED: Piece = Piece {
-    lines: "\
+const NOT_AWAITED: Piece = (
+    "\
 call 3 4 paused c2 13 64
 call 3 5 paused c1 13 64
 call 2 4 paused c1 13 64
@@ -212,7 +212,7 @@ call 2 6 paused c1 13 65
 call 2 7 paused c9 13 64
 end
 ",
-    blocks: "\
+    "\
 15 call 3 4 paused c2 13 64
  granted
 16 call 3 5 paused c1 13 64
@@ -229,11 +229,11 @@ end
  denied P04 no-such-session
 end 20
 ",
-};
+);
 
 /// The switch goes to another terminal twice, and once to the same; it is withdrawn by a call, and then nothing is pending. A device that was let go of comes back with a fresh handle.
-const REPLACED_TWICE: Piece = Piece {
-    lines: "\
+const REPLACED_TWICE: Piece = (
+    "\
 vtkey 3
 call 1 3 switch seat0 4
 call 2 4 paused c1 13 64
@@ -242,7 +242,7 @@ call 1 4 activate c1
 vtkey 1
 end
 ",
-    blocks: "\
+    "\
 15 vtkey 3
  granted
  set pending 3
@@ -268,17 +268,17 @@ end
  granted
 end 20
 ",
-};
+);
 
 /// A switch that was replaced completes at the terminal that was asked for last.
-const REPLACED: Piece = Piece {
-    lines: "\
+const REPLACED: Piece = (
+    "\
 vtkey 3
 call 2 4 paused c1 13 64
 call 2 5 paused c1 226 0
 end
 ",
-    blocks: "\
+    "\
 15 vtkey 3
  granted
  set pending 3
@@ -296,11 +296,11 @@ end
  all active seat0 c1 -
 end 17
 ",
-};
+);
 
 /// Acknowledgements before a switch, after it, and of a device whose pause another session owes.
-const EARLY_AND_LATE: Piece = Piece {
-    lines: "\
+const EARLY_AND_LATE: Piece = (
+    "\
 call 2 4 paused c1 13 64
 vtkey 2
 call 2 5 paused c1 226 0
@@ -313,7 +313,7 @@ call 3 4 paused c2 13 64
 call 3 5 paused c2 226 0
 end
 ",
-    blocks: "\
+    "\
 14 call 2 4 paused c1 13 64
  granted
 15 vtkey 2
@@ -369,11 +369,11 @@ end
  say 2 resume c1 226:0 3
 end 23
 ",
-};
+);
 
 /// A device that was let go of is given back and taken again, all while the switch is pending: it is live, and its pause is not awaited.
-const TAKEN_AGAIN: Piece = Piece {
-    lines: "\
+const TAKEN_AGAIN: Piece = (
+    "\
 call 2 4 paused c1 13 64
 call 2 5 release c1 13 64
 call 2 6 paused c1 13 64
@@ -383,7 +383,7 @@ call 2 9 paused c1 226 0
 call 2 10 read 7
 end
 ",
-    blocks: "\
+    "\
 15 call 2 4 paused c1 13 64
  granted
  set awaited c1 13:64 false
@@ -419,18 +419,18 @@ end
  denied P27 not-live
 end 21
 ",
-};
+);
 
 /// No pause is awaited on a seat without terminals, so an acknowledgement does nothing there.
-const ELSEWHERE: Piece = Piece {
-    lines: "\
+const ELSEWHERE: Piece = (
+    "\
 call 2 4 paused c1 13 70
 call 2 5 paused c1 226 1
 call 2 6 read 2
 call 2 7 set-mode 3 5
 end
 ",
-    blocks: "\
+    "\
 9 call 2 4 paused c1 13 70
  granted
 10 call 2 5 paused c1 226 1
@@ -442,7 +442,7 @@ end
  set mode 226:1 5
 end 12
 ",
-};
+);
 
 /// Each with what it shows of pauses.
 pub const CASES: [Case; 11] = [

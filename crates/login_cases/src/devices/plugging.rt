@@ -4,8 +4,8 @@ use super::fronts::{OTHER_SEAT, SESSIONS, TAKES};
 use crate::{Case, Piece};
 
 /// Both devices go from two sessions that have them taken; one comes back, and is taken again.
-const REPLUGGED: Piece = Piece {
-    lines: "\
+const REPLUGGED: Piece = (
+    "\
 call 2 4 set-mode 3 7
 remove 13 64
 remove 226 0
@@ -21,7 +21,7 @@ add 13 64 drm seat0
 remove 226 0
 end
 ",
-    blocks: "\
+    "\
 14 call 2 4 set-mode 3 7
  granted
  set mode 226:0 7
@@ -68,11 +68,11 @@ end
  denied P31 device-absent
 end 26
 ",
-};
+);
 
 /// A device comes back as one of another kind; its old handle is of the wrong kind then, and was dead before.
-const CHANGED: Piece = Piece {
-    lines: "\
+const CHANGED: Piece = (
+    "\
 remove 13 64
 call 2 4 read 4
 add 13 64 drm seat0
@@ -82,7 +82,7 @@ call 2 7 take c1 13 64
 call 2 8 set-mode 7 1
 end
 ",
-    blocks: "\
+    "\
 14 remove 13 64
  granted
  say 2 pause c1 13:64 gone
@@ -110,12 +110,12 @@ end
  set mode 13:64 1
 end 20
 ",
-};
+);
 
 /// The last graphics device of a seat goes, and takes its sessions and the seat along; an input device stays
 /// without a seat. The seat comes back with a graphics device, and the sessions do not.
-const LAST_GRAPHICS: Piece = Piece {
-    lines: "\
+const LAST_GRAPHICS: Piece = (
+    "\
 call 1 2 create 1000 2 login tty user % seat-x 0 % % false % %
 add 226 2 drm seat-x
 remove 226 1
@@ -131,7 +131,7 @@ call 2 5 control c3 false
 call 2 6 take c3 13 70
 end
 ",
-    blocks: "\
+    "\
 9 call 1 2 create 1000 2 login tty user % seat-x 0 % % false % %
  granted c2 /org/freedesktop/login1/session/c2 /run/user/1000 4 1000 seat-x 0 false
  set owner 4 fifo 1 c2
@@ -194,11 +194,11 @@ end
  set live 6 true
 end 21
 ",
-};
+);
 
 /// An input device makes no seat, and takes none along; seat0 needs no device.
-const NO_SEAT: Piece = Piece {
-    lines: "\
+const NO_SEAT: Piece = (
+    "\
 login-recording 1
 go
 connect 1 0
@@ -215,7 +215,7 @@ remove 226 1
 call 1 3 list-seats
 end
 ",
-    blocks: "\
+    "\
 login-transcript 1
 1 connect 1 0
  granted
@@ -256,7 +256,7 @@ login-transcript 1
  granted [(seat0 /org/freedesktop/login1/seat/seat0)]
 end 12
 ",
-};
+);
 
 /// Each with what it shows of devices that go and come.
 pub const CASES: [Case; 4] = [

@@ -4,8 +4,8 @@ use super::fronts::OTHER_SEAT;
 use crate::{Case, Piece};
 
 /// A seat appears; its sessions take it from each other, with a device; and it goes with the device.
-const WHOLE_LIFE: Piece = Piece {
-    lines: "\
+const WHOLE_LIFE: Piece = (
+    "\
 login-recording 1
 user 1000 1000 alice
 user 1001 1001 bob
@@ -22,7 +22,7 @@ call 2 4 set-mode 2 7
 remove 226 1
 end
 ",
-    blocks: "\
+    "\
 login-transcript 1
 1 connect 1 0
  granted
@@ -86,11 +86,11 @@ login-transcript 1
  all seat-removed seat-x
 end 10
 ",
-};
+);
 
 /// Three sessions of a seat: the next and the previous one, around, and from none that is active.
-const TURNS: Piece = Piece {
-    lines: "\
+const TURNS: Piece = (
+    "\
 login-recording 1
 user 1000 1000 alice
 go
@@ -115,7 +115,7 @@ call 1 16 get-seat seat-x
 call 1 17 switch seat-x 1
 end
 ",
-    blocks: "\
+    "\
 login-transcript 1
 1 connect 1 0
  granted
@@ -199,11 +199,11 @@ login-transcript 1
  denied P03 bad-arguments
 end 19
 ",
-};
+);
 
 /// All sessions of a seat end with their devices, in order, and the seat and the devices stay.
-const ALL_ENDED: Piece = Piece {
-    lines: "\
+const ALL_ENDED: Piece = (
+    "\
 call 1 2 create 1000 2 login tty user % seat-x 0 % % false % %
 call 1 3 control c2 false
 call 1 4 take c2 226 1
@@ -214,7 +214,7 @@ call 1 8 list-seats
 add 226 1 drm seat-x
 end
 ",
-    blocks: "\
+    "\
 9 call 1 2 create 1000 2 login tty user % seat-x 0 % % false % %
  granted c2 /org/freedesktop/login1/session/c2 /run/user/1000 4 1000 seat-x 0 false
  set owner 4 fifo 1 c2
@@ -262,11 +262,11 @@ end
  denied P30 device-present
 end 16
 ",
-};
+);
 
 /// A session is in front on each seat by itself, and a key for a terminal moves those of seat0 alone.
-const APART: Piece = Piece {
-    lines: "\
+const APART: Piece = (
+    "\
 call 1 2 create 1000 2 login tty user % seat0 1 tty1 % false % %
 vtkey 2
 call 2 4 set-mode 3 9
@@ -275,7 +275,7 @@ call 2 6 control c2 false
 call 2 7 take c2 226 1
 end
 ",
-    blocks: "\
+    "\
 9 call 1 2 create 1000 2 login tty user % seat0 1 tty1 % false % %
  granted c2 /org/freedesktop/login1/session/c2 /run/user/1000 4 1000 seat0 1 false
  set owner 4 fifo 1 c2
@@ -301,7 +301,7 @@ end
  denied P16 device-not-on-seat
 end 14
 ",
-};
+);
 
 /// Each with what it shows of seats.
 pub const CASES: [Case; 4] = [

@@ -4,15 +4,15 @@ use super::fronts::{ASKS, SESSIONS, TAKES};
 use crate::{Case, Piece};
 
 /// A terminal without a session is asked for, with devices that nobody has taken.
-const TERMINALS: Piece = Piece {
-    lines: "\
+const TERMINALS: Piece = (
+    "\
 vtkey 3
 vtkey 0
 vtkey 64
 vtkey 63
 end
 ",
-    blocks: "\
+    "\
 10 vtkey 3
  granted
  set pending 3
@@ -31,15 +31,15 @@ end
  set pending -
 end 13
 ",
-};
+);
 
 /// The controller whose pauses are awaited disconnects.
-const DISCONNECTED: Piece = Piece {
-    lines: "\
+const DISCONNECTED: Piece = (
+    "\
 disconnect 2
 end
 ",
-    blocks: "\
+    "\
 15 disconnect 2
  granted
  set live 4 false
@@ -61,15 +61,15 @@ end
  say 3 resume c2 226:0 5
 end 15
 ",
-};
+);
 
 /// Another connection takes control by force while pauses are awaited.
-const OUSTED: Piece = Piece {
-    lines: "\
+const OUSTED: Piece = (
+    "\
 call 1 3 control c1 true
 end
 ",
-    blocks: "\
+    "\
 15 call 1 3 control c1 true
  granted
  say 2 pause c1 13:64 gone
@@ -92,16 +92,16 @@ end
  say 3 resume c2 226:0 5
 end 15
 ",
-};
+);
 
 /// The controller gives its session back while pauses are awaited.
-const GIVEN_BACK: Piece = Piece {
-    lines: "\
+const GIVEN_BACK: Piece = (
+    "\
 call 2 4 uncontrol c1
 call 2 5 read 4
 end
 ",
-    blocks: "\
+    "\
 15 call 2 4 uncontrol c1
  granted
  set live 4 false
@@ -124,18 +124,18 @@ end
  denied P27 not-live
 end 16
 ",
-};
+);
 
 /// The pauses end one by one: a device is given back, and the handle of the other one is closed.
-const ONE_BY_ONE: Piece = Piece {
-    lines: "\
+const ONE_BY_ONE: Piece = (
+    "\
 call 2 4 release c1 226 0
 call 2 5 close 4
 call 2 6 close 3
 call 2 7 read 4
 end
 ",
-    blocks: "\
+    "\
 15 call 2 4 release c1 226 0
  granted
  set live 3 false
@@ -163,16 +163,16 @@ end
  denied P07 no-such-handle
 end 18
 ",
-};
+);
 
 /// The pauses end since the devices go.
-const UNPLUGGED: Piece = Piece {
-    lines: "\
+const UNPLUGGED: Piece = (
+    "\
 remove 226 0
 remove 13 64
 end
 ",
-    blocks: "\
+    "\
 15 remove 226 0
  granted
  say 2 pause c1 226:0 gone
@@ -196,17 +196,17 @@ end
  all active seat0 c1 c2
 end 16
 ",
-};
+);
 
 /// The switch goes to another terminal, and is then withdrawn; the session goes on with its handles.
-const WITHDRAWN: Piece = Piece {
-    lines: "\
+const WITHDRAWN: Piece = (
+    "\
 vtkey 3
 vtkey 1
 vtkey 1
 end
 ",
-    blocks: "\
+    "\
 15 vtkey 3
  granted
  set pending 3
@@ -221,12 +221,12 @@ end
  granted
 end 17
 ",
-};
+);
 
 /// A device that is taken while a switch is pending is live, is not awaited, and is lost by force. It comes
 /// back with a fresh handle.
-const FORCED: Piece = Piece {
-    lines: "\
+const FORCED: Piece = (
+    "\
 call 2 2 take c1 226 0
 vtkey 2
 call 2 3 take c1 13 64
@@ -237,7 +237,7 @@ call 2 6 read 4
 call 2 7 read 5
 end
 ",
-    blocks: "\
+    "\
 10 call 2 2 take c1 226 0
  granted 3 false
  set owner 3 device 2 c1 226:0
@@ -281,7 +281,7 @@ end
  granted []
 end 17
 ",
-};
+);
 
 /// Each with what it shows of a switch.
 pub const CASES: [Case; 8] = [

@@ -3,8 +3,8 @@
 use crate::Piece;
 
 /// Links 65 and 66 come while connections 1 to 64 are connected, and link 67 when one of these is gone.
-pub const LATE: Piece = Piece {
-    lines: "\
+pub const LATE: Piece = (
+    "\
 link 65 1000
 link 66 1000
 link 67 1000
@@ -19,7 +19,7 @@ in 67 00415554482045585445524e414c0d0a444154410d0a4e45474f54494154455f554e49585f
 hangup 67
 end
 ",
-    blocks: "\
+    "\
 65 connect 65 1000
  denied P26 limit links 64
 out 65 444154410d0a4f4b2030313233343536373839616263646566303132333435363738396162636465660d0a4552524f520d0a
@@ -41,4 +41,4 @@ out 67 444154410d0a4f4b203031323334353637383961626364656630313233343536373839616
 closed 67
 end 69
 ",
-};
+);

@@ -3,8 +3,8 @@
 use crate::Piece;
 
 /// Connection 1 is no link. Link 2 has begun, link 3 has not, link 4 is hung up, and link 5 is malformed.
-pub const FRONT: Piece = Piece {
-    lines: "\
+pub const FRONT: Piece = (
+    "\
 login-recording 1
 user 1000 1000 alice
 go
@@ -17,7 +17,7 @@ in 2 00415554482045585445524e414c0d0a444154410d0a4e45474f54494154455f554e49585f4
 hangup 4
 in 5 00415554482045585445524e414c0d0a444154410d0a4e45474f54494154455f554e49585f46440d0a424547494e0d0a00000000000000000000000000000000
 ",
-    blocks: "\
+    "\
 login-transcript 1
 1 connect 1 0
  granted
@@ -36,7 +36,7 @@ closed 4 not-begun 5
 out 5 444154410d0a4f4b2030313233343536373839616263646566303132333435363738396162636465660d0a4552524f520d0a
 closed 5 malformed 0 1
 ",
-};
+);
 
 /// What may not come next.
 pub const BEHIND_FRONT: [(&[u8], &str); 24] = [

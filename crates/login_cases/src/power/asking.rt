@@ -57,20 +57,20 @@ const WITH_OTHERS: [(&str, &str); 7] = [
 
 /// A user without a session, alone.
 const ALONE: Front = Front {
-    piece: Piece {
-        lines: "\
+    piece: (
+        "\
 login-recording 1
 user 1000 1000 alice
 go
 connect 2 1000
 ",
-        blocks: "\
+        "\
 login-transcript 1
 1 connect 2 1000
  granted
  set conn 2 1000
 ",
-    },
+    ),
     entries: 1,
 };
 
@@ -105,8 +105,8 @@ const WITHOUT_SESSION: [(&str, &str); 8] = [
 ];
 
 /// What each user can ask for while a lock blocks it, and while one delays it.
-const CAN_WITH_LOCKS: Piece = Piece {
-    lines: "\
+const CAN_WITH_LOCKS: Piece = (
+    "\
 call 2 1 inhibit shutdown me why block
 call 2 2 can poweroff
 call 2 3 can suspend
@@ -120,7 +120,7 @@ call 2 8 can hybrid-sleep
 send 3 2 can suspend-then-hibernate
 end
 ",
-    blocks: "\
+    "\
 5 call 2 1 inhibit shutdown me why block
  granted 2
  set lock 1 shutdown block 1000
@@ -153,11 +153,11 @@ end
  granted challenge
 end 15
 ",
-};
+);
 
 /// Which of several broken rules of an operation is named.
-const FIRST_BROKEN: Piece = Piece {
-    lines: "\
+const FIRST_BROKEN: Piece = (
+    "\
 call 2 1 inhibit shutdown me why block
 call 3 1 power poweroff
 call 2 2 power poweroff
@@ -169,7 +169,7 @@ jobdone
 call 2 4 power poweroff
 end
 ",
-    blocks: "\
+    "\
 5 call 2 1 inhibit shutdown me why block
  granted 2
  set lock 1 shutdown block 1000
@@ -197,11 +197,11 @@ end
  denied P24 inhibited 1
 end 13
 ",
-};
+);
 
 /// Whose sessions are others': open ones of class user, of any user but the caller.
-const OTHERS: Piece = Piece {
-    lines: "\
+const OTHERS: Piece = (
+    "\
 login-recording 1
 user 1000 1000 alice
 user 1001 1001 bob
@@ -220,7 +220,7 @@ call 1 5 create 0 1 login tty user % % 0 % % false % %
 call 3 5 power poweroff
 end
 ",
-    blocks: "\
+    "\
 login-transcript 1
 1 connect 1 0
  granted
@@ -271,7 +271,7 @@ login-transcript 1
  denied P12 action-challenge power-off-multiple-sessions
 end 12
 ",
-};
+);
 
 /// Each with what it shows of who may ask for an operation.
 pub const CASES: [Case; 3] = [

@@ -5,8 +5,8 @@ use crate::{Case, Piece};
 /// The recording.
 pub const EVENING: Case = Case {
     name: "an evening",
-    pieces: &[Piece {
-        lines: "\
+    pieces: &[(
+        "\
 login-recording 1
 user 120 120 gdm
 user 1000 1000 alice
@@ -38,7 +38,7 @@ call 2 1 activate c1
 tick 10000
 end
 ",
-        blocks: "\
+        "\
 login-transcript 1
 1 connect 1 0
  granted
@@ -177,5 +177,5 @@ login-transcript 1
  all user-removed 1000
 end 25
 ",
-    }],
+    )],
 };

@@ -3,23 +3,23 @@
 use crate::{Front, Piece};
 
 /// The setup with Alice, who is a user of the machine.
-pub const ALONE: Piece = Piece {
-    lines: "\
+pub const ALONE: Piece = (
+    "\
 login-recording 1
 user 1000 1000 alice
 go
 ",
-    blocks: "login-transcript 1\n",
-};
+    "login-transcript 1\n",
+);
 
 /// Alice has the session that is active on seat0, of which handle 1 is the fifo.
-pub const ALICE: Piece = Piece {
-    lines: "\
+pub const ALICE: Piece = (
+    "\
 connect 1 0
 connect 2 1000
 call 1 1 create 1000 2 login tty user % seat0 1 tty1 % false % %
 ",
-    blocks: "\
+    "\
 1 connect 1 0
  granted
  set conn 1 0
@@ -35,11 +35,11 @@ call 1 1 create 1000 2 login tty user % seat0 1 tty1 % false % %
  all session-new c1
  all active seat0 - c1
 ",
-};
+);
 
 /// The setup with Alice and Bob; Alice has that session, and Bob a connection and no session.
-pub const ALICE_AND_BOB: Piece = Piece {
-    lines: "\
+pub const ALICE_AND_BOB: Piece = (
+    "\
 login-recording 1
 user 1000 1000 alice
 user 1001 1001 bob
@@ -49,7 +49,7 @@ connect 2 1000
 connect 3 1001
 call 1 1 create 1000 2 login tty user % seat0 1 tty1 % false % %
 ",
-    blocks: "\
+    "\
 login-transcript 1
 1 connect 1 0
  granted
@@ -69,7 +69,7 @@ login-transcript 1
  all session-new c1
  all active seat0 - c1
 ",
-};
+);
 
 /// The front of `ALICE_AND_BOB`, for lines behind it that make no marks.
 pub const WITH_BOB: Front = Front {

@@ -4,8 +4,8 @@ use super::fronts::{ALICE, ALONE};
 use crate::{Case, Piece};
 
 /// What each key and the lid bring about, with nobody there; the lid of a docked machine is ignored.
-const DEFAULTS: Piece = Piece {
-    lines: "\
+const DEFAULTS: Piece = (
+    "\
 login-recording 1
 go
 key power
@@ -29,7 +29,7 @@ dock false
 key lid
 end
 ",
-    blocks: "\
+    "\
 login-transcript 1
 1 key power
  granted
@@ -101,18 +101,18 @@ login-transcript 1
  set op running suspend
 end 19
 ",
-};
+);
 
 /// A lock on the power key holds up the key, and no call.
-const POWER_KEY_HELD: Piece = Piece {
-    lines: "\
+const POWER_KEY_HELD: Piece = (
+    "\
 call 2 1 inhibit handle-power-key me why block
 call 2 2 power poweroff
 key power
 call 1 2 power poweroff
 end
 ",
-    blocks: "\
+    "\
 4 call 2 1 inhibit handle-power-key me why block
  granted 2
  set lock 1 handle-power-key block 1000
@@ -128,11 +128,11 @@ end
  denied P23 operation-in-progress poweroff
 end 7
 ",
-};
+);
 
 /// A lock on all keys and the lid: it comes behind an action that is ignored, and before an operation that runs.
-const KEYS_HELD: Piece = Piece {
-    lines: "\
+const KEYS_HELD: Piece = (
+    "\
 call 2 1 inhibit handle-power-key:handle-suspend-key:handle-hibernate-key:handle-lid-switch game play block
 key power
 key suspend
@@ -147,7 +147,7 @@ key power
 key lid
 end
 ",
-    blocks: "\
+    "\
 4 call 2 1 inhibit handle-power-key:handle-suspend-key:handle-hibernate-key:handle-lid-switch game play block
  granted 2
  set lock 1 handle-power-key:handle-suspend-key:handle-hibernate-key:handle-lid-switch block 1000
@@ -182,11 +182,11 @@ end
  denied P34 key-ignored
 end 15
 ",
-};
+);
 
 /// Each lock holds its own key alone; the lowest lock is named.
-const OWN_KEY: Piece = Piece {
-    lines: "\
+const OWN_KEY: Piece = (
+    "\
 call 2 1 inhibit handle-lid-switch a b block
 call 2 2 inhibit handle-suspend-key:handle-lid-switch a b block
 call 1 2 inhibit handle-hibernate-key a b block
@@ -198,7 +198,7 @@ key lid
 key power
 end
 ",
-    blocks: "\
+    "\
 4 call 2 1 inhibit handle-lid-switch a b block
  granted 2
  set lock 1 handle-lid-switch block 1000
@@ -230,11 +230,11 @@ end
  set op running poweroff
 end 12
 ",
-};
+);
 
 /// Locks block what the keys bring about. The lid passes them.
-const KEYS_BLOCKED: Piece = Piece {
-    lines: "\
+const KEYS_BLOCKED: Piece = (
+    "\
 call 2 1 inhibit shutdown:sleep me why block
 key power
 key suspend
@@ -245,7 +245,7 @@ key power
 jobdone
 end
 ",
-    blocks: "\
+    "\
 4 call 2 1 inhibit shutdown:sleep me why block
  granted 2
  set lock 1 shutdown:sleep block 1000
@@ -271,11 +271,11 @@ end
  all prepare sleep false
 end 11
 ",
-};
+);
 
 /// A lock delays what the lid brings about, and the keys wait for nothing.
-const KEYS_WAIT: Piece = Piece {
-    lines: "\
+const KEYS_WAIT: Piece = (
+    "\
 call 2 1 inhibit sleep me why delay
 key lid
 key lid
@@ -286,7 +286,7 @@ key lid
 tick 5000
 end
 ",
-    blocks: "\
+    "\
 4 call 2 1 inhibit sleep me why delay
  granted 2
  set lock 1 sleep delay 1000
@@ -312,7 +312,7 @@ end
  set op running suspend
 end 11
 ",
-};
+);
 
 /// Each with what it shows of keys and of the lid.
 pub const CASES: [Case; 6] = [

@@ -4,8 +4,8 @@ use super::fronts::{ALICE, ALONE};
 use crate::{Case, Piece};
 
 /// A lock on shutdown delays what ends the run of the machine, and nothing else.
-const SHUTDOWN_DELAYED: Piece = Piece {
-    lines: "\
+const SHUTDOWN_DELAYED: Piece = (
+    "\
 call 2 1 inhibit shutdown comp save delay
 call 2 2 power poweroff
 tick 5000
@@ -26,7 +26,7 @@ call 2 8 power suspend-then-hibernate
 jobdone
 end
 ",
-    blocks: "\
+    "\
 4 call 2 1 inhibit shutdown comp save delay
  granted 2
  set lock 1 shutdown delay 1000
@@ -105,11 +105,11 @@ end
  all prepare sleep false
 end 21
 ",
-};
+);
 
 /// A lock on sleep delays what puts the machine to sleep, and nothing else.
-const SLEEP_DELAYED: Piece = Piece {
-    lines: "\
+const SLEEP_DELAYED: Piece = (
+    "\
 call 2 1 inhibit sleep comp save delay
 call 2 2 power suspend
 tick 5000
@@ -131,7 +131,7 @@ call 2 8 power halt
 jobdone
 end
 ",
-    blocks: "\
+    "\
 4 call 2 1 inhibit sleep comp save delay
  granted 2
  set lock 1 sleep delay 1000
@@ -213,11 +213,11 @@ end
  all prepare shutdown false
 end 22
 ",
-};
+);
 
 /// Locks block each kind of operation by its word; the lowest of them is named.
-const BLOCKED: Piece = Piece {
-    lines: "\
+const BLOCKED: Piece = (
+    "\
 call 2 1 inhibit sleep a b block
 call 2 2 inhibit shutdown a b block
 call 2 3 inhibit shutdown:sleep a b block
@@ -235,7 +235,7 @@ call 2 14 power suspend
 call 2 15 power poweroff
 end
 ",
-    blocks: "\
+    "\
 4 call 2 1 inhibit sleep a b block
  granted 2
  set lock 1 sleep block 1000
@@ -281,18 +281,18 @@ end
  set op running poweroff
 end 18
 ",
-};
+);
 
 /// A lock blocks the user who holds it, and the power key, and root passes it.
-const PASSED: Piece = Piece {
-    lines: "\
+const PASSED: Piece = (
+    "\
 call 2 1 inhibit shutdown me why block
 call 2 2 power poweroff
 key power
 call 1 2 power poweroff
 end
 ",
-    blocks: "\
+    "\
 4 call 2 1 inhibit shutdown me why block
  granted 2
  set lock 1 shutdown block 1000
@@ -308,11 +308,11 @@ end
  set op running poweroff
 end 7
 ",
-};
+);
 
 /// Root passes a lock that blocks, and another lock delays what root asked for.
-const PASSED_AND_DELAYED: Piece = Piece {
-    lines: "\
+const PASSED_AND_DELAYED: Piece = (
+    "\
 call 2 1 inhibit sleep me why block
 call 2 2 inhibit sleep me why delay
 call 1 2 power hybrid-sleep
@@ -320,7 +320,7 @@ call 2 3 close 2
 call 2 4 close 3
 end
 ",
-    blocks: "\
+    "\
 4 call 2 1 inhibit sleep me why block
  granted 2
  set lock 1 sleep block 1000
@@ -344,7 +344,7 @@ end
  set op running hybrid-sleep
 end 8
 ",
-};
+);
 
 /// Each with what it shows of an operation and locks.
 pub const CASES: [Case; 5] = [

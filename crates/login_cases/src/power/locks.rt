@@ -4,8 +4,8 @@ use super::fronts::{ALICE, ALICE_AND_BOB, ALONE, WITH_BOB};
 use crate::{Answered, Case, Piece};
 
 /// What a lock can be asked for: a mode and words, each of which counts once.
-const OFFERED: Piece = Piece {
-    lines: "\
+const OFFERED: Piece = (
+    "\
 call 2 1 inhibit idle a b delay
 call 2 2 inhibit % a b block
 call 2 3 inhibit shutdown:shutdown a b delay
@@ -14,7 +14,7 @@ call 2 5 inhibit shutdown c d delay
 call 2 6 inhibit sleep c d delay
 end
 ",
-    blocks: "\
+    "\
 4 call 2 1 inhibit idle a b delay
  denied P25 delay-not-offered
 5 call 2 2 inhibit % a b block
@@ -35,11 +35,11 @@ end
  set owner 3 lock 2 2
 end 9
 ",
-};
+);
 
 /// Locks of several words, and their list, in which the words have one order.
-const WORDS: Piece = Piece {
-    lines: "\
+const WORDS: Piece = (
+    "\
 call 2 1 list-inhibitors
 call 2 2 inhibit handle-lid-switch:sleep:shutdown a%20player % block
 call 1 2 inhibit handle-hibernate-key:handle-suspend-key:idle:handle-power-key:idle root all block
@@ -51,7 +51,7 @@ send 1 5 inhibit idle root again block
 send 2 5 list-inhibitors
 end
 ",
-    blocks: "\
+    "\
 4 call 2 1 list-inhibitors
  granted []
 5 call 2 2 inhibit handle-lid-switch:sleep:shutdown a%20player % block
@@ -82,11 +82,11 @@ end
  granted [(shutdown:sleep:handle-lid-switch a%20player % block 1000 2) (shutdown:sleep % %25 delay 1000 2) (idle root again block 0 1)]
 end 12
 ",
-};
+);
 
 /// A lock on an operation's word is not given while the operation waits or runs; one on another word is.
-const UNDER_WAY: Piece = Piece {
-    lines: "\
+const UNDER_WAY: Piece = (
+    "\
 call 2 1 inhibit shutdown a b delay
 call 2 2 power poweroff
 call 2 3 inhibit shutdown c d delay
@@ -101,7 +101,7 @@ jobdone
 call 2 8 inhibit shutdown c d delay
 end
 ",
-    blocks: "\
+    "\
 5 call 2 1 inhibit shutdown a b delay
  granted 2
  set lock 1 shutdown delay 1000
@@ -140,11 +140,11 @@ end
  set owner 4 lock 2 3
 end 16
 ",
-};
+);
 
 /// What a user may hold up without a session, and with one that is not active.
-const INACTIVE: Piece = Piece {
-    lines: "\
+const INACTIVE: Piece = (
+    "\
 call 3 1 inhibit shutdown:sleep a b delay
 call 3 2 inhibit sleep a b block
 call 1 2 create 1001 3 login tty user % seat0 2 tty2 % false % %
@@ -153,7 +153,7 @@ call 3 4 inhibit sleep:idle:handle-power-key:handle-suspend-key:handle-hibernate
 call 3 5 inhibit sleep:shutdown a b block
 end
 ",
-    blocks: "\
+    "\
 5 call 3 1 inhibit shutdown:sleep a b delay
  granted 2
  set lock 1 shutdown:sleep delay 1001
@@ -177,7 +177,7 @@ end
  denied P12 action-challenge inhibit-block-shutdown
 end 10
 ",
-};
+);
 
 /// What no lock can be asked for, whoever asks.
 const MISFITS: [(&str, &str); 24] = [

@@ -4,27 +4,27 @@ use super::fronts::ALICE;
 use crate::{Case, Piece};
 
 /// The power key passes locks.
-const PASSES: Piece = Piece {
-    lines: "\
+const PASSES: Piece = (
+    "\
 login-recording 1
 user 1000 1000 alice
 conf [Login]
 conf PowerKeyIgnoreInhibited=yes
 go
 ",
-    blocks: "login-transcript 1\n",
-};
+    "login-transcript 1\n",
+);
 
 /// A lock blocks the call, and the key passes it.
-const PASSED: Piece = Piece {
-    lines: "\
+const PASSED: Piece = (
+    "\
 call 2 1 inhibit shutdown me why block
 call 2 2 power poweroff
 key power
 call 1 2 power poweroff
 end
 ",
-    blocks: "\
+    "\
 4 call 2 1 inhibit shutdown me why block
  granted 2
  set lock 1 shutdown block 1000
@@ -40,11 +40,11 @@ end
  denied P23 operation-in-progress poweroff
 end 7
 ",
-};
+);
 
 /// The suspend key locks, and the lid obeys locks and means something in the dock.
-const SET: Piece = Piece {
-    lines: "\
+const SET: Piece = (
+    "\
 login-recording 1
 user 1000 1000 alice
 conf [Login]
@@ -53,12 +53,12 @@ conf HandleLidSwitchDocked=hibernate
 conf LidSwitchIgnoreInhibited=no
 go
 ",
-    blocks: "login-transcript 1\n",
-};
+    "login-transcript 1\n",
+);
 
 /// A key that locks asks neither whether an operation runs nor whether a lock blocks one.
-const LOCKS: Piece = Piece {
-    lines: "\
+const LOCKS: Piece = (
+    "\
 call 2 1 inhibit shutdown:sleep me why block
 key suspend
 key lid
@@ -69,7 +69,7 @@ key lid
 key suspend
 end
 ",
-    blocks: "\
+    "\
 4 call 2 1 inhibit shutdown:sleep me why block
  granted 2
  set lock 1 shutdown:sleep block 1000
@@ -98,7 +98,7 @@ end
  all lock c1
 end 11
 ",
-};
+);
 
 /// Each with what it shows of keys that are set.
 pub const CASES: [Case; 2] = [

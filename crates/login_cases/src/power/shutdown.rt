@@ -5,8 +5,8 @@ use crate::{Case, Piece};
 /// The recording.
 pub const SHUTDOWN: Case = Case {
     name: "a shutdown is delayed",
-    pieces: &[Piece {
-        lines: "\
+    pieces: &[(
+        "\
 login-recording 1
 user 1000 1000 alice
 user 1001 1001 bob
@@ -26,7 +26,7 @@ call 3 4 close 3
 jobdone
 end
 ",
-        blocks: "\
+        "\
 login-transcript 1
 1 connect 1 0
  granted
@@ -80,5 +80,5 @@ login-transcript 1
  all prepare shutdown false
 end 13
 ",
-    }],
+    )],
 };

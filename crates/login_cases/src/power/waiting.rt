@@ -5,8 +5,8 @@ use crate::devices::fronts::{ASKS, SESSIONS, TAKES};
 use crate::{Case, Piece};
 
 /// An operation that a lock delays runs once the limit is reached, and not a millisecond before.
-const LIMIT: Piece = Piece {
-    lines: "\
+const LIMIT: Piece = (
+    "\
 call 2 1 inhibit shutdown comp save delay
 call 2 2 power poweroff
 tick 4999
@@ -14,7 +14,7 @@ tick 5000
 jobdone
 end
 ",
-    blocks: "\
+    "\
 4 call 2 1 inhibit shutdown comp save delay
  granted 2
  set lock 1 shutdown delay 1000
@@ -36,18 +36,18 @@ end
  all prepare shutdown false
 end 8
 ",
-};
+);
 
 /// The same operation runs as the lock is closed.
-const CLOSED: Piece = Piece {
-    lines: "\
+const CLOSED: Piece = (
+    "\
 call 2 1 inhibit shutdown comp save delay
 call 2 2 power poweroff
 tick 4999
 call 2 3 close 2
 end
 ",
-    blocks: "\
+    "\
 4 call 2 1 inhibit shutdown comp save delay
  granted 2
  set lock 1 shutdown delay 1000
@@ -66,11 +66,11 @@ end
  set op running poweroff
 end 7
 ",
-};
+);
 
 /// The limit counts from the moment at which the operation was asked for. The clock may pass it.
-const LATER: Piece = Piece {
-    lines: "\
+const LATER: Piece = (
+    "\
 tick 7
 call 2 1 inhibit sleep comp save delay
 call 2 2 power hibernate
@@ -83,7 +83,7 @@ call 2 3 power suspend
 tick 10009
 end
 ",
-    blocks: "\
+    "\
 4 tick 7
  granted
  set now 7
@@ -121,11 +121,11 @@ end
  set op running suspend
 end 13
 ",
-};
+);
 
 /// A link ends, and with it the locks that it holds. Their handles stay its own.
-const LINK_ENDED: Piece = Piece {
-    lines: "\
+const LINK_ENDED: Piece = (
+    "\
 connect 3 1000
 call 3 1 inhibit sleep comp save delay
 call 3 2 inhibit shutdown comp save block
@@ -137,7 +137,7 @@ call 2 4 list-inhibitors
 jobdone
 end
 ",
-    blocks: "\
+    "\
 4 connect 3 1000
  granted
  set conn 3 1000
@@ -171,11 +171,11 @@ end
  all prepare sleep false
 end 12
 ",
-};
+);
 
 /// Two locks delay an operation: it waits while one of them is left.
-const TWO_LOCKS: Piece = Piece {
-    lines: "\
+const TWO_LOCKS: Piece = (
+    "\
 call 2 1 inhibit shutdown a b delay
 call 2 2 inhibit sleep:shutdown c d delay
 call 2 3 power halt
@@ -184,7 +184,7 @@ call 2 5 close 2
 call 2 6 close 3
 end
 ",
-    blocks: "\
+    "\
 4 call 2 1 inhibit shutdown a b delay
  granted 2
  set lock 1 shutdown delay 1000
@@ -210,11 +210,11 @@ end
  set op running halt
 end 9
 ",
-};
+);
 
 /// The last lock goes with its link, behind the stop.
-const STOPPED: Piece = Piece {
-    lines: "\
+const STOPPED: Piece = (
+    "\
 connect 3 1000
 call 3 1 inhibit shutdown comp save delay
 call 2 1 power reboot
@@ -222,7 +222,7 @@ stop
 disconnect 3
 end
 ",
-    blocks: "\
+    "\
 4 connect 3 1000
  granted
  set conn 3 1000
@@ -243,11 +243,11 @@ end
  set op running reboot
 end 8
 ",
-};
+);
 
 /// An operation is done only where one runs.
-const DONE: Piece = Piece {
-    lines: "\
+const DONE: Piece = (
+    "\
 jobdone
 call 2 1 inhibit shutdown a b delay
 call 2 2 power poweroff
@@ -257,7 +257,7 @@ jobdone
 jobdone
 end
 ",
-    blocks: "\
+    "\
 4 jobdone
  denied P32 no-job
 5 call 2 1 inhibit shutdown a b delay
@@ -283,17 +283,17 @@ end
  denied P32 no-job
 end 10
 ",
-};
+);
 
 /// A link ends that delays an operation, and for whose devices a switch waits: the switch completes first.
-const WITH_A_SWITCH: Piece = Piece {
-    lines: "\
+const WITH_A_SWITCH: Piece = (
+    "\
 call 2 4 inhibit shutdown comp save delay
 call 1 3 power poweroff
 disconnect 2
 end
 ",
-    blocks: "\
+    "\
 15 call 2 4 inhibit shutdown comp save delay
  granted 7
  set lock 1 shutdown delay 1000
@@ -325,7 +325,7 @@ end
  set op running poweroff
 end 17
 ",
-};
+);
 
 /// Each with what it shows of a delay.
 pub const CASES: [Case; 8] = [

@@ -1,20 +1,17 @@
 // Answers that take memory.
 
-use crate::playing::{call, creation, finish, new_core, play};
-use login_base::{ConnId, HandleNo, NoMemory, SeatName, SessId, Uid};
+use crate::lines::{play, played};
+use crate::playing::finish;
+use login_base::{HandleNo, SeatName, SessId, Uid};
 use login_core::Core;
-use login_model::{Answer, Call, Event};
-use std::alloc::Global;
+use login_model::Answer;
 use std::test::Fail;
 
-/// The core after root created alice's session.
-fn created(alloc: Global) -> Result<Core, NoMemory> {
-    let creation = creation(alloc)?;
-    let mut core = new_core(alloc)?;
-    play(&mut core, Event::Connect(ConnId(1), Uid(0)));
-    play(&mut core, call(1, creation));
-    Ok(core)
-}
+/// Root creates alice's session on the first terminal, whose fifo the caller holds.
+pub const CREATED: [&[u8]; 2] = [
+    b"connect 1 0",
+    b"call 1 1 create 1000 0 login tty user % seat0 1 tty1 % false % %",
+];
 
 /// What the entry with this number, counted from 0, is answered.
 fn answer_of(core: &Core, number: usize) -> Option<&Answer> {
@@ -86,9 +83,9 @@ fn is_first_seat(answer: Option<&Answer>) -> bool {
 
 #[test]
 fn sessions_are_created_and_listed(rt: HostRuntime) -> Result<(), Fail> {
-    let mut core = created(rt.alloc())?;
+    let mut core = played(rt.alloc(), &CREATED)?;
     assert!(rt; is_created(answer_of(&core, 1)));
-    assert!(rt; play(&mut core, call(2, Call::ListSessions)));
+    assert!(rt; play(rt.alloc(), &mut core, b"call 1 2 list-sessions"));
     assert!(rt; is_first_session(answer_of(&core, 2)));
     finish(core);
     Ok(())
@@ -96,8 +93,8 @@ fn sessions_are_created_and_listed(rt: HostRuntime) -> Result<(), Fail> {
 
 #[test]
 fn users_are_listed(rt: HostRuntime) -> Result<(), Fail> {
-    let mut core = created(rt.alloc())?;
-    assert!(rt; play(&mut core, call(2, Call::ListUsers)));
+    let mut core = played(rt.alloc(), &CREATED)?;
+    assert!(rt; play(rt.alloc(), &mut core, b"call 1 2 list-users"));
     assert!(rt; is_alice(answer_of(&core, 2)));
     finish(core);
     Ok(())
@@ -105,8 +102,8 @@ fn users_are_listed(rt: HostRuntime) -> Result<(), Fail> {
 
 #[test]
 fn seats_are_listed(rt: HostRuntime) -> Result<(), Fail> {
-    let mut core = created(rt.alloc())?;
-    assert!(rt; play(&mut core, call(2, Call::ListSeats)));
+    let mut core = played(rt.alloc(), &CREATED)?;
+    assert!(rt; play(rt.alloc(), &mut core, b"call 1 2 list-seats"));
     assert!(rt; is_first_seat(answer_of(&core, 2)));
     finish(core);
     Ok(())

@@ -1,68 +1,28 @@
 // What is read of a device, by way of the core's own calls.
 
-use crate::playing::{call, creation, finish, new_core, play, refusal};
-use login_base::{ConnId, DevNo, HandleNo, NoMemory, SeatName, Uid, Word};
+use crate::lines::{play, play_all, played, refusal};
+use crate::playing::finish;
 use login_core::Core;
-use login_model::{Answer, Call, DevKind, Event, Hardware, Input};
-use std::alloc::Global;
+use login_model::{Answer, Input};
 use std::test::Fail;
 
-/// The keyboard.
-const KEYBOARD: DevNo = DevNo {
-    major: 13,
-    minor: 64,
-};
+/// The keyboard comes, root creates alice's session, takes control of it, and takes the keyboard.
+pub const LISTENING: [&[u8]; 5] = [
+    b"add 13 64 evdev seat0",
+    b"connect 1 0",
+    b"call 1 1 create 1000 0 login tty user % seat0 1 tty1 % false % %",
+    b"call 1 2 control c1 false",
+    b"call 1 3 take c1 13 64",
+];
 
-/// A device is there.
-fn add() -> Event {
-    Event::Hardware(Hardware::Add(KEYBOARD, DevKind::Evdev, SeatName::SEAT0))
-}
+/// A key of the keyboard is pressed.
+const PRESS: &[u8] = b"input 13 64 1 30 1";
 
-/// A key of it is pressed.
-fn press(key: u16) -> Event {
-    Event::Hardware(Hardware::Input(KEYBOARD, 1, key, 1))
-}
+/// Another one is.
+const PRESS_ANOTHER: &[u8] = b"input 13 64 1 31 1";
 
 /// A read with the handle of the device, the second one that was given out.
-fn read(serial: u32) -> Event {
-    call(serial, Call::ReadInput(HandleNo(2)))
-}
-
-/// The call that takes control of the session.
-fn control(alloc: Global) -> Result<Call, NoMemory> {
-    Ok(Call::Control(Word::from_slice(alloc, b"c1")?, false))
-}
-
-/// The call that takes the keyboard.
-fn take(alloc: Global) -> Result<Call, NoMemory> {
-    Ok(Call::TakeDevice(Word::from_slice(alloc, b"c1")?, KEYBOARD))
-}
-
-/// The core after the keyboard came, and root created alice's session.
-fn created(alloc: Global) -> Result<Core, NoMemory> {
-    let creation = creation(alloc)?;
-    let mut core = new_core(alloc)?;
-    play(&mut core, add());
-    play(&mut core, Event::Connect(ConnId(1), Uid(0)));
-    play(&mut core, call(1, creation));
-    Ok(core)
-}
-
-/// And after root took control of it.
-fn controlled(alloc: Global) -> Result<Core, NoMemory> {
-    let control = control(alloc)?;
-    let mut core = created(alloc)?;
-    play(&mut core, call(2, control));
-    Ok(core)
-}
-
-/// And after root took the keyboard.
-pub fn listening(alloc: Global) -> Result<Core, NoMemory> {
-    let take = take(alloc)?;
-    let mut core = controlled(alloc)?;
-    play(&mut core, call(3, take));
-    Ok(core)
-}
+const READ: &[u8] = b"call 1 4 read 2";
 
 /// Whether these keys were pressed.
 fn are_keys(inputs: &[Input], keys: &[u16]) -> bool {
@@ -87,12 +47,10 @@ fn are_read(core: &Core, keys: &[u16]) -> bool {
 
 #[test]
 fn a_read_empties(rt: HostRuntime) -> Result<(), Fail> {
-    let mut core = listening(rt.alloc())?;
-    assert!(rt; play(&mut core, press(30)));
-    assert!(rt; play(&mut core, press(31)));
-    assert!(rt; play(&mut core, read(4)));
+    let mut core = played(rt.alloc(), &LISTENING)?;
+    assert!(rt; play_all(rt.alloc(), &mut core, &[PRESS, PRESS_ANOTHER, READ]));
     assert!(rt; are_read(&core, &[30, 31]));
-    assert!(rt; play(&mut core, read(5)));
+    assert!(rt; play(rt.alloc(), &mut core, b"call 1 5 read 2"));
     assert!(rt; are_read(&core, &[]));
     finish(core);
     Ok(())
@@ -101,12 +59,11 @@ fn a_read_empties(rt: HostRuntime) -> Result<(), Fail> {
 /// Room that was made for a read reads nothing: another event may come first, and is then read too.
 #[test]
 fn room_for_a_read_reads_nothing(rt: HostRuntime) -> Result<(), Fail> {
-    let mut core = listening(rt.alloc())?;
-    assert!(rt; play(&mut core, press(30)));
-    assert!(rt; refusal(&mut core, &read(4)).is_none());
-    assert!(rt; refusal(&mut core, &read(4)).is_none());
-    assert!(rt; play(&mut core, press(31)));
-    assert!(rt; play(&mut core, read(4)));
+    let mut core = played(rt.alloc(), &LISTENING)?;
+    assert!(rt; play(rt.alloc(), &mut core, PRESS));
+    assert!(rt; refusal(rt.alloc(), &mut core, READ).is_none());
+    assert!(rt; refusal(rt.alloc(), &mut core, READ).is_none());
+    assert!(rt; play_all(rt.alloc(), &mut core, &[PRESS_ANOTHER, READ]));
     assert!(rt; are_read(&core, &[30, 31]));
     finish(core);
     Ok(())

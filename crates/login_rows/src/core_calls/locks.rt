@@ -1,39 +1,32 @@
 // How many locks there can be, and what is said to locks, keys and operations under setups other than the
 // default one.
 
-use crate::playing::{call, creation, finish, new_core, play};
-use login_base::{Bytes, ConnId, HandleNo, Items, LockNo, NoMemory, Uid, Word};
+use super::answers::CREATED;
+use crate::lines::{event, play, played};
+use crate::playing::finish;
+use login_base::{Bytes, ConnId, Items, LockNo, Word};
 use login_core::Core;
 use login_judge::{can, judge};
 use login_model::{
-    Action, Call, Conf, Event, HardKey, Hardware, Inhibition, KeyAction, Limit, OpKind,
-    PowerAction, Qualifier, Request, Row, Rule, Say, Setup, Table, Verdict,
+    Action, Conf, KeyAction, Limit, OpKind, PowerAction, Qualifier, Row, Rule, Say, Setup, Table,
+    Verdict,
 };
 use std::alloc::Global;
 use std::test::Fail;
 
-/// The call for a lock on these words.
-fn inhibition(alloc: Global, what: &[u8], mode: &[u8]) -> Result<Call, NoMemory> {
-    Ok(Call::Inhibit(Inhibition {
-        what: Word::from_slice(alloc, what)?,
-        who: Word::from_slice(alloc, b"player")?,
-        why: Word::new(alloc),
-        mode: Word::from_slice(alloc, mode)?,
-    }))
-}
+/// Root is connected.
+const ROOT: [&[u8]; 1] = [b"connect 1 0"];
 
-/// Lets the first connection ask for a lock; whether the call came next.
-fn lock(core: &mut Core, alloc: Global, what: &[u8], mode: &[u8]) -> bool {
-    match inhibition(alloc, what, mode) {
-        Ok(asked) => play(core, call(2, asked)),
-        Err(_) => false,
-    }
-}
+/// Asks for a lock that delays sleep.
+const DELAY_SLEEP: &[u8] = b"call 1 2 inhibit sleep player % delay";
 
-/// The same so many times, each for a lock that delays sleep.
+/// Asks for one that keeps the machine from shutting down.
+const BLOCK_SHUTDOWN: &[u8] = b"call 1 2 inhibit shutdown player % block";
+
+/// Asks for a lock that delays sleep, so many times; whether each call came next.
 fn lock_sleep(core: &mut Core, alloc: Global, times: u32) -> bool {
     for _ in 0..times {
-        if !lock(core, alloc, b"sleep", b"delay") {
+        if !play(alloc, core, DELAY_SLEEP) {
             return false;
         }
     }
@@ -45,13 +38,6 @@ fn last_verdict(core: &Core) -> Option<Verdict> {
     core.journal().as_slice().last().map(|entry| entry.verdict)
 }
 
-/// A core with root's connection, the first one.
-fn with_root(alloc: Global) -> Result<Core, NoMemory> {
-    let mut core = new_core(alloc)?;
-    play(&mut core, Event::Connect(ConnId(1), Uid(0)));
-    Ok(core)
-}
-
 /// That so many locks stand.
 fn too_many(most: u32) -> Option<Verdict> {
     Some(Verdict::Denied(Rule::Limit(Limit::Inhibitors(most))))
@@ -59,12 +45,12 @@ fn too_many(most: u32) -> Option<Verdict> {
 
 #[test]
 fn locks_have_a_greatest_number(rt: HostRuntime) -> Result<(), Fail> {
-    let mut core = with_root(rt.alloc())?;
+    let mut core = played(rt.alloc(), &ROOT)?;
     assert!(rt; lock_sleep(&mut core, rt.alloc(), 8192));
     assert_eq!(rt; last_verdict(&core), Some(Verdict::Granted));
     assert!(rt; lock_sleep(&mut core, rt.alloc(), 1));
     assert_eq!(rt; last_verdict(&core), too_many(8192));
-    assert!(rt; play(&mut core, call(3, Call::Close(HandleNo(1)))));
+    assert!(rt; play(rt.alloc(), &mut core, b"call 1 3 close 1"));
     assert!(rt; lock_sleep(&mut core, rt.alloc(), 1));
     assert_eq!(rt; last_verdict(&core), Some(Verdict::Granted));
     finish(core);
@@ -83,13 +69,20 @@ fn setup(alloc: Global, conf: Conf, table: Table) -> Setup {
     }
 }
 
-/// What is said to an event under a setup with this configuration and this table.
-fn verdict_under(core: &Core, alloc: Global, conf: Conf, table: Table, event: Event) -> Verdict {
+/// What is said to the event of a line under a setup with this configuration and this table.
+fn verdict_under(
+    core: &Core,
+    alloc: Global,
+    conf: Conf,
+    table: Table,
+    line: &[u8],
+) -> Option<Verdict> {
+    let event = event(alloc, line)?;
     let setup = setup(alloc, conf, table);
     let verdict = judge(core, &setup, &event);
     drop(setup);
     drop(event);
-    verdict
+    Some(verdict)
 }
 
 /// A configuration that lets so many locks be.
@@ -101,21 +94,13 @@ fn most_locks(most: u32) -> Conf {
 
 /// What is said to root's call for a lock where so many can be.
 fn verdict_on_lock(core: &Core, alloc: Global, most: u32) -> Option<Verdict> {
-    match inhibition(alloc, b"idle", b"block") {
-        Ok(asked) => Some(verdict_under(
-            core,
-            alloc,
-            most_locks(most),
-            Table::default(),
-            call(9, asked),
-        )),
-        Err(_) => None,
-    }
+    let line = b"call 1 9 inhibit idle player % block";
+    verdict_under(core, alloc, most_locks(most), Table::default(), line)
 }
 
 #[test]
 fn the_number_of_locks_is_configured(rt: HostRuntime) -> Result<(), Fail> {
-    let mut core = with_root(rt.alloc())?;
+    let mut core = played(rt.alloc(), &ROOT)?;
     assert_eq!(rt; verdict_on_lock(&core, rt.alloc(), 0), too_many(0));
     assert!(rt; lock_sleep(&mut core, rt.alloc(), 2));
     assert_eq!(rt; verdict_on_lock(&core, rt.alloc(), 1), too_many(1));
@@ -137,52 +122,55 @@ fn power_key(action: KeyAction, passes: bool) -> Conf {
 }
 
 /// What is said to the power key where it does this, and passes locks or not.
-fn verdict_on_key(core: &Core, alloc: Global, action: KeyAction, passes: bool) -> Verdict {
-    let event = Event::Hardware(Hardware::Key(HardKey::Power));
-    verdict_under(
-        core,
-        alloc,
-        power_key(action, passes),
-        Table::default(),
-        event,
-    )
+fn verdict_on_key(core: &Core, alloc: Global, action: KeyAction, passes: bool) -> Option<Verdict> {
+    let conf = power_key(action, passes);
+    verdict_under(core, alloc, conf, Table::default(), b"key power")
 }
 
 const POWER_OFF: KeyAction = KeyAction::Operation(OpKind::PowerOff);
 
+/// That the first lock holds it.
+const HELD: Verdict = Verdict::Denied(Rule::Inhibited(LockNo(1)));
+
+/// What the power key does, whether it passes locks, and what is said to it where a lock keeps the machine from shutting down.
+const BESIDE_A_BLOCK: [(KeyAction, bool, Verdict); 3] = [
+    (POWER_OFF, false, HELD),
+    (POWER_OFF, true, Verdict::Granted),
+    (KeyAction::Lock, false, Verdict::Granted),
+];
+
+/// The same where a lock keeps the key.
+const KEPT: [(KeyAction, bool, Verdict); 3] = [
+    (POWER_OFF, true, HELD),
+    (KeyAction::Lock, true, HELD),
+    (KeyAction::Ignore, true, Verdict::Denied(Rule::KeyIgnored)),
+];
+
+/// Whether that is said to the power key in each of these cases.
+fn are_said(core: &Core, alloc: Global, cases: &[(KeyAction, bool, Verdict)]) -> bool {
+    for (action, passes, verdict) in cases {
+        if verdict_on_key(core, alloc, *action, *passes) != Some(*verdict) {
+            return false;
+        }
+    }
+    true
+}
+
 #[test]
 fn the_power_key_passes_locks_where_it_is_told_to(rt: HostRuntime) -> Result<(), Fail> {
-    let mut core = with_root(rt.alloc())?;
-    let held = Verdict::Denied(Rule::Inhibited(LockNo(1)));
-    assert!(rt; lock(&mut core, rt.alloc(), b"shutdown", b"block"));
-    assert_eq!(rt; verdict_on_key(&core, rt.alloc(), POWER_OFF, false), held);
-    assert_eq!(rt;
-        verdict_on_key(&core, rt.alloc(), POWER_OFF, true),
-        Verdict::Granted
-    );
-    assert_eq!(rt;
-        verdict_on_key(&core, rt.alloc(), KeyAction::Lock, false),
-        Verdict::Granted
-    );
+    let mut core = played(rt.alloc(), &ROOT)?;
+    assert!(rt; play(rt.alloc(), &mut core, BLOCK_SHUTDOWN));
+    assert!(rt; are_said(&core, rt.alloc(), &BESIDE_A_BLOCK));
     finish(core);
     Ok(())
 }
 
 #[test]
 fn a_lock_on_the_power_key_holds_what_it_is_told_to_do(rt: HostRuntime) -> Result<(), Fail> {
-    let mut core = with_root(rt.alloc())?;
-    let held = Verdict::Denied(Rule::Inhibited(LockNo(1)));
-    let ignored = Verdict::Denied(Rule::KeyIgnored);
-    assert!(rt; lock(&mut core, rt.alloc(), b"handle-power-key", b"block"));
-    assert_eq!(rt; verdict_on_key(&core, rt.alloc(), POWER_OFF, true), held);
-    assert_eq!(rt;
-        verdict_on_key(&core, rt.alloc(), KeyAction::Lock, true),
-        held
-    );
-    assert_eq!(rt;
-        verdict_on_key(&core, rt.alloc(), KeyAction::Ignore, true),
-        ignored
-    );
+    let mut core = played(rt.alloc(), &ROOT)?;
+    let keep = b"call 1 2 inhibit handle-power-key player % block";
+    assert!(rt; play(rt.alloc(), &mut core, keep));
+    assert!(rt; are_said(&core, rt.alloc(), &KEPT));
     finish(core);
     Ok(())
 }
@@ -209,14 +197,14 @@ fn to_all(said: Say) -> Row {
 }
 
 /// What is said to the second connection, which asks to power off under this table.
-fn verdict_on_power_off(core: &Core, alloc: Global, table: Table) -> Verdict {
-    let asked = Event::Call(Request {
-        who: ConnId(2),
-        serial: 1,
-        quiet: false,
-        call: Call::Power(OpKind::PowerOff),
-    });
-    verdict_under(core, alloc, Conf::default(), table, asked)
+fn verdict_on_power_off(core: &Core, alloc: Global, table: Table) -> Option<Verdict> {
+    verdict_under(
+        core,
+        alloc,
+        Conf::default(),
+        table,
+        b"call 2 1 power poweroff",
+    )
 }
 
 /// Whether the second connection can power off under this table.
@@ -227,14 +215,8 @@ fn can_power_off(core: &Core, alloc: Global, table: Table) -> Say {
     said
 }
 
-/// A core in which root has created alice's session, and another user is connected.
-fn with_others(alloc: Global) -> Result<Core, NoMemory> {
-    let creation = creation(alloc)?;
-    let mut core = with_root(alloc)?;
-    play(&mut core, call(1, creation));
-    play(&mut core, Event::Connect(ConnId(2), Uid(1001)));
-    Ok(core)
-}
+/// Another user than alice, who has a session, is connected.
+const BOB: &[u8] = b"connect 2 1001";
 
 /// What a table says of others and of locks, and what then is said to powering off.
 const TABLES: [(Say, Say, Verdict); 5] = [
@@ -263,11 +245,12 @@ const TABLES: [(Say, Say, Verdict); 5] = [
 
 #[test]
 fn locks_and_sessions_of_others_each_have_an_action(rt: HostRuntime) -> Result<(), Fail> {
-    let mut core = with_others(rt.alloc())?;
-    assert!(rt; lock(&mut core, rt.alloc(), b"shutdown", b"block"));
+    let mut core = played(rt.alloc(), &CREATED)?;
+    assert!(rt; play(rt.alloc(), &mut core, BOB));
+    assert!(rt; play(rt.alloc(), &mut core, BLOCK_SHUTDOWN));
     for (beside_others, past_locks, verdict) in &TABLES {
         let table = table(*beside_others, *past_locks);
-        assert_eq!(rt; verdict_on_power_off(&core, rt.alloc(), table), *verdict);
+        assert!(rt; verdict_on_power_off(&core, rt.alloc(), table) == Some(*verdict));
     }
     finish(core);
     Ok(())
@@ -284,12 +267,13 @@ const ABILITIES: [(Say, Say, Say, Say); 5] = [
 
 #[test]
 fn the_least_of_two_answers_counts(rt: HostRuntime) -> Result<(), Fail> {
-    let mut core = with_others(rt.alloc())?;
+    let mut core = played(rt.alloc(), &CREATED)?;
+    assert!(rt; play(rt.alloc(), &mut core, BOB));
     for (beside_others, past_locks, without, _) in &ABILITIES {
         let table = table(*beside_others, *past_locks);
         assert_eq!(rt; can_power_off(&core, rt.alloc(), table), *without);
     }
-    assert!(rt; lock(&mut core, rt.alloc(), b"shutdown", b"block"));
+    assert!(rt; play(rt.alloc(), &mut core, BLOCK_SHUTDOWN));
     for (beside_others, past_locks, _, with) in &ABILITIES {
         let table = table(*beside_others, *past_locks);
         assert_eq!(rt; can_power_off(&core, rt.alloc(), table), *with);

@@ -1,7 +1,8 @@
 // Entries are made one after the other.
 
-use crate::playing::{close, finish, new_core, play, refusal};
-use login_base::{ConnId, Millis, Uid};
+use crate::lines::{played, refusal};
+use crate::playing::{close, finish, new_core};
+use login_base::{ConnId, Uid};
 use login_core::Refused;
 use login_model::{Answer, Event, Fact, Key, Mark, Verdict};
 use std::test::Fail;
@@ -25,8 +26,7 @@ fn are_connected(marks: &[Mark]) -> bool {
 
 #[test]
 fn room_is_made_and_the_event_stepped(rt: HostRuntime) -> Result<(), Fail> {
-    let mut core = new_core(rt.alloc())?;
-    assert!(rt; play(&mut core, Event::Connect(ConnId(1), Uid(1000))));
+    let core = played(rt.alloc(), &[b"connect 1 1000"])?;
     assert_eq!(rt; core.journal().len(), 1);
     for entry in core.journal().as_slice() {
         assert!(rt; matches!(entry.event, Event::Connect(ConnId(1), Uid(1000))));
@@ -40,14 +40,10 @@ fn room_is_made_and_the_event_stepped(rt: HostRuntime) -> Result<(), Fail> {
 
 #[test]
 fn only_disconnects_come_after_the_stop(rt: HostRuntime) -> Result<(), Fail> {
-    let mut core = new_core(rt.alloc())?;
-    assert!(rt; play(&mut core, Event::Connect(ConnId(1), Uid(0))));
-    assert!(rt; play(&mut core, Event::Stop));
-    assert_eq!(rt;
-        refusal(&mut core, &Event::Tick(Millis(0))),
-        Some(Refused::Stopped(2))
-    );
-    assert_eq!(rt; refusal(&mut core, &Event::Stop), Some(Refused::Stopped(2)));
+    let mut core = played(rt.alloc(), &[b"connect 1 0", b"stop"])?;
+    let stopped = Some(Refused::Stopped(2));
+    assert!(rt; refusal(rt.alloc(), &mut core, b"tick 0") == stopped);
+    assert!(rt; refusal(rt.alloc(), &mut core, b"stop") == stopped);
     assert_eq!(rt; core.journal().len(), 2);
     assert!(rt; close(&mut core, ConnId(1)));
     assert_eq!(rt; core.journal().len(), 3);

@@ -1,6 +1,6 @@
 // What handles hear.
 
-use crate::running::{accept_cases, compare, joined};
+use crate::running::{accept_cases, compare, joined, push};
 use login_base::NoMemory;
 use login_cases::devices::fronts::{SESSIONS, TAKES};
 use login_cases::devices::listening::{CASES, LISTENS};
@@ -10,8 +10,7 @@ use std::test::Fail;
 /// Adds the lines of inputs with the values from one to another.
 fn input_lines(alloc: Global, text: &mut Vec<u8>, first: u32, last: u32) -> Result<(), NoMemory> {
     for value in first..=last {
-        let line = format!(in alloc; "input 13 64 2 8 {value}\n")?;
-        text.extend_from_slice(line.as_bytes())?;
+        push(text, format!(in alloc; "input 13 64 2 8 {value}\n"))?;
     }
     Ok(())
 }
@@ -26,8 +25,8 @@ fn input_blocks(
 ) -> Result<(), NoMemory> {
     for value in first..=last {
         let number = value.saturating_add(more);
-        let block = format!(in alloc; "{number} input 13 64 2 8 {value}\n granted\n")?;
-        text.extend_from_slice(block.as_bytes())?;
+        let block = format!(in alloc; "{number} input 13 64 2 8 {value}\n granted\n");
+        push(text, block)?;
     }
     Ok(())
 }
@@ -37,8 +36,7 @@ fn heard(alloc: Global, text: &mut Vec<u8>, first: u32, last: u32) -> Result<(),
     text.extend_from_slice(b" granted [")?;
     for value in first..=last {
         let space = if value == first { "" } else { " " };
-        let input = format!(in alloc; "{space}(2 8 {value})")?;
-        text.extend_from_slice(input.as_bytes())?;
+        push(text, format!(in alloc; "{space}(2 8 {value})"))?;
     }
     text.extend_from_slice(b"]\n")?;
     Ok(())
@@ -46,7 +44,7 @@ fn heard(alloc: Global, text: &mut Vec<u8>, first: u32, last: u32) -> Result<(),
 
 /// A recording of twice so many inputs with the values from 1, and a read behind each half.
 fn halves(alloc: Global, count: u32) -> Result<Vec<u8>, NoMemory> {
-    let front = [SESSIONS.lines.as_bytes(), LISTENS.lines.as_bytes()];
+    let front = [SESSIONS.0.as_bytes(), LISTENS.0.as_bytes()];
     let mut text = joined(alloc, &front)?;
     input_lines(alloc, &mut text, 1, count)?;
     text.extend_from_slice(b"call 2 3 read 3\n")?;
@@ -64,8 +62,7 @@ fn halves(alloc: Global, count: u32) -> Result<Vec<u8>, NoMemory> {
 fn first_half(alloc: Global, text: &mut Vec<u8>, count: u32, first: u32) -> Result<(), NoMemory> {
     input_blocks(alloc, text, 1, count, 10)?;
     let number = count.saturating_add(11);
-    let read = format!(in alloc; "{number} call 2 3 read 3\n")?;
-    text.extend_from_slice(read.as_bytes())?;
+    push(text, format!(in alloc; "{number} call 2 3 read 3\n"))?;
     heard(alloc, text, first, count)
 }
 
@@ -74,18 +71,16 @@ fn second_half(alloc: Global, text: &mut Vec<u8>, count: u32, first: u32) -> Res
     let last = count.saturating_mul(2);
     input_blocks(alloc, text, count.saturating_add(1), last, 11)?;
     let number = last.saturating_add(12);
-    let read = format!(in alloc; "{number} call 2 4 read 3\n")?;
-    text.extend_from_slice(read.as_bytes())?;
+    push(text, format!(in alloc; "{number} call 2 4 read 3\n"))?;
     heard(alloc, text, first, last)?;
     let number = last.saturating_add(13);
-    let end = format!(in alloc; "{number} call 2 5 read 3\n granted []\nend {number}\n")?;
-    text.extend_from_slice(end.as_bytes())?;
-    Ok(())
+    let end = format!(in alloc; "{number} call 2 5 read 3\n granted []\nend {number}\n");
+    push(text, end)
 }
 
 /// Its transcript, where the reads answer the inputs with the values from these.
 fn told(alloc: Global, count: u32, first: u32, second: u32) -> Result<Vec<u8>, NoMemory> {
-    let front = [SESSIONS.blocks.as_bytes(), LISTENS.blocks.as_bytes()];
+    let front = [SESSIONS.1.as_bytes(), LISTENS.1.as_bytes()];
     let mut text = joined(alloc, &front)?;
     first_half(alloc, &mut text, count, first)?;
     second_half(alloc, &mut text, count, second)?;
@@ -119,7 +114,7 @@ fn the_last_inputs_are_kept(rt: HostRuntime) -> Result<(), Fail> {
 /// Two sessions have taken the device, which reports 65 inputs and 70 more; the active one reads behind each, and
 /// then the other one.
 fn heard_by_one(alloc: Global) -> Result<Vec<u8>, NoMemory> {
-    let front = [SESSIONS.lines.as_bytes(), TAKES.lines.as_bytes()];
+    let front = [SESSIONS.0.as_bytes(), TAKES.0.as_bytes()];
     let mut text = joined(alloc, &front)?;
     input_lines(alloc, &mut text, 1, 65)?;
     text.extend_from_slice(b"call 2 4 read 4\n")?;
@@ -140,7 +135,7 @@ fn read_twice(alloc: Global, text: &mut Vec<u8>) -> Result<(), NoMemory> {
 
 /// Its transcript: the active session reads the last 64 each time, and the other one nothing.
 fn told_to_one(alloc: Global) -> Result<Vec<u8>, NoMemory> {
-    let front = [SESSIONS.blocks.as_bytes(), TAKES.blocks.as_bytes()];
+    let front = [SESSIONS.1.as_bytes(), TAKES.1.as_bytes()];
     let mut text = joined(alloc, &front)?;
     read_twice(alloc, &mut text)?;
     text.extend_from_slice(b"151 call 3 4 read 6\n denied P27 not-live\nend 151\n")?;

@@ -1,6 +1,6 @@
 // As many devices as may be taken, and as may be present.
 
-use crate::running::{compare, joined};
+use crate::running::{compare, joined, push};
 use login_base::NoMemory;
 use login_cases::devices::fronts::SESSIONS;
 use login_cases::devices::many;
@@ -13,8 +13,7 @@ const PRESENT: u32 = 4096;
 /// Adds the lines of so many input devices, from the minor number 1.
 fn add_lines(alloc: Global, text: &mut Vec<u8>, count: u32) -> Result<(), NoMemory> {
     for minor in 1..=count {
-        let line = format!(in alloc; "add 14 {minor} evdev seat0\n")?;
-        text.extend_from_slice(line.as_bytes())?;
+        push(text, format!(in alloc; "add 14 {minor} evdev seat0\n"))?;
     }
     Ok(())
 }
@@ -25,8 +24,8 @@ fn add_blocks(alloc: Global, text: &mut Vec<u8>, before: u32, count: u32) -> Res
         let number = minor.saturating_add(before);
         let block = format!(in alloc;
             "{number} add 14 {minor} evdev seat0\n granted\n set dev 14:{minor} evdev seat0\n"
-        )?;
-        text.extend_from_slice(block.as_bytes())?;
+        );
+        push(text, block)?;
     }
     Ok(())
 }
@@ -35,8 +34,10 @@ fn add_blocks(alloc: Global, text: &mut Vec<u8>, before: u32, count: u32) -> Res
 fn take_lines(alloc: Global, text: &mut Vec<u8>, count: u32) -> Result<(), NoMemory> {
     for minor in 1..=count {
         let serial = minor.saturating_add(1);
-        let line = format!(in alloc; "call 2 {serial} take c1 14 {minor}\n")?;
-        text.extend_from_slice(line.as_bytes())?;
+        push(
+            text,
+            format!(in alloc; "call 2 {serial} take c1 14 {minor}\n"),
+        )?;
     }
     Ok(())
 }
@@ -49,27 +50,27 @@ fn take_blocks(alloc: Global, text: &mut Vec<u8>, before: u32, count: u32) -> Re
         let handle = minor.saturating_add(2);
         let block = format!(in alloc;
             "{number} call 2 {serial} take c1 14 {minor}\n granted {handle} false\n set owner {handle} device 2 c1 14:{minor}\n set taken c1 14:{minor} {handle}\n set live {handle} true\n"
-        )?;
-        text.extend_from_slice(block.as_bytes())?;
+        );
+        push(text, block)?;
     }
     Ok(())
 }
 
 /// A recording that takes one device more than may be.
 fn taking(alloc: Global) -> Result<Vec<u8>, NoMemory> {
-    let mut text = joined(alloc, &[SESSIONS.lines.as_bytes()])?;
+    let mut text = joined(alloc, &[SESSIONS.0.as_bytes()])?;
     add_lines(alloc, &mut text, 129)?;
     take_lines(alloc, &mut text, 128)?;
-    text.extend_from_slice(many::FULL.lines.as_bytes())?;
+    text.extend_from_slice(many::FULL.0.as_bytes())?;
     Ok(text)
 }
 
 /// Its transcript.
 fn taken(alloc: Global) -> Result<Vec<u8>, NoMemory> {
-    let mut text = joined(alloc, &[SESSIONS.blocks.as_bytes()])?;
+    let mut text = joined(alloc, &[SESSIONS.1.as_bytes()])?;
     add_blocks(alloc, &mut text, 9, 129)?;
     take_blocks(alloc, &mut text, 138, 128)?;
-    text.extend_from_slice(many::FULL.blocks.as_bytes())?;
+    text.extend_from_slice(many::FULL.1.as_bytes())?;
     Ok(text)
 }
 
@@ -77,7 +78,7 @@ fn taken(alloc: Global) -> Result<Vec<u8>, NoMemory> {
 fn adding(alloc: Global) -> Result<Vec<u8>, NoMemory> {
     let mut text = joined(alloc, &[b"login-recording 1\ngo\n"])?;
     add_lines(alloc, &mut text, PRESENT)?;
-    text.extend_from_slice(many::PRESENT.lines.as_bytes())?;
+    text.extend_from_slice(many::PRESENT.0.as_bytes())?;
     Ok(text)
 }
 
@@ -85,7 +86,7 @@ fn adding(alloc: Global) -> Result<Vec<u8>, NoMemory> {
 fn added(alloc: Global) -> Result<Vec<u8>, NoMemory> {
     let mut text = joined(alloc, &[b"login-transcript 1\n"])?;
     add_blocks(alloc, &mut text, 0, PRESENT)?;
-    text.extend_from_slice(many::PRESENT.blocks.as_bytes())?;
+    text.extend_from_slice(many::PRESENT.1.as_bytes())?;
     Ok(text)
 }
 

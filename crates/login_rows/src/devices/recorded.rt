@@ -1,14 +1,14 @@
 // A journal that is written as a recording, which plays it again.
 
-use crate::playing::{finish, play};
+use crate::lines::play_whole;
+use crate::playing::finish;
 use crate::running::{compare, joined, source};
 use login_base::{Items, NoMemory};
 use login_cases::devices::fronts::{ASKS, SESSIONS, TAKES};
 use login_cases::devices::pausing::ACKNOWLEDGED;
 use login_core::Core;
 use login_edge::MemSink;
-use login_model::Event;
-use recording::{Line, LineReader, Next, WriteEnd, read_line, write_recording};
+use recording::{LineReader, Next, WriteEnd, write_recording};
 use replay::{SetupEnd, read_setup};
 use std::alloc::Global;
 use std::process::Abort;
@@ -46,18 +46,6 @@ go
 /// So long is the preamble of the sessions.
 const SESSIONS_PREAMBLE: usize = 61;
 
-/// The event of a line, if it is one of an event.
-fn event_of(alloc: Global, line: &[u8]) -> Option<Event> {
-    match read_line(alloc, line) {
-        Ok(Line::Event(event)) => Some(event),
-        Ok(other) => {
-            drop(other);
-            None
-        }
-        Err(_) => None,
-    }
-}
-
 /// A core that stepped the events of this recording.
 fn stepped(alloc: Global, text: &[u8]) -> Result<Core, NoMemory> {
     let mut source = source(alloc, text, &[])?;
@@ -71,9 +59,7 @@ fn stepped(alloc: Global, text: &[u8]) -> Result<Core, NoMemory> {
         if lines.next(&mut source) != Next::Line {
             break;
         }
-        if let Some(event) = event_of(alloc, lines.line()) {
-            play(&mut core, event);
-        }
+        play_whole(alloc, &mut core, lines.line());
     }
     Ok(core)
 }
@@ -96,10 +82,10 @@ fn events(alloc: Global) -> Result<Vec<u8>, NoMemory> {
     joined(
         alloc,
         &[
-            &SESSIONS.lines.as_bytes()[SESSIONS_PREAMBLE..],
-            TAKES.lines.as_bytes(),
-            ASKS.lines.as_bytes(),
-            ACKNOWLEDGED.lines.as_bytes(),
+            &SESSIONS.0.as_bytes()[SESSIONS_PREAMBLE..],
+            TAKES.0.as_bytes(),
+            ASKS.0.as_bytes(),
+            ACKNOWLEDGED.0.as_bytes(),
         ],
     )
 }
@@ -115,10 +101,10 @@ fn blocks(alloc: Global) -> Result<Vec<u8>, NoMemory> {
     joined(
         alloc,
         &[
-            SESSIONS.blocks.as_bytes(),
-            TAKES.blocks.as_bytes(),
-            ASKS.blocks.as_bytes(),
-            ACKNOWLEDGED.blocks.as_bytes(),
+            SESSIONS.1.as_bytes(),
+            TAKES.1.as_bytes(),
+            ASKS.1.as_bytes(),
+            ACKNOWLEDGED.1.as_bytes(),
         ],
     )
 }

@@ -9,8 +9,8 @@ use std::test::Fail;
 fn links_may_be_too_many(rt: HostRuntime) -> Result<(), Fail> {
     let alloc = rt.alloc();
     let mut text = recording(alloc, LINKS)?;
-    text.extend_from_slice(LATE.lines.as_bytes())?;
+    text.extend_from_slice(LATE.0.as_bytes())?;
     let mut want = transcript(alloc, LINKS)?;
-    want.extend_from_slice(LATE.blocks.as_bytes())?;
+    want.extend_from_slice(LATE.1.as_bytes())?;
     compare(&rt, alloc, text.as_slice(), want.as_slice(), 0, "")
 }

@@ -7,8 +7,8 @@ use std::test::Fail;
 #[test]
 fn lines_of_links_have_their_places(rt: HostRuntime) -> Result<(), Fail> {
     let alloc = rt.alloc();
-    let front = FRONT.lines.as_bytes();
-    let told = FRONT.blocks.as_bytes();
+    let front = FRONT.0.as_bytes();
+    let told = FRONT.1.as_bytes();
     refuse(
         &rt,
         alloc,

@@ -20,9 +20,9 @@ enum Of {
 /// A text of a part.
 fn text_of(part: &Part, of: Of) -> &'static [u8] {
     match of {
-        Of::Blocks => part.blocks.as_bytes(),
-        Of::Due => part.due.as_bytes(),
-        Of::Closed => part.closed.as_bytes(),
+        Of::Blocks => part.blocks,
+        Of::Due => part.due,
+        Of::Closed => part.closed,
     }
 }
 
@@ -78,10 +78,10 @@ pub fn accept_talk<R: Abort + Wait + Threads + Sync>(
 ) -> Result<(), Fail> {
     let mut sent = Vec::new(alloc);
     for part in talk.parts {
-        sent.extend_from_slice(part.sent.as_bytes())?;
+        sent.extend_from_slice(part.sent)?;
     }
-    let mut recording = Vec::from_slice(alloc, talk.front.lines.as_bytes())?;
-    let mut transcript = Vec::from_slice(alloc, talk.front.blocks.as_bytes())?;
+    let mut recording = Vec::from_slice(alloc, talk.front.0.as_bytes())?;
+    let mut transcript = Vec::from_slice(alloc, talk.front.1.as_bytes())?;
     let mut from: usize = 0;
     for digits in sent.chunks(size.saturating_mul(2).max(1)) {
         let to = from.saturating_add(digits.len());
@@ -89,8 +89,8 @@ pub fn accept_talk<R: Abort + Wait + Threads + Sync>(
         push_told(alloc, &mut transcript, talk.parts, from, to)?;
         from = to;
     }
-    recording.extend_from_slice(talk.rest.lines.as_bytes())?;
-    transcript.extend_from_slice(talk.rest.blocks.as_bytes())?;
+    recording.extend_from_slice(talk.rest.0.as_bytes())?;
+    transcript.extend_from_slice(talk.rest.1.as_bytes())?;
     compare(
         rt,
         alloc,

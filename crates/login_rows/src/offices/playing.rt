@@ -1,5 +1,8 @@
 // How offices are made, their events stepped and their links heard.
 
+ghost use Rattle.login_model.specs.Legal.{IsPlaced};
+
+use crate::lines;
 use crate::playing::{is_connected, is_next, setup};
 use login_base::{Bytes, ConnId, Items, NoMemory, Uid};
 use login_model::{Event, Request};
@@ -20,12 +23,10 @@ pub fn close(office: &mut Office, who: ConnId) -> bool {
     true
 }
 
-/// Makes room for an event, and steps it; whether it could.
-pub fn play(office: &mut Office, event: Event) -> bool {
-    if !is_next(office.core(), &event) {
-        drop(event);
-        return false;
-    }
+/// Makes room for an event that may come next, and steps it; whether it could.
+fn act(office: &mut Office, event: Event) -> bool
+    requires { IsPlaced office.old.core.journal event }
+{
     match office.room(&event) {
         Ok(()) => {
             office.act(event);
@@ -35,6 +36,29 @@ pub fn play(office: &mut Office, event: Event) -> bool {
             drop(event);
             false
         }
+    }
+}
+
+/// The same of any event of a link.
+pub fn play(office: &mut Office, event: Event) -> bool {
+    if is_next(office.core(), &event) {
+        act(office, event)
+    } else {
+        drop(event);
+        false
+    }
+}
+
+/// The same of the event of a line.
+pub fn play_line(office: &mut Office, alloc: Global, line: &[u8]) -> bool {
+    let Some(event) = lines::event(alloc, line) else {
+        return false;
+    };
+    if lines::is_next(office.core(), &event) {
+        act(office, event)
+    } else {
+        drop(event);
+        false
     }
 }
 

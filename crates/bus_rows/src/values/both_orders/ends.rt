@@ -3,8 +3,8 @@
 use super::Both;
 use bus_value::ValueFault::BadLength;
 
-/// Values whose bytes pass the end of the array around them.
-pub(super) const PASSING_A: [Both; 42] = [
+/// Values whose bytes pass the end of the array around them: bytes, booleans and numbers of two bytes.
+pub(super) const PASSING_SMALL: [Both; 23] = [
     (
         b"aat",
         0,
@@ -154,6 +154,10 @@ pub(super) const PASSING_A: [Both; 42] = [
         b"\0\0\0\x05\x01q\0\0\x01",
         BadLength(0),
     ),
+];
+
+/// Values whose bytes pass the end of the array around them: numbers of four bytes and of eight.
+pub(super) const PASSING_NUMBERS: [Both; 20] = [
     (
         b"ai",
         0,
@@ -287,10 +291,6 @@ pub(super) const PASSING_A: [Both; 42] = [
         b"\0\0\0\x0f\0\0\0\0\x01\0\0\0\0\0\0\0\x01\x02\x03\x04\x05\x06\x07",
         BadLength(0),
     ),
-];
-
-/// Values whose bytes pass the end of the array around them.
-pub(super) const PASSING_B: [Both; 41] = [
     (
         b"av",
         0,
@@ -298,6 +298,10 @@ pub(super) const PASSING_B: [Both; 41] = [
         b"\0\0\0\x0b\x01t\0\0\x01\x02\x03\x04\x05\x06\x07",
         BadLength(0),
     ),
+];
+
+/// Values whose bytes pass the end of the array around them: doubles, handles, texts and paths.
+pub(super) const PASSING_TEXTS: [Both; 20] = [
     (
         b"ad",
         0,
@@ -438,6 +442,10 @@ pub(super) const PASSING_B: [Both; 41] = [
         b"\0\0\0\x0a\x01o\0\0\0\0\0\x02/a",
         BadLength(0),
     ),
+];
+
+/// Values whose bytes pass the end of the array around them: signatures, variants and arrays.
+pub(super) const PASSING_CONTAINERS: [Both; 20] = [
     (
         b"a(yg)",
         0,
