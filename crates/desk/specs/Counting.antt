@@ -1,31 +1,31 @@
 -- What counts are, and what those who count leave.
 use Rattle.std.specs.Prelude.{◌≡◌, ℕ, ◌+◌, ◌*◌, ◌<◌, ◌≤◌, Bool, true, false, List, [], ◌∷◌, ◌++◌, length, Some}
-use Rattle.desk.specs.declared.counting.Count.{Count}
+use Rattle.desk.specs.declared.counting.Counted.{Counted}
 use Rattle.desk.specs.declared.view.View.{View}
 use Rattle.desk.specs.History.{entries, of_who}
 
 -- how many counts there may be, and those that there are
-pub record CountsState : Type 0 where
+pub record CounterState : Type 0 where
   pub most : ℕ
-  pub counts : List Count
+  pub counts : List Counted
 
 -- whose a count is
-abbrev pub counter_of : Count → ℕ
+abbrev pub counter_of : Counted → ℕ
 counter_of c = c.who.0
 
 -- where there is room, one count of this connection with this number is added
-abbrev pub CountsUp : ℕ → ℕ → ℕ → List Count → List Count → Bool → Type 0
-CountsUp most who number old new true = (length old < most) × ((c : Count) × (c.who.0 ≡ who) × (c.number ≡ number) × (new ≡ old ++ c ∷ []))
+abbrev pub CountsUp : ℕ → ℕ → ℕ → List Counted → List Counted → Bool → Type 0
+CountsUp most who number old new true = (length old < most) × ((c : Counted) × (c.who.0 ≡ who) × (c.number ≡ number) × (new ≡ old ++ c ∷ []))
 CountsUp most who number old new false = (most ≤ length old) × (new ≡ old)
 
 -- these counts are of this connection, and numbered in order from this number on
-abbrev pub CountsFrom : ℕ → ℕ → List Count → Type 0
+abbrev pub CountsFrom : ℕ → ℕ → List Counted → Type 0
 CountsFrom who number [] = Unit {0}
 CountsFrom who number (c ∷ cs) = (c.who.0 ≡ who) × (c.number ≡ number) × CountsFrom who (number + 1) cs
 
 -- a pass made the counts from 0 up to below `most`, or those of them for which there was room
-pub record CountsTo (most : ℕ) (v w : View ℕ Count) : Type 0 where
-  pub own : List Count
+pub record CountsTo (most : ℕ) (v w : View ℕ Counted) : Type 0 where
+  pub own : List Counted
   pub mine_is : w.mine ≡ v.mine ++ own
   pub in_order : CountsFrom v.who 0 own
   pub at_most : length own ≤ most
@@ -35,7 +35,7 @@ pub record CountsTo (most : ℕ) (v w : View ℕ Count) : Type 0 where
   pub who_is : w.who ≡ v.who
 
 -- the counts of one of two connections, which both counted from 0 up to below `most`
-pub record CountedBy (who most : ℕ) (c : CountsState) : Type 0 where
+pub record CountedBy (who most : ℕ) (c : CounterState) : Type 0 where
   pub in_order : CountsFrom who 0 (of_who counter_of who c.counts)
   pub at_most : length (of_who counter_of who c.counts) ≤ most
   pub all : 2 * most ≤ c.most → length (of_who counter_of who c.counts) ≡ most

@@ -17,55 +17,55 @@ use std::thread::{Promise, PromisedHandle, Scope, Threads};
 
 /// One count, and who made it.
 #[derive(Drop)]
-pub struct Count {
+pub struct Counted {
     pub who: ConnId,
     pub number: u32,
 }
 
 /// The counts that were made, and how many there may be.
 #[derive(Drop)]
-pub struct Counts {
+pub struct Counter {
     most: usize,
-    counts: Vec<Count>,
+    counts: Vec<Counted>,
 }
 
-impl Model for Counts {
+impl Model for Counter {
     ghost use Rattle.std.specs.Prelude.{◌≤◌, vec_len, vec_capacity};
-    ghost use Rattle.desk.specs.Counting.{CountsState};
+    ghost use Rattle.desk.specs.Counting.{CounterState};
 
-    ghost Value = { CountsState };
+    ghost Value = { CounterState };
 
     ghost view = { λ c. record { most = c.most; counts = c.counts.items } };
 
     ghost invariant = { λ c. (vec_len c.counts ≤ c.most) × (c.most ≤ vec_capacity c.counts) };
 }
 
-impl Counts {
+impl Counter {
     /// No counts, and room for as many as there may be.
-    pub fn new(alloc: Global, most: usize) -> Result<Counts, NoMemory>
+    pub fn new(alloc: Global, most: usize) -> Result<Counter, NoMemory>
         ensures most { IfOk result (λ c. c.most ≡ most) }
         ensures none { IfOk result (λ c. c.counts ≡ []) }
     {
-        Ok(Counts {
+        Ok(Counter {
             most,
             counts: Vec::with_capacity(alloc, most)?,
         })
     }
 
     /// The counts in order.
-    pub fn as_slice(&self) -> &[Count]
+    pub fn as_slice(&self) -> &[Counted]
         ensures { result.now ≡ self.now.counts }
     {
         self.counts.as_slice()
     }
 }
 
-impl Kept for Counts {
+impl Kept for Counter {
     ghost use Rattle.desk.specs.Counting.{counter_of};
 
     type Setup = usize;
 
-    type Entry = Count;
+    type Entry = Counted;
 
     ghost who = { counter_of };
 
@@ -80,7 +80,7 @@ pub struct CountUp {
     pub number: u32,
 }
 
-impl Act<Counts> for CountUp {
+impl Act<Counter> for CountUp {
     ghost use Rattle.desk.specs.Counting.{CountsUp};
 
     type Answer = bool;
@@ -91,11 +91,11 @@ impl Act<Counts> for CountUp {
 
     ghost after = { λ act. [] };
 
-    fn act(&mut self, value: &mut Counts, who: ConnId) -> bool {
+    fn act(&mut self, value: &mut Counter, who: ConnId) -> bool {
         let number = self.number;
         let fits = value.counts.len() < value.most;
         if fits {
-            value.counts.push_reserved(Count { who, number });
+            value.counts.push_reserved(Counted { who, number });
         }
         fits
     }
@@ -106,7 +106,7 @@ impl Act<Counts> for CountUp {
 #[derive(Drop)]
 pub struct CountOn;
 
-impl Act<Counts> for CountOn {
+impl Act<Counter> for CountOn {
     ghost use Rattle.std.specs.Prelude.{◌-◌, ◌^◌, length, min};
     ghost use Rattle.desk.specs.Counting.{CountsUp};
 
@@ -118,7 +118,7 @@ impl Act<Counts> for CountOn {
 
     ghost after = { λ act. [] };
 
-    fn act(&mut self, value: &mut Counts, who: ConnId) -> bool {
+    fn act(&mut self, value: &mut Counter, who: ConnId) -> bool {
         let number = value.counts.len().min(u32::MAX as usize) as u32;
         CountUp { number }.act(value, who)
     }
@@ -128,7 +128,7 @@ impl Act<Counts> for CountOn {
 #[derive(Drop)]
 pub struct HowMany;
 
-impl Act<Counts> for HowMany {
+impl Act<Counter> for HowMany {
     ghost use Rattle.std.specs.Prelude.{◌≡◌, length};
 
     type Answer = usize;
@@ -139,7 +139,7 @@ impl Act<Counts> for HowMany {
 
     ghost after = { λ act. [] };
 
-    fn act(&mut self, value: &mut Counts, _who: ConnId) -> usize {
+    fn act(&mut self, value: &mut Counter, _who: ConnId) -> usize {
         value.counts.len()
     }
 }
@@ -147,10 +147,10 @@ impl Act<Counts> for HowMany {
 /// Counts from 0 up to below `most`, and stops where there is no room.
 pub fn count_to<R: Wait>(
     rt: &R,
-    desk: &Desk<Counts>,
-    mut pass: Pass<usize, Count>,
+    desk: &Desk<Counter>,
+    mut pass: Pass<usize, Counted>,
     most: u32,
-) -> Pass<usize, Count>
+) -> Pass<usize, Counted>
     requires { pass.desk ≡ desk.now }
     ensures desk { result.desk ≡ desk.now }
     ensures made { CountsTo most pass.view result.view }
@@ -166,11 +166,11 @@ pub fn count_to<R: Wait>(
 /// What the handle of a thread that counts keeps.
 #[derive(Drop)]
 struct CountNote {
-    pass: Snapshot<Pass<usize, Count>>,
+    pass: Snapshot<Pass<usize, Counted>>,
     most: u32,
 }
 
-impl Promise<Pass<usize, Count>> for CountNote {
+impl Promise<Pass<usize, Counted>> for CountNote {
     ghost use Rattle.std.specs.Prelude.{◌≡◌};
     ghost use Rattle.desk.specs.Counting.{CountsTo};
 
@@ -181,10 +181,10 @@ impl Promise<Pass<usize, Count>> for CountNote {
 fn start_count<'s, 'a: 's, E, R: Wait + Sync>(
     rt: &'a R,
     scope: &Scope<'s, E>,
-    desk: &'a Desk<Counts>,
-    pass: Pass<usize, Count>,
+    desk: &'a Desk<Counter>,
+    pass: Pass<usize, Counted>,
     most: u32,
-) -> Result<PromisedHandle<Pass<usize, Count>, CountNote>, NoMemory>
+) -> Result<PromisedHandle<Pass<usize, Counted>, CountNote>, NoMemory>
     requires { pass.desk ≡ desk.now }
     ensures pass { IfOk result (λ h. h.promise.pass.value ≡ pass) }
     ensures most { IfOk result (λ h. h.promise.most ≡ most) }
@@ -203,11 +203,11 @@ fn start_count<'s, 'a: 's, E, R: Wait + Sync>(
 fn count_in<'s, 'a: 's, E, R: Wait + Threads + Sync>(
     rt: &'a R,
     scope: &Scope<'s, E>,
-    desk: &'a Desk<Counts>,
-    one: Pass<usize, Count>,
-    two: Pass<usize, Count>,
+    desk: &'a Desk<Counter>,
+    one: Pass<usize, Counted>,
+    two: Pass<usize, Counted>,
     most: u32,
-) -> Result<(Pass<usize, Count>, Pass<usize, Count>), NoMemory>
+) -> Result<(Pass<usize, Counted>, Pass<usize, Counted>), NoMemory>
     requires { (one.desk ≡ desk.now) × (two.desk ≡ desk.now) }
     ensures desk { IfOk result (λ r. (r.0.desk ≡ desk.now) × (r.1.desk ≡ desk.now)) }
     ensures one { IfOk result (λ r. CountsTo most one.view r.0.view) }
@@ -221,11 +221,11 @@ fn count_in<'s, 'a: 's, E, R: Wait + Threads + Sync>(
 // Counts in two threads of a scope.
 fn count_both<R: Wait + Threads + Sync>(
     rt: &R,
-    desk: &Desk<Counts>,
-    one: Pass<usize, Count>,
-    two: Pass<usize, Count>,
+    desk: &Desk<Counter>,
+    one: Pass<usize, Counted>,
+    two: Pass<usize, Counted>,
     most: u32,
-) -> Result<(Pass<usize, Count>, Pass<usize, Count>), NoMemory>
+) -> Result<(Pass<usize, Counted>, Pass<usize, Counted>), NoMemory>
     requires { (one.desk ≡ desk.now) × (two.desk ≡ desk.now) }
     ensures desk { IfOk result (λ r. (r.0.desk ≡ desk.now) × (r.1.desk ≡ desk.now)) }
     ensures one { IfOk result (λ r. CountsTo most one.view r.0.view) }
@@ -234,7 +234,7 @@ fn count_both<R: Wait + Threads + Sync>(
     thread::scope(
         thread::scope_env(),
         rt,
-        |scope| -> Result<(Pass<usize, Count>, Pass<usize, Count>), NoMemory>
+        |scope| -> Result<(Pass<usize, Counted>, Pass<usize, Counted>), NoMemory>
             requires { (one.desk ≡ desk.now) × (two.desk ≡ desk.now) }
             ensures { IfOk result (λ r. (r.0.desk ≡ one.desk) × (r.1.desk ≡ two.desk) × CountsTo most one.view r.0.view × CountsTo most two.view r.1.view) }
         { count_in(rt, scope, desk, one, two, most) },
@@ -248,13 +248,13 @@ pub fn count_apart<R: Wait + Threads + Sync>(
     alloc: Global,
     room: usize,
     most: u32,
-) -> Result<Counts, NoMemory>
+) -> Result<Counter, NoMemory>
     ensures most { IfOk result (λ c. c.most ≡ room) }
     ensures one { IfOk result (CountedBy 1 most) }
     ensures two { IfOk result (CountedBy 2 most) }
     ensures all { IfOk result (λ c. 2 * most ≤ room → length c.counts ≡ 2 * most) }
 {
-    let (desk, mut first) = Desk::open(alloc, Counts::new(alloc, room)?)?;
+    let (desk, mut first) = Desk::open(alloc, Counter::new(alloc, room)?)?;
     let one = desk.split(&mut first, ConnId(1));
     let two = desk.split(&mut first, ConnId(2));
     let (one, two) = count_both(rt, &desk, one, two, most)?;

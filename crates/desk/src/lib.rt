@@ -20,7 +20,7 @@ mod steps;
 mod view;
 
 pub use act::Act;
-pub use counting::{Count, CountOn, CountUp, Counts, HowMany, count_apart, count_to};
+pub use counting::{CountOn, CountUp, Counted, Counter, HowMany, count_apart, count_to};
 pub use desk::Desk;
 pub use kept::Kept;
 pub use law::same_entries;

@@ -1,12 +1,12 @@
 // That the calls succeed, alone and in two threads.
 
-use desk::{CountUp, Counts, Desk, count_apart};
+use desk::{CountUp, Counter, Desk, count_apart};
 use login_base::{ConnId, NoMemory};
 
 #[test]
 fn each_call_once(rt: HostRuntime) -> Result<(), NoMemory> {
     let alloc = rt.alloc();
-    let (desk, mut first) = Desk::open(alloc, Counts::new(alloc, 2)?)?;
+    let (desk, mut first) = Desk::open(alloc, Counter::new(alloc, 2)?)?;
     assert!(rt; desk.act(&rt, &mut first, &mut CountUp { number: 7 }));
     let mut second = desk.split(&mut first, ConnId(4));
     assert!(rt; desk.act(&rt, &mut second, &mut CountUp { number: 8 }));

@@ -3,7 +3,7 @@
 ghost use Rattle.std.specs.Prelude.{◌≡◌, All, IfOk, OnOk, vec_len};
 ghost use Rattle.desk.specs.Passes.{IsFirst};
 
-use desk::{Count, CountOn, CountUp, Counts, Desk, HowMany, Pass};
+use desk::{CountOn, CountUp, Counted, Counter, Desk, HowMany, Pass};
 use login_base::{ConnId, NoMemory};
 use std::alloc::Global;
 use std::snapshot::Snapshot;
@@ -21,10 +21,10 @@ const ROUNDS: u32 = 12;
 /// What the handle of a thread keeps.
 #[derive(Drop)]
 struct Note {
-    pass: Snapshot<Pass<usize, Count>>,
+    pass: Snapshot<Pass<usize, Counted>>,
 }
 
-impl Promise<Pass<usize, Count>> for Note {
+impl Promise<Pass<usize, Counted>> for Note {
     ghost use Rattle.std.specs.Prelude.{◌≡◌};
 
     ghost kept_by = { λ note pass. pass.desk ≡ note.pass.value.desk };
@@ -33,9 +33,9 @@ impl Promise<Pass<usize, Count>> for Note {
 /// Makes acts of three kinds in turn, and stops where the one without an entry answers too little.
 fn take_turns<R: Wait>(
     rt: &R,
-    desk: &Desk<Counts>,
-    mut pass: Pass<usize, Count>,
-) -> Pass<usize, Count>
+    desk: &Desk<Counter>,
+    mut pass: Pass<usize, Counted>,
+) -> Pass<usize, Counted>
     requires { pass.desk ≡ desk.now }
     ensures { result.desk ≡ desk.now }
 {
@@ -54,9 +54,9 @@ fn take_turns<R: Wait>(
 fn start<'s, 'a: 's, E, R: Wait + Sync>(
     rt: &'a R,
     scope: &Scope<'s, E>,
-    desk: &'a Desk<Counts>,
-    pass: Pass<usize, Count>,
-) -> Result<PromisedHandle<Pass<usize, Count>, Note>, NoMemory>
+    desk: &'a Desk<Counter>,
+    pass: Pass<usize, Counted>,
+) -> Result<PromisedHandle<Pass<usize, Counted>, Note>, NoMemory>
     requires { pass.desk ≡ desk.now }
     ensures { IfOk result (λ h. h.promise.pass.value.desk ≡ desk.now) }
 {
@@ -74,9 +74,9 @@ fn start_all<'s, 'a: 's, E, R: Wait + Sync>(
     rt: &'a R,
     alloc: Global,
     scope: &Scope<'s, E>,
-    desk: &'a Desk<Counts>,
-    first: &mut Pass<usize, Count>,
-) -> Result<Vec<PromisedHandle<Pass<usize, Count>, Note>>, NoMemory>
+    desk: &'a Desk<Counter>,
+    first: &mut Pass<usize, Counted>,
+) -> Result<Vec<PromisedHandle<Pass<usize, Counted>, Note>>, NoMemory>
     requires desk { first.old.desk ≡ desk.now }
     requires first { IsFirst first.old.view }
     requires new { (first.old.view.made ≡ 0) × (first.old.view.given ≡ 0) × (first.old.view.out ≡ 0) }
@@ -97,9 +97,9 @@ fn start_all<'s, 'a: 's, E, R: Wait + Sync>(
 /// Waits for each thread, and takes in its pass.
 fn join_all<R: Threads>(
     rt: &R,
-    desk: &Desk<Counts>,
-    first: &mut Pass<usize, Count>,
-    handles: Vec<PromisedHandle<Pass<usize, Count>, Note>>,
+    desk: &Desk<Counter>,
+    first: &mut Pass<usize, Counted>,
+    handles: Vec<PromisedHandle<Pass<usize, Counted>, Note>>,
 )
     requires desk { first.old.desk ≡ desk.now }
     requires first { IsFirst first.old.view }
@@ -120,9 +120,9 @@ fn crowd_in<'s, 'a: 's, E, R: Wait + Threads + Sync>(
     rt: &'a R,
     alloc: Global,
     scope: &Scope<'s, E>,
-    desk: &'a Desk<Counts>,
-    mut first: Pass<usize, Count>,
-) -> Result<Pass<usize, Count>, NoMemory>
+    desk: &'a Desk<Counter>,
+    mut first: Pass<usize, Counted>,
+) -> Result<Pass<usize, Counted>, NoMemory>
     requires desk { first.desk ≡ desk.now }
     requires first { IsFirst first.view }
     requires new { (first.view.made ≡ 0) × (first.view.given ≡ 0) × (first.view.out ≡ 0) }
@@ -138,9 +138,9 @@ fn crowd_in<'s, 'a: 's, E, R: Wait + Threads + Sync>(
 fn scoped<R: Wait + Threads + Sync>(
     rt: &R,
     alloc: Global,
-    desk: &Desk<Counts>,
-    first: Pass<usize, Count>,
-) -> Result<Pass<usize, Count>, NoMemory>
+    desk: &Desk<Counter>,
+    first: Pass<usize, Counted>,
+) -> Result<Pass<usize, Counted>, NoMemory>
     requires desk { first.desk ≡ desk.now }
     requires first { IsFirst first.view }
     requires new { (first.view.made ≡ 0) × (first.view.given ≡ 0) × (first.view.out ≡ 0) }
@@ -151,7 +151,7 @@ fn scoped<R: Wait + Threads + Sync>(
     thread::scope(
         thread::scope_env(),
         rt,
-        |scope| -> Result<Pass<usize, Count>, NoMemory>
+        |scope| -> Result<Pass<usize, Counted>, NoMemory>
             requires { (first.desk ≡ desk.now) × IsFirst first.view × (first.view.made ≡ 0) × (first.view.given ≡ 0) × (first.view.out ≡ 0) }
             ensures { IfOk result (λ pass. (pass.desk ≡ first.desk) × IsFirst pass.view × (pass.view.out ≡ 0)) }
         { crowd_in(rt, alloc, scope, desk, first) },
@@ -159,9 +159,9 @@ fn scoped<R: Wait + Threads + Sync>(
 }
 
 /// The counts that all threads made, in the order of their turns.
-fn crowd<R: Wait + Threads + Sync>(rt: &R, alloc: Global) -> Result<Counts, NoMemory> {
+fn crowd<R: Wait + Threads + Sync>(rt: &R, alloc: Global) -> Result<Counter, NoMemory> {
     let room = 2 * THREADS as usize * ROUNDS as usize;
-    let (desk, first) = Desk::open(alloc, Counts::new(alloc, room)?)?;
+    let (desk, first) = Desk::open(alloc, Counter::new(alloc, room)?)?;
     let first = scoped(rt, alloc, &desk, first)?;
     Ok(desk.close(first))
 }

@@ -1,4 +1,4 @@
-pub mod Kept
+pub mod Padded
 pub mod Plain
 pub mod Number
 pub mod SessionId

@@ -19,7 +19,7 @@ pub use ids::{ConnId, DevNo, HandleNo, LockNo, Millis, SessId, Uid};
 pub use items::{Bytes, Items};
 pub use label::escape;
 pub use memory::NoMemory;
-pub use number::read_number;
+pub use number::{read_number, read_whole};
 pub use reserved::Reserved;
 pub use seat_name::{SeatFault, SeatName};
 pub use word::Word;

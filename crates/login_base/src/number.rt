@@ -1,7 +1,7 @@
 // Numbers in decimal.
 
 ghost use Rattle.std.specs.Prelude.{◌≡◌, ◌≢◌, ◌<◌, ◌^◌, ◌↔◌, ℕ, IsTrue, length, slice_index};
-ghost use Rattle.login_base.specs.Number.{number_of};
+ghost use Rattle.login_base.specs.Number.{number_of, whole_of};
 ghost use Rattle.login_base.specs.Plain.{IsPlain};
 
 /// Whether a word is not empty, and has neither a sign nor a leading zero.
@@ -20,6 +20,22 @@ pub fn read_number(word: &[u8]) -> Option<u32>
     }
     match str::from_utf8(word) {
         Ok(text) => match text.parse::<u32>() {
+            Ok(n) => Some(n),
+            Err(_) => None,
+        },
+        Err(_) => None,
+    }
+}
+
+/// The number that a word spells in decimal, below 2^64, without sign or leading zeros.
+pub fn read_whole(word: &[u8]) -> Option<u64>
+    ensures { result ≡ whole_of word.now }
+{
+    if !is_plain(word) {
+        return None;
+    }
+    match str::from_utf8(word) {
+        Ok(text) => match text.parse::<u64>() {
             Ok(n) => Some(n),
             Err(_) => None,
         },

@@ -69,13 +69,20 @@ impl<T> Reserved<T> {
         self.items.as_slice()
     }
 
-    /// Makes the spare at least so much.
+    /// How many items can be put at the end without memory.
+    pub fn spare(&self) -> usize
+        ensures { result ≡ self.now.spare }
+    {
+        self.items.capacity() - self.items.len()
+    }
+
+    /// Makes the spare at least so much. It takes memory for no more than that.
     pub fn reserve(&mut self, more: usize) -> Result<(), NoMemory>
         ensures ok { OnOk result (more ≤ self.new.spare) }
         ensures items { self.new.items ≡ self.old.items }
         ensures spare { self.old.spare ≤ self.new.spare }
     {
-        self.items.reserve(more)?;
+        self.items.reserve_exact(more)?;
         Ok(())
     }
 
@@ -88,6 +95,21 @@ impl<T> Reserved<T> {
         ensures spare { self.old.spare ≤ self.new.spare + 1 }
     {
         match self.items.push(item) {
+            Ok(()) => {}
+            Err(_) => unreachable!(),
+        }
+    }
+
+    /// Moves the items of another list to the end. The other keeps its memory. It takes none.
+    pub fn append(&mut self, other: &mut Reserved<T>)
+    where
+        T: Drop,
+        requires { length other.old.items ≤ self.old.spare }
+        ensures items { self.new.items ≡ self.old.items ++ other.old.items }
+        ensures empty { other.new.items ≡ [] }
+        ensures spare { length other.old.items + other.old.spare ≤ other.new.spare }
+    {
+        match self.items.append(&mut other.items) {
             Ok(()) => {}
             Err(_) => unreachable!(),
         }

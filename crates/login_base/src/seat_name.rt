@@ -31,20 +31,20 @@ pub struct SeatName {
 
 impl Model for SeatName {
     ghost use Rattle.std.specs.Prelude.{List, ℕ, length, take, replicate, ◌++◌, ◌-◌};
-    ghost use Rattle.login_base.specs.Kept.{Kept, length_of_kept, padded_kept};
+    ghost use Rattle.login_base.specs.Padded.{IsPadded, length_of_name, padded_again};
 
     ghost Value = { List ℕ };
 
     ghost view = { λ s. take s.size s.bytes };
 
-    ghost invariant = { λ s. Kept s.size s.bytes };
+    ghost invariant = { λ s. IsPadded s.size s.bytes };
 
     // The bytes behind the name are zero, so that equal names are equal to the byte.
     ghost inverse = { λ text. record { size = length text; bytes = text ++ replicate (255 - length text) 0 } };
 
     ghost inverse_ok = { λ s h i. record {
-      size = length_of_kept s.size s.bytes h i;
-      bytes = padded_kept s.size s.bytes h i;
+      size = length_of_name s.size s.bytes h i;
+      bytes = padded_again s.size s.bytes h i;
     } };
 }
 

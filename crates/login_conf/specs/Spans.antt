@@ -1,12 +1,11 @@
 -- Spans of time, in milliseconds.
-use Rattle.std.specs.Prelude.{ℕ, ◌+◌, ◌*◌, ◌^◌, ◌==◌, ◌&&◌, ◌||◌, not, nat_le, nat_lt, Bool, List, [], ◌∷◌, take, drop, slice_index, Option, Some, None, codes, if◌then◌else◌}
+use Rattle.std.specs.Prelude.{ℕ, ◌+◌, ◌*◌, ◌==◌, ◌&&◌, ◌||◌, not, nat_le, Bool, List, [], ◌∷◌, take, drop, slice_index, Option, Some, None, codes, if◌then◌else◌}
 use Rattle.std.specs.Option.{option_and_then, option_map}
 use Rattle.std.specs.List.{prefix_len}
 use Rattle.std.specs.Char.{is_ascii_digit}
-use Rattle.std.specs.Fmt.{decimal}
 use Rattle.std.specs.Str.{bytes_eq}
-use Rattle.std.specs.Str.Parse.{digits_value}
 use Rattle.login_base.specs.declared.ids.Millis.{Millis}
+use Rattle.login_base.specs.Number.{whole_of}
 use Rattle.login_model.specs.Limits.{span_limit}
 use Rattle.login_conf.specs.Text.{to_last}
 
@@ -16,12 +15,6 @@ most = span_limit
 
 abbrev pub within : ℕ → Option ℕ
 within n = if nat_le n most then Some n else None
-
--- the number below 2^64 whose decimal spelling the word is, without sign or leading zeros
-unfoldable pub whole_of : List ℕ → Option ℕ
-whole_of word =
-    if nat_lt (digits_value 10 word) (2 ^ 64) && bytes_eq (decimal (digits_value 10 word)) word
-    then Some (digits_value 10 word) else None
 
 -- how long a unit is; a number without one is of seconds
 abbrev pub unit_of : List ℕ → Option ℕ

@@ -1,41 +1,17 @@
 // Spans of time: numbers with units.
 
-ghost use Rattle.std.specs.Prelude.{◌≡◌, ◌≢◌, ◌≤◌, ◌<◌, ◌+◌, ◌*◌, ◌==◌, ◌↔◌, [], ◌∷◌, length, position, not, IsTrue, IfSome};
+ghost use Rattle.std.specs.Prelude.{◌≡◌, ◌≢◌, ◌≤◌, ◌<◌, ◌+◌, ◌*◌, ◌==◌, [], ◌∷◌, length, position, not, IfSome};
 ghost use Rattle.std.specs.Option.{option_map, option_and_then};
 ghost use Rattle.std.specs.List.{prefix_len};
 ghost use Rattle.std.specs.Char.{is_ascii_digit};
-ghost use Rattle.login_base.specs.Plain.{IsPlain};
-ghost use Rattle.login_conf.specs.Spans.{whole_of, unit_of, within, number_in, unit_in, part_of, begins_part, parts, span_of, span};
+ghost use Rattle.login_conf.specs.Spans.{unit_of, within, number_in, unit_in, part_of, begins_part, parts, span_of, span};
 ghost use Rattle.login_conf.specs.Text.{to_last};
 ghost use Rattle.login_conf.specs.inner.Sums.{added, sum_within};
 
-use login_base::Millis;
+use login_base::{Millis, read_whole};
 
 /// The longest span in milliseconds.
 const MOST: u64 = 4_000_000_000_000;
-
-/// Whether a word is a number without sign and leading zeros, or may be one.
-fn is_plain(word: &[u8]) -> bool
-    ensures { IsTrue result ↔ IsPlain word.now }
-{
-    !word.is_empty() && word[0] != b'+' && (word[0] != b'0' || word.len() == 1)
-}
-
-/// A number below 2^64.
-fn read_whole(word: &[u8]) -> Option<u64>
-    ensures { result ≡ whole_of word.now }
-{
-    if !is_plain(word) {
-        return None;
-    }
-    match str::from_utf8(word) {
-        Ok(text) => match text.parse::<u64>() {
-            Ok(n) => Some(n),
-            Err(_) => None,
-        },
-        Err(_) => None,
-    }
-}
 
 /// How many milliseconds a unit has. With no unit a number is one of seconds.
 fn read_unit(word: &[u8]) -> Option<u64>

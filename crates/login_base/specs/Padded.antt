@@ -3,16 +3,16 @@ use Rattle.std.specs.Prelude.{ℕ, ◌≡◌, ◌≤◌, ◌-◌, ◌++◌, true
 use Rattle.std.proofs.Common.{arith, ap, sym, ◌∙◌, length-take-le, take-append-drop}
 use Rattle.login_base.specs.Seat.{is_seat_name}
 
-pub record Kept (size : ℕ) (bytes : List ℕ) : Type 0 where
+pub record IsPadded (size : ℕ) (bytes : List ℕ) : Type 0 where
   pub fits : size ≤ 255
   pub full : length bytes ≡ 255
   pub zeros : drop size bytes ≡ replicate (255 - size) 0
   pub named : is_seat_name (take size bytes) ≡ true
 
-pub length_of_kept : (size : ℕ) (bytes : List ℕ) → Kept size bytes → length (take size bytes) ≡ size
-length_of_kept size bytes h = length-take-le size bytes (omega (arith, h.fits, h.full))
+pub length_of_name : (size : ℕ) (bytes : List ℕ) → IsPadded size bytes → length (take size bytes) ≡ size
+length_of_name size bytes h = length-take-le size bytes (omega (arith, h.fits, h.full))
 
-pub padded_kept : (size : ℕ) (bytes : List ℕ) → Kept size bytes → take size bytes ++ replicate (255 - length (take size bytes)) 0 ≡ bytes
-padded_kept size bytes h =
-    ap (λ (n : ℕ). take size bytes ++ replicate (255 - n) 0) (length_of_kept size bytes h)
+pub padded_again : (size : ℕ) (bytes : List ℕ) → IsPadded size bytes → take size bytes ++ replicate (255 - length (take size bytes)) 0 ≡ bytes
+padded_again size bytes h =
+    ap (λ (n : ℕ). take size bytes ++ replicate (255 - n) 0) (length_of_name size bytes h)
     ∙ (ap (λ (t : List ℕ). take size bytes ++ t) (sym h.zeros) ∙ take-append-drop size bytes)
