@@ -4,7 +4,7 @@ use Rattle.std.proofs.lemmas.List.{take-append-drop}
 use Rattle.bus_message.specs.declared.cutting.Pieces.{Pieces}
 use Rattle.bus_message.specs.declared.fault.Fault.{Fault}
 use Rattle.bus_message.specs.declared.message.Message.{Message}
-use Rattle.bus_message.specs.Cutting.{Front, Open, Bad, Whole, front, Cutting, open_at, bad_at, behind, cut}
+use Rattle.bus_message.specs.Cutting.{Showing, Open, Bad, Whole, front, Cutting, open_at, bad_at, behind, cut}
 use Rattle.bus_message.specs.Grammar.{AreBytes}
 use Rattle.bus_message.specs.Stream.{Begins, Leaves, IsCut}
 use Rattle.bus_message.specs.Feeding.{AreMessages}
@@ -19,7 +19,7 @@ pub record IsCutAt (place : ℕ) (bytes : List ℕ) (c : Cutting) : Type 0 where
   pub reached : c.place + length rest ≡ place + length bytes
   pub leaves : Leaves c.malformed c.place c.rest rest
 
-cut_front : (place : ℕ) (bytes : List ℕ) (f : Front) → front bytes ≡ f → AreBytes bytes
+cut_front : (place : ℕ) (bytes : List ℕ) (f : Showing) → front bytes ≡ f → AreBytes bytes
     → ((n : ℕ) (m : Message) → f ≡ Whole n m → IsCutAt (place + n) (drop n bytes) (cut_at (place + n) (drop n bytes))) → IsCutAt place bytes (cut_at place bytes)
 cut_front place bytes Open e are more =
     let there : IsCutAt place bytes (open_at place bytes) = record { rest = bytes; begins = refl; reached = refl; leaves = (e, refl) } in

@@ -8,7 +8,7 @@ use Rattle.bus_message.specs.declared.header.Header.{Header}
 use Rattle.bus_message.specs.declared.message.Message.{Message}
 use Rattle.bus_message.specs.Headers.{size, header_of}
 use Rattle.bus_message.specs.Reading.{message_of}
-use Rattle.bus_message.specs.Cutting.{Front, Open, Bad, Whole, front_read, front_by, front, Cutting, open_at, bad_at, behind, go_on, cut_from}
+use Rattle.bus_message.specs.Cutting.{Showing, Open, Bad, Whole, front_read, front_by, front, Cutting, open_at, bad_at, behind, go_on, cut_from}
 use Rattle.bus_message.specs.Outcomes.{before, cut_at}
 
 -- a test of two numbers, and what it says
@@ -102,7 +102,7 @@ front-append bytes more =
           ∙ e ∙ sym (front-by bytes less))
     ])
 
-go_on_same : (place : ℕ) (bytes : List ℕ) (f : Front) (g h : ℕ → List ℕ → Cutting)
+go_on_same : (place : ℕ) (bytes : List ℕ) (f : Showing) (g h : ℕ → List ℕ → Cutting)
     → ((n : ℕ) (m : Message) → f ≡ Whole n m → g (place + n) (drop n bytes) ≡ h (place + n) (drop n bytes))
     → go_on place bytes f g ≡ go_on place bytes f h
 go_on_same place bytes Open g h same = refl
@@ -136,14 +136,14 @@ cut_step place bytes =
     enough (length bytes) (length (drop n bytes)) (place + n) (drop n bytes) (omega (arith, l)) (omega arith))
 
 pub cut_open : (place : ℕ) (bytes : List ℕ) → front bytes ≡ Open → cut_at place bytes ≡ open_at place bytes
-cut_open place bytes e = cut_step place bytes ∙ ap (λ (f : Front). go_on place bytes f cut_at) e
+cut_open place bytes e = cut_step place bytes ∙ ap (λ (f : Showing). go_on place bytes f cut_at) e
 
 pub cut_bad : (place : ℕ) (bytes : List ℕ) (x : Fault) → front bytes ≡ Bad x → cut_at place bytes ≡ bad_at place x
-cut_bad place bytes x e = cut_step place bytes ∙ ap (λ (f : Front). go_on place bytes f cut_at) e
+cut_bad place bytes x e = cut_step place bytes ∙ ap (λ (f : Showing). go_on place bytes f cut_at) e
 
 pub cut_whole : (place : ℕ) (bytes : List ℕ) (n : ℕ) (m : Message) → front bytes ≡ Whole n m
     → cut_at place bytes ≡ behind m (cut_at (place + n) (drop n bytes))
-cut_whole place bytes n m e = cut_step place bytes ∙ ap (λ (f : Front). go_on place bytes f cut_at) e
+cut_whole place bytes n m e = cut_step place bytes ∙ ap (λ (f : Showing). go_on place bytes f cut_at) e
 
 -- a stream that was cut, and then more bytes
 abbrev pub onward : Option Malformed → Cutting → List ℕ → Cutting
@@ -164,7 +164,7 @@ resume_behind m c more = ap (before (m ∷ c.messages)) (sym (onward_behind c.ma
 open_appended : (place : ℕ) (bytes more : List ℕ) → front bytes ≡ Open → cut_at place (bytes ++ more) ≡ resume (cut_at place bytes) more
 open_appended place bytes more e = sym (ap (λ (c : Cutting). resume c more) (cut_open place bytes e))
 
-front_appended : (place : ℕ) (bytes more : List ℕ) (f : Front) → front bytes ≡ f → (front bytes ≡ Open) ⊎ (front (bytes ++ more) ≡ front bytes)
+front_appended : (place : ℕ) (bytes more : List ℕ) (f : Showing) → front bytes ≡ f → (front bytes ≡ Open) ⊎ (front (bytes ++ more) ≡ front bytes)
     → ((n : ℕ) (m : Message) → f ≡ Whole n m → cut_at (place + n) (drop n bytes ++ more) ≡ resume (cut_at (place + n) (drop n bytes)) more)
     → cut_at place (bytes ++ more) ≡ resume (cut_at place bytes) more
 front_appended place bytes more f e (inl o) ih = open_appended place bytes more o

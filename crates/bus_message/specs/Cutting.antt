@@ -9,21 +9,21 @@ use Rattle.bus_message.specs.Headers.{size, header_of}
 use Rattle.bus_message.specs.Reading.{message_of}
 
 -- what the first bytes of a stream show: nothing yet; a message that is not one; or a whole one of so many bytes
-pub data Front : Type 0 where
-  Open : Front
-  Bad : Fault → Front
-  Whole : (count : ℕ) → Message → Front
+pub data Showing : Type 0 where
+  Open : Showing
+  Bad : Fault → Showing
+  Whole : (count : ℕ) → Message → Showing
 
-abbrev pub front_read : ℕ → Result Message Fault → Front
+abbrev pub front_read : ℕ → Result Message Fault → Showing
 front_read count (Ok m) = Whole count m
 front_read count (Err e) = Bad e
 
 -- the faults of the first 16 bytes show as soon as these are there, all others once the message is whole
-abbrev pub front_by : List ℕ → Result Header Fault → Front
+abbrev pub front_by : List ℕ → Result Header Fault → Showing
 front_by bytes (Ok h) = if nat_lt (length bytes) (size h) then Open else front_read (size h) (message_of h (take (size h) bytes))
 front_by bytes (Err e) = Bad e
 
-unfoldable pub front : List ℕ → Front
+unfoldable pub front : List ℕ → Showing
 front bytes = if nat_lt (length bytes) 16 then Open else front_by bytes (header_of (take 16 bytes))
 
 -- the messages, the place behind them, the bytes from there on, and what is wrong there
@@ -48,7 +48,7 @@ bad_at place e = record { messages = []; place = place; rest = []; malformed = S
 abbrev pub behind : Message → Cutting → Cutting
 behind m c = record c { messages = m ∷ c.messages }
 
-abbrev pub go_on : ℕ → List ℕ → Front → (ℕ → List ℕ → Cutting) → Cutting
+abbrev pub go_on : ℕ → List ℕ → Showing → (ℕ → List ℕ → Cutting) → Cutting
 go_on place bytes Open more = open_at place bytes
 go_on place bytes (Bad e) more = bad_at place e
 go_on place bytes (Whole count m) more = behind m (more (place + count) (drop count bytes))

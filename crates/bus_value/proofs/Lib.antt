@@ -25,6 +25,8 @@ pub mod Lasting
 pub mod LengthLaws
 pub mod GrammarLaws
 pub mod HeldLaws
+pub mod Fronts
+pub mod Zeros
 pub mod Boundaries
 pub mod Letters
 pub mod TypedLaws

@@ -374,7 +374,7 @@ mutual
       let s : IsSound o (d + 2) t (read left o (d + 1 + 1) around t) = subst (λ (m : ℕ). IsSound o m t (read left o (d + 1 + 1) around t)) two (value_sound left o (d + 1 + 1) around t) in
       pair_sound o around (d + 2) b t (read left o (d + 1 + 1) around t) s at bytes p at2 rest h (sym ((types_read left o (d + 1) around at bytes).1.1.1.1 b t) ∙ e)
 
-all_ended : (r : Answer (List Val)) (vs : List Val) → ended r ≡ Ok vs → (at : ℕ) × (r ≡ Ok (vs, (at, [])))
+pub all_ended : (r : Answer (List Val)) (vs : List Val) → ended r ≡ Ok vs → (at : ℕ) × (r ≡ Ok (vs, (at, [])))
 all_ended (Ok (us, (at, []))) vs e = (at, ap (λ (x : List Val). Ok (x, (at, []))) (ok_same us vs e))
 all_ended (Ok (us, (at, b ∷ bs))) vs e = cc
 all_ended (Err x) vs e = cc

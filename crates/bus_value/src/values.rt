@@ -1,6 +1,6 @@
 // Value lists.
 
-ghost use Rattle.std.specs.Prelude.{◌≡◌, ◌%◌, ◌↔◌, IfOk, IfSome, IsOk, IsTrue, Ok};
+ghost use Rattle.std.specs.Prelude.{◌≡◌, ◌%◌, ◌↔◌, IfOk, IfSome, IsOk, IsTrue, Ok, take};
 ghost use Rattle.bus_names.specs.Parsing.{signature_of};
 ghost use Rattle.bus_names.specs.Signatures.{IsWithin};
 ghost use Rattle.bus_names.specs.Types.{signature_text};
@@ -13,6 +13,7 @@ ghost use Rattle.bus_value.specs.declared.values.Held.TheVariants.{Read};
 
 use crate::fault::ValueFault;
 use crate::order::Order;
+use crate::reader::Reader;
 use crate::reading::make_values;
 use crate::value::Value;
 use crate::writing::write_each;
@@ -60,6 +61,21 @@ impl Model for Values {
 }
 
 impl Spelled {
+    /// The first of the values that the bytes spell. What stands behind them is not looked at.
+    fn front(&self, alloc: Global, count: usize) -> Result<Items<Value>, NoMemory>
+        requires { IsOk (read_in self.now) }
+        ensures { IfOk result (λ values. values ≡ take count (values_in (read_in self.now))) }
+    {
+        let kinds = self.types.types();
+        let reader = Reader::new(alloc, self.order, self.start);
+        let first = &kinds[..count.min(kinds.len())];
+        match reader.values(first, self.bytes.as_slice(), 0) {
+            Ok((values, _)) => Ok(values),
+            Err(ValueFault::NoMemory) => Err(NoMemory),
+            Err(_) => unreachable!(),
+        }
+    }
+
     /// The values that the bytes spell.
     fn values(&self, alloc: Global) -> Result<Items<Value>, NoMemory>
         requires { IsOk (read_in self.now) }
@@ -197,13 +213,17 @@ impl Values {
         }
     }
 
-    /// The values as trees, which are made where only their bytes are kept.
-    pub fn listed(&self, alloc: Global) -> Result<Listed<'_>, NoMemory>
-        ensures { IfOk result (λ values. listed values ≡ self.now) }
+    /// The first of the values as trees, or all where there are fewer. Where only their bytes are kept, these trees are
+    /// made, and no others.
+    pub fn front(&self, alloc: Global, count: usize) -> Result<Listed<'_>, NoMemory>
+        ensures { IfOk result (λ values. listed values ≡ take count self.now) }
     {
         match &self.held {
-            Held::Made(values) => Ok(Listed::There(values.as_slice())),
-            Held::Read(spelled) => Ok(Listed::Made(spelled.values(alloc)?)),
+            Held::Made(values) => {
+                let values = values.as_slice();
+                Ok(Listed::There(&values[..count.min(values.len())]))
+            }
+            Held::Read(spelled) => Ok(Listed::Made(spelled.front(alloc, count)?)),
         }
     }
 

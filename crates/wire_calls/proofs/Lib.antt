@@ -6,3 +6,4 @@ pub mod SentCalls
 pub mod Standing
 pub mod Naming
 pub mod PropertyPaths
+pub mod KeptArguments

@@ -6,7 +6,7 @@ ghost use Rattle.wire_calls.specs.Calls.{creation_of, inhibition_of, manager_cal
 use crate::arguments::{flag_at, four_texts, number_at, signed_at, text_at, two_texts};
 use bus_value::Value;
 use login_base::{NoMemory, Uid};
-use login_model::{Call, Creation, Inhibition, OpKind};
+use login_model::{Boxed, Call, Creation, Inhibition, OpKind};
 use std::alloc::Global;
 
 /// A method of the manager (org.freedesktop.login1(5), "The Manager Object").
@@ -227,7 +227,9 @@ pub(crate) fn manager_call(
     ensures { IfOk result (λ call. call ≡ manager_call method values.now) }
 {
     Ok(match method {
-        ManagerMethod::CreateSession => Call::Create(creation(alloc, values)?),
+        ManagerMethod::CreateSession => {
+            Call::Create(Boxed::new(alloc, creation(alloc, values)?)?)
+        }
         ManagerMethod::GetSession => Call::GetSession(text_at(alloc, values, 0)?),
         ManagerMethod::GetUser => Call::GetUser(Uid(number_at(values, 0))),
         ManagerMethod::GetSeat => Call::GetSeat(text_at(alloc, values, 0)?),

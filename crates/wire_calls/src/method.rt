@@ -4,6 +4,7 @@ ghost use Rattle.std.specs.Prelude.{◌≡◌, IfOk};
 ghost use Rattle.std.specs.Str.{bytes_eq};
 ghost use Rattle.wire_calls.specs.Arguments.{signature_of};
 ghost use Rattle.wire_calls.specs.Calls.{call_with};
+ghost use Rattle.wire_calls.specs.inner.Kept.{front_call};
 
 use crate::arguments::{are_short, is_short};
 use crate::bus::{BusMethod, PeerMethod, PropertiesMethod, bus_call, peer_call, properties_call};
@@ -143,6 +144,7 @@ impl AnyMethod {
     ghost use Rattle.bus_names.specs.Reading.{path_fault};
     ghost use Rattle.wire_calls.specs.Calls.{any_call, is_short_any};
     ghost use Rattle.wire_calls.specs.Methods.{signed_any};
+    ghost use Rattle.wire_calls.specs.inner.Kept.{kept};
     ghost use Rattle.wire_calls.specs.Sending.{interface_at, path_at};
 
     /// The method's name.
@@ -164,6 +166,18 @@ impl AnyMethod {
             AnyMethod::Own(method) => method.takes(),
             AnyMethod::Properties(_, method) => method.takes(),
             AnyMethod::Peer(method) => method.takes(),
+        }
+    }
+
+    /// How many of its arguments the call is made of. The further properties of a session and the value that would be set
+    /// stand behind these.
+    fn kept(&self) -> usize
+        ensures { result ≡ kept self.now }
+    {
+        match self {
+            AnyMethod::Own(Method::Manager(ManagerMethod::CreateSession)) => 13,
+            AnyMethod::Properties(_, PropertiesMethod::Set) => 2,
+            _ => self.takes().len(),
         }
     }
 
@@ -214,7 +228,18 @@ fn is_of(alloc: Global, body: &Values, takes: &[u8]) -> Result<bool, NoMemory>
     Ok(body.letters(alloc)?.as_slice() == takes)
 }
 
-/// The call that a method is with any arguments. No values are made for those of another signature.
+/// The call that a method is with the arguments in front that it keeps.
+fn front_call(alloc: Global, method: AnyMethod, values: &[Value]) -> Result<Call, NoMemory>
+    ensures { IfOk result (λ call. call ≡ front_call method values.now) }
+{
+    if !method.is_short() || !are_short(values) {
+        return Ok(Call::BadArguments);
+    }
+    method.call(alloc, values)
+}
+
+/// The call that a method is with any arguments. No values are made for those of another signature, nor of those that the
+/// call does not keep.
 #[tactic(auto, unfolding(crate::specs::Calls::call_with))]
 pub(crate) fn call_with(alloc: Global, method: AnyMethod, body: &Values) -> Result<Call, NoMemory>
     ensures { IfOk result (λ call. call ≡ call_with method body.now) }
@@ -222,9 +247,6 @@ pub(crate) fn call_with(alloc: Global, method: AnyMethod, body: &Values) -> Resu
     if !is_of(alloc, body, method.takes())? {
         return Ok(Call::BadArguments);
     }
-    let values = body.listed(alloc)?;
-    if !method.is_short() || !are_short(values.as_slice()) {
-        return Ok(Call::BadArguments);
-    }
-    method.call(alloc, values.as_slice())
+    let values = body.front(alloc, method.kept())?;
+    front_call(alloc, method, values.as_slice())
 }

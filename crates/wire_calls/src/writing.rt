@@ -264,7 +264,7 @@ fn arguments_of(alloc: Global, call: &Call) -> Result<Vec<Value>, NoMemory>
     ensures { IfOk result (λ values. values.items ≡ arguments_of call.now) }
 {
     match call {
-        Call::Create(x) => creation_values(alloc, x),
+        Call::Create(x) => creation_values(alloc, x.get()),
         Call::GetSession(id) => alone(alloc, text(id)?),
         Call::GetUser(uid) => alone(alloc, number(uid.0)),
         Call::GetSeat(seat) => alone(alloc, text(seat)?),

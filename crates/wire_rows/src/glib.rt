@@ -494,7 +494,7 @@ pub const STANDARD: &[Case] = &[
     },
 ];
 
-/// Arguments of another signature, and texts at the limit and beyond it.
+/// Arguments of another signature, texts at the limit and beyond it, and arguments that no call keeps.
 pub const ARGUMENTS: &[Case] = &[
     Case {
         bytes: b"l\x01\0\x01\0\0\0\0\x07\0\0\0[\0\0\0\x01\x01o\0\x17\0\0\0/org/freedesktop/login1\0\x02\x01s\0\x1e\0\0\0org.freedesktop.login1.Manager\0\0\x03\x01s\0\x0a\0\0\0GetSession\0\0\0\0\0\0",
@@ -571,6 +571,14 @@ pub const ARGUMENTS: &[Case] = &[
     Case {
         bytes: b"l\x01\0\x01=\x05\0\0\x07\0\0\0v\0\0\0\x01\x01o\0\x17\0\0\0/org/freedesktop/login1\0\x02\x01s\0\x1e\0\0\0org.freedesktop.login1.Manager\0\0\x08\x01g\0\x12uusssssussbssa(sv)\0\x03\x01s\0\x0d\0\0\0CreateSession\0\0\0\xe8\x03\0\0\0\0\0\0\x05\0\0\0login\0\0\0\x03\0\0\0tty\0\x04\0\0\0user\0\0\0\0\x05\0\0\0GNOME\0\0\0\x05\0\0\0seat0\0\0\0\x02\0\0\0\x09\0\0\0/dev/tty2\0\0\0\x02\0\0\0:0\0\0\x01\0\0\0\x04\0\0\0root\0\0\0\0\x04\0\0\0host\0\0\0\0\xbd\x04\0\0\0\0\0\0X\x02\0\0xxxxxxxxxxxxxxxxxxxxxxxxxxxxxxxxxxxxxxxxxxxxxxxxxxxxxxxxxxxxxxxxxxxxxxxxxxxxxxxxxxxxxxxxxxxxxxxxxxxxxxxxxxxxxxxxxxxxxxxxxxxxxxxxxxxxxxxxxxxxxxxxxxxxxxxxxxxxxxxxxxxxxxxxxxxxxxxxxxxxxxxxxxxxxxxxxxxxxxxxxxxxxxxxxxxxxxxxxxxxxxxxxxxxxxxxxxxxxxxxxxxxxxxxxxxxxxxxxxxxxxxxxxxxxxxxxxxxxxxxxxxxxxxxxxxxxxxxxxxxxxxxxxxxxxxxxxxxxxxxxxxxxxxxxxxxxxxxxxxxxxxxxxxxxxxxxxxxxxxxxxxxxxxxxxxxxxxxxxxxxxxxxxxxxxxxxxxxxxxxxxxxxxxxxxxxxxxxxxxxxxxxxxxxxxxxxxxxxxxxxxxxxxxxxxxxxxxxxxxxxxxxxxxxxxxxxxxxxxxxxxxxxxxxxxxxxxxxxxxxxxxxxxxxxxxxxxxxxxxxxxxxxxxxxxxxxxxxxxxxxxxxxxxxxxxxxxxxxxxxxxxxxxxxxxxxxxxxxxxxxxxxxxxxxxxxxxxxxxxx\0\x01s\0X\x02\0\0yyyyyyyyyyyyyyyyyyyyyyyyyyyyyyyyyyyyyyyyyyyyyyyyyyyyyyyyyyyyyyyyyyyyyyyyyyyyyyyyyyyyyyyyyyyyyyyyyyyyyyyyyyyyyyyyyyyyyyyyyyyyyyyyyyyyyyyyyyyyyyyyyyyyyyyyyyyyyyyyyyyyyyyyyyyyyyyyyyyyyyyyyyyyyyyyyyyyyyyyyyyyyyyyyyyyyyyyyyyyyyyyyyyyyyyyyyyyyyyyyyyyyyyyyyyyyyyyyyyyyyyyyyyyyyyyyyyyyyyyyyyyyyyyyyyyyyyyyyyyyyyyyyyyyyyyyyyyyyyyyyyyyyyyyyyyyyyyyyyyyyyyyyyyyyyyyyyyyyyyyyyyyyyyyyyyyyyyyyyyyyyyyyyyyyyyyyyyyyyyyyyyyyyyyyyyyyyyyyyyyyyyyyyyyyyyyyyyyyyyyyyyyyyyyyyyyyyyyyyyyyyyyyyyyyyyyyyyyyyyyyyyyyyyyyyyyyyyyyyyyyyyyyyyyyyyyyyyyyyyyyyyyyyyyyyyyyyyyyyyyyyyyyyyyyyyyyyyyyyyyyyyyyyyyyyyyyyyyyyyyyyyyyyyyyyyyyyyyyyy\0",
         event: b"call 2 7 create 1000 0 login tty user GNOME seat0 2 /dev/tty2 :0 true root host",
+    },
+    Case {
+        bytes: b"l\x01\0\x01{\x01\0\0\x07\0\0\0v\0\0\0\x01\x01o\0\x17\0\0\0/org/freedesktop/login1\0\x02\x01s\0\x1e\0\0\0org.freedesktop.login1.Manager\0\0\x08\x01g\0\x12uusssssussbssa(sv)\0\x03\x01s\0\x0d\0\0\0CreateSession\0\0\0\xe8\x03\0\0\0\0\0\0\x05\0\0\0login\0\0\0\x03\0\0\0tty\0\x04\0\0\0user\0\0\0\0\x05\0\0\0GNOME\0\0\0\x05\0\0\0seat0\0\0\0\x02\0\0\0\x09\0\0\0/dev/tty2\0\0\0\x02\0\0\0:0\0\0\x01\0\0\0\x04\0\0\0root\0\0\0\0\x04\0\0\0host\0\0\0\0\xfb\0\0\0\0\0\0\0\x04\0\0\0Deep\0Ba((((((((((((((((((((((((((((((((y))))))))))))))))))))))))))))))))\0\0\0\0\x09\0\0\0\0\0\0\0\x07\0\0\0\0\0\0\0\x07\0\0\0\0\0\0\0\x05\0\0\0Empty\0\x19aaa(yyyyyyyyyyyyyyyyyyyy)\0\0\0\0\x0c\0\0\0\0\0\0\0\0\0\0\0\0\0\0\0\x05\0\0\0Boxes\0\x01v\0\x01v\0\x02as\0\x0e\0\0\0\x01\0\0\0a\0\0\0\x01\0\0\0b\0\0\0\x05\0\0\0Dicts\0\x0aaa{y(yyy)}\0\0\0\x17\0\0\0\0\0\0\0\x0b\0\0\0\0\0\0\0\x01\0\0\0\0\0\0\0\x01\x02\x03",
+        event: b"call 2 7 create 1000 0 login tty user GNOME seat0 2 /dev/tty2 :0 true root host",
+    },
+    Case {
+        bytes: b"l\x01\0\x01;\x01\0\0\x07\0\0\0t\0\0\0\x01\x01o\0\"\0\0\0/org/freedesktop/login1/session/c1\0\0\0\0\0\0\x02\x01s\0\x1f\0\0\0org.freedesktop.DBus.Properties\0\x08\x01g\0\x03ssv\0\0\0\0\0\0\0\0\x03\x01s\0\x03\0\0\0Set\0\0\0\0\0\x1e\0\0\0org.freedesktop.login1.Session\0\0\x08\0\0\0IdleHint\0\x05a(sv)\0\xfb\0\0\0\0\0\0\0\x04\0\0\0Deep\0Ba((((((((((((((((((((((((((((((((y))))))))))))))))))))))))))))))))\0\0\0\0\x09\0\0\0\0\0\0\0\x07\0\0\0\0\0\0\0\x07\0\0\0\0\0\0\0\x05\0\0\0Empty\0\x19aaa(yyyyyyyyyyyyyyyyyyyy)\0\0\0\0\x0c\0\0\0\0\0\0\0\0\0\0\0\0\0\0\0\x05\0\0\0Boxes\0\x01v\0\x01v\0\x02as\0\x0e\0\0\0\x01\0\0\0a\0\0\0\x01\0\0\0b\0\0\0\x05\0\0\0Dicts\0\x0aaa{y(yyy)}\0\0\0\x17\0\0\0\0\0\0\0\x0b\0\0\0\0\0\0\0\x01\0\0\0\0\0\0\0\x01\x02\x03",
+        event: b"call 2 7 set /org/freedesktop/login1/session/c1 org.freedesktop.login1.Session IdleHint",
     },
 ];
 

@@ -71,7 +71,7 @@ fn is_utf8(text: &[u8]) -> bool
 fn has_no_zero(text: &[u8]) -> bool
     ensures { result ≡ has_no_zero text.now }
 {
-    text.iter().all(|byte| *byte != 0)
+    !text.contains(&0)
 }
 
 /// Whether a text is UTF-8 with no zero byte.
