@@ -12,7 +12,7 @@ ghost use Rattle.login_table.specs.Stands.{Stands};
 
 use login_base::{ConnId, NoMemory};
 use login_model::{Fact, Key};
-use login_table::{CONNECTIONS, Home, Rows, Table, kind_place};
+use login_table::{CONNECTIONS, Home, Rows, Table, rank_of};
 use std::alloc::Global;
 use std::marker::Model;
 
@@ -51,8 +51,8 @@ impl Table for Controller {
         }
     }
 
-    fn part(&self, kind: u8) -> &Rows {
-        if kind == CONNECTIONS {
+    fn part(&self, rank: u8) -> &Rows {
+        if rank == CONNECTIONS {
             &self.connections
         } else {
             &self.controls
@@ -65,7 +65,7 @@ impl Table for Controller {
     }
 
     fn set(&mut self, key: Key, fact: Fact) {
-        if kind_place(&key) == CONNECTIONS {
+        if rank_of(&key) == CONNECTIONS {
             self.connections.set(key, fact);
         } else {
             self.controls.set(key, fact);

@@ -3,7 +3,7 @@ use Rattle.std.proofs.Common.{◌≡◌, ◌∙◌, false, []}
 use Rattle.login_model.specs.declared.fact.Key.{Key}
 use Rattle.login_model.specs.declared.fact.Fact.{Fact}
 use Rattle.login_model.specs.Trail.{value}
-use Rattle.login_table.specs.KeyOrder.{place}
+use Rattle.login_table.specs.KeyOrder.{rank_of}
 use Rattle.login_table.specs.Parts.{joined, is_of_kind}
 use Rattle.login_table.specs.Rows.{RowList}
 use Rattle.login_table.proofs.Parts.{Sets, joined-one, joined-other, joined-none, set-one, set-other}
@@ -13,13 +13,13 @@ abbrev pub four : RowList → RowList → RowList → RowList → RowList
 four owners lives takes awaits = joined 7 owners (joined 8 lives (joined 13 takes awaits))
 
 module _ (o l t a : RowList) (k : Key) where
-  pub of-owners : place k ≡ 7 → value (four o l t a).trail k ≡ value o.trail k
+  pub of-owners : rank_of k ≡ 7 → value (four o l t a).trail k ≡ value o.trail k
   of-owners e = joined-one 7 o (joined 8 l (joined 13 t a)) k e
 
-  pub of-lives : is_of_kind 7 k ≡ false → place k ≡ 8 → value (four o l t a).trail k ≡ value l.trail k
+  pub of-lives : is_of_kind 7 k ≡ false → rank_of k ≡ 8 → value (four o l t a).trail k ≡ value l.trail k
   of-lives m e = joined-other 7 o (joined 8 l (joined 13 t a)) k m ∙ joined-one 8 l (joined 13 t a) k e
 
-  pub of-takes : is_of_kind 7 k ≡ false → is_of_kind 8 k ≡ false → place k ≡ 13 → value (four o l t a).trail k ≡ value t.trail k
+  pub of-takes : is_of_kind 7 k ≡ false → is_of_kind 8 k ≡ false → rank_of k ≡ 13 → value (four o l t a).trail k ≡ value t.trail k
   of-takes m n e = joined-other 7 o (joined 8 l (joined 13 t a)) k m ∙ joined-other 8 l (joined 13 t a) k n ∙ joined-one 13 t a k e
 
   pub of-awaits : is_of_kind 7 k ≡ false → is_of_kind 8 k ≡ false → is_of_kind 13 k ≡ false → value (four o l t a).trail k ≡ value a.trail k
@@ -30,13 +30,13 @@ none o l t a p q r s = joined-none 7 o (joined 8 l (joined 13 t a)) p (joined-no
 
 -- a setting goes into the rows of its kind
 module _ (o l t a new : RowList) (k : Key) (x : Fact) where
-  pub set-owners : place k ≡ 7 → Sets o new k x → Sets (four o l t a) (four new l t a) k x
+  pub set-owners : rank_of k ≡ 7 → Sets o new k x → Sets (four o l t a) (four new l t a) k x
   set-owners e s = set-one 7 o new (joined 8 l (joined 13 t a)) k x e s
 
-  pub set-lives : is_of_kind 7 k ≡ false → place k ≡ 8 → Sets l new k x → Sets (four o l t a) (four o new t a) k x
+  pub set-lives : is_of_kind 7 k ≡ false → rank_of k ≡ 8 → Sets l new k x → Sets (four o l t a) (four o new t a) k x
   set-lives m e s = set-other 7 o (joined 8 l (joined 13 t a)) (joined 8 new (joined 13 t a)) k x m (set-one 8 l new (joined 13 t a) k x e s)
 
-  pub set-takes : is_of_kind 7 k ≡ false → is_of_kind 8 k ≡ false → place k ≡ 13 → Sets t new k x → Sets (four o l t a) (four o l new a) k x
+  pub set-takes : is_of_kind 7 k ≡ false → is_of_kind 8 k ≡ false → rank_of k ≡ 13 → Sets t new k x → Sets (four o l t a) (four o l new a) k x
   set-takes m n e s =
       set-other 7 o (joined 8 l (joined 13 t a)) (joined 8 l (joined 13 new a)) k x m
       (set-other 8 l (joined 13 t a) (joined 13 new a) k x n (set-one 13 t new a k x e s))

@@ -19,15 +19,15 @@ pub enum Kind {
 }
 
 impl Kind {
-    /// The kind at a place in the order of keys. All others go with the awaited pauses.
-    pub(crate) fn at(place: u8) -> Kind
-        ensures { result ≡ kind_at place }
+    /// The kind by its rank in the order of keys. All others go with the awaited pauses.
+    pub(crate) fn at(rank: u8) -> Kind
+        ensures { result ≡ kind_at rank }
     {
-        if place == OWNERS {
+        if rank == OWNERS {
             Kind::Owners
-        } else if place == LIVES {
+        } else if rank == LIVES {
             Kind::Lives
-        } else if place == TAKES {
+        } else if rank == TAKES {
             Kind::Takes
         } else {
             Kind::Awaits

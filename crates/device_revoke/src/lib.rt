@@ -15,7 +15,7 @@ mod kind;
 use crate::kind::Kind;
 use login_base::{DevNo, NoMemory, SessId};
 use login_model::{Fact, Key};
-use login_table::{Home, Rows, Table, kind_place};
+use login_table::{Home, Rows, Table, rank_of};
 use std::alloc::Global;
 use std::marker::Model;
 
@@ -58,8 +58,8 @@ impl Table for DeviceRevoke {
         }
     }
 
-    fn part(&self, kind: u8) -> &Rows {
-        match Kind::at(kind) {
+    fn part(&self, rank: u8) -> &Rows {
+        match Kind::at(rank) {
             Kind::Owners => &self.owners,
             Kind::Lives => &self.lives,
             Kind::Takes => &self.takes,
@@ -75,7 +75,7 @@ impl Table for DeviceRevoke {
     }
 
     fn set(&mut self, key: Key, fact: Fact) {
-        match Kind::at(kind_place(&key)) {
+        match Kind::at(rank_of(&key)) {
             Kind::Owners => self.owners.set(key, fact),
             Kind::Lives => self.lives.set(key, fact),
             Kind::Takes => self.takes.set(key, fact),

@@ -5,7 +5,7 @@ use Rattle.login_base.specs.declared.ids.SessId.{SessId}
 use Rattle.login_model.specs.declared.fact.Fact.{Fact}
 use Rattle.login_model.specs.declared.fact.Fact.TheVariants as fact
 use Rattle.login_model.specs.declared.fact.Key.TheVariants.{Sess, Vt}
-use Rattle.login_model.specs.Facts.{is_number, is_open_of, is_open_phase, is_on_terminal, is_seat0, is_seated_of}
+use Rattle.login_model.specs.Facts.{is_this_number, is_open_of, is_open_phase, is_on_terminal, is_seat0, is_seated_of}
 use Rattle.login_model.specs.Standing.{has_active, has_seat, is_active_of}
 use Rattle.login_model.specs.Trail.{Trail, value}
 use Rattle.login_model.specs.Where.{is_acting, is_acting_on, sessions}
@@ -44,7 +44,7 @@ active-seated : (t : Trail) (uid : ℕ) (s : SessId) (x : Fact) → (is_open_of 
 active-seated t uid s (fact.Session x) e =
     let h = both (is_open_of uid (fact.Session x)) (is_on_terminal (value t Vt) (fact.Session x) || is_acting t s (fact.Session x)) e in
     let seat : is_some x.seat ≡ true = either (is_on_terminal (value t Vt) (fact.Session x)) (is_acting t s (fact.Session x)) (is_some x.seat) h.1
-    (λ e. on-seat0 (is_open_phase x.phase) (is_number x.vt (value t Vt)) x.seat e)
+    (λ e. on-seat0 (is_open_phase x.phase) (is_this_number x.vt (value t Vt)) x.seat e)
     (λ e. on-other t s (is_open_phase x.phase) x.seat e) in
     ap (λ (b : Bool). b && is_some x.seat) h.0 ∙ seat
 active-seated t uid s _ e = cc

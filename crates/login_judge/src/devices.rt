@@ -12,7 +12,7 @@ use crate::owners::{no_such_handle, not_in_control, not_yours};
 use crate::places::{no_seat, no_such_session, session_closing};
 use crate::session_calls::{NO_SESSION, first_broken};
 use login_base::{ConnId, DevNo, HandleNo, SessId};
-use login_model::{DevKind, Fact, Key, Limit, Look, Owner, Rule, Verdict};
+use login_model::{DevKind, Key, Limit, Look, Rule, Verdict};
 use login_table::{are_taken_at_least, seat_of_session};
 
 /// The most devices that a session may have taken.
@@ -111,12 +111,12 @@ fn device_wrong<F: Look>(facts: &F, kind: DevKind, device: DevNo) -> Option<Rule
 }
 
 /// A handle that is no device's is of the wrong kind.
-fn handle_wrong<F: Look>(facts: &F, kind: DevKind, fact: &Fact) -> Option<Rule>
-    ensures { result ≡ handle_wrong kind (F.trail facts.now) fact.now }
+fn handle_wrong<F: Look>(facts: &F, kind: DevKind, device: Option<DevNo>) -> Option<Rule>
+    ensures { result ≡ handle_wrong kind (F.trail facts.now) device }
 {
-    match fact {
-        Fact::Owned(Owner::Device(_, _, device)) => device_wrong(facts, kind, *device),
-        _ => Some(Rule::WrongKind),
+    match device {
+        Some(device) => device_wrong(facts, kind, device),
+        None => Some(Rule::WrongKind),
     }
 }
 
@@ -188,7 +188,7 @@ pub(crate) fn judge_handle<F: Look>(
     first_broken(&[
         no_such_handle(facts, handle),
         not_yours(facts, who, handle),
-        handle_wrong(facts, kind, facts.fact(&Key::Owner(handle))),
+        handle_wrong(facts, kind, facts.fact(&Key::Owner(handle)).handle_device()),
         not_live(facts, handle),
     ])
 }

@@ -90,7 +90,7 @@ pub(crate) fn control_rule<F: Look>(
 pub(crate) fn not_in_control<F: Look>(facts: &F, who: ConnId, session: SessId) -> Option<Rule>
     ensures { result ≡ not_in_control (F.trail facts.now) who session }
 {
-    let controls = facts.fact(&Key::Ctl(session)).is_controlled_by(who);
+    let controls = facts.fact(&Key::Ctl(session)).is_controller(who);
     broken_if(!controls, Rule::NotInControl)
 }
 
@@ -128,7 +128,7 @@ pub(crate) fn no_such_handle<F: Look>(facts: &F, handle: HandleNo) -> Option<Rul
     ensures { result ≡ no_such_handle (F.trail facts.now) handle }
 {
     broken_if(
-        !facts.fact(&Key::Owner(handle)).is_held(),
+        !facts.fact(&Key::Owner(handle)).is_owned(),
         Rule::NoSuchHandle,
     )
 }

@@ -106,7 +106,7 @@ fn judge_call<F: Look>(facts: &F, setup: &Setup, who: ConnId, call: &Call) -> Ve
 {
     let session = call.session();
     match call {
-        Call::Create(creation) => judge_create(facts, setup, who, creation),
+        Call::Create(creation) => judge_create(facts, setup, who, creation.get()),
         Call::GetSession(_) => judge_only(facts, session),
         Call::GetUser(uid) => first_broken(&[absent_user(facts, uid.0)]),
         Call::GetSeat(seat) => first_broken(&[no_such_seat(facts, seat.as_slice())]),

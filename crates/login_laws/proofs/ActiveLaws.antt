@@ -5,7 +5,7 @@ use Rattle.login_base.specs.declared.ids.SessId.{SessId}
 use Rattle.login_model.specs.Start.{seat0}
 use Rattle.login_model.specs.Trail.{Trail, value}
 use Rattle.login_model.specs.Fresh.{is_open_fact, is_open_phase}
-use Rattle.login_model.specs.Where.{acting, active_on, current_vt, is_acting, is_acting_fact, is_acting_on, is_active, is_on_terminal, is_open, number_in, seat_in_fact, session_on}
+use Rattle.login_model.specs.Where.{acting, active_on, current_vt, is_acting, is_acting_fact, is_acting_on, is_active, is_on_terminal, is_open, number_or_zero, seat_in_fact, session_on}
 use Rattle.login_laws.specs.Shapes.{is_number_fact}
 use Rattle.login_model.specs.declared.fact.Key.TheVariants.{Act, Sess, Vt}
 use Rattle.login_model.specs.declared.fact.Fact.{Fact}
@@ -72,7 +72,7 @@ active-is t s (inr a) = or-right (is_on_terminal (value t Vt) (value t (Sess s))
 
 -- ---- the active session of seat0
 
-number-of : (x : Fact) → is_number_fact x ≡ true → x ≡ Number (number_in x)
+number-of : (x : Fact) → is_number_fact x ≡ true → x ≡ Number (number_or_zero x)
 number-of (Number n) e = refl
 number-of _ e = cc
 

@@ -8,7 +8,7 @@ use Rattle.login_base.specs.Seat.{is_seat_name}
 use Rattle.login_model.specs.Start.{seat0}
 use Rattle.login_model.specs.Trail.{Trail, value, put, tell_all}
 use Rattle.login_model.specs.Fresh.{fresh_handle, fresh_session, is_open_fact, next_handle, next_session}
-use Rattle.login_model.specs.Where.{active_on, is_active, is_seat, is_seat0, is_connected_fact, is_session_fact, is_user_in, seat_in_fact, session_on}
+use Rattle.login_model.specs.Where.{active_on, is_active, is_seat, is_seat0, is_connected_fact, is_session_fact, is_session_of, seat_in_fact, session_on}
 use Rattle.login_model.specs.Policy.{fits_creation, fits_seat, is_class, is_seat_or_none, is_type, is_vt, no_such_seat_of, vt_busy, vt_busy_on}
 use Rattle.login_model.specs.Full.{is_controlled_fact}
 use Rattle.login_model.specs.Procedure.{know, oust, take_seat, tell_new_user}
@@ -156,7 +156,7 @@ good-create c x t m l g =
     let Q : Facts → Type 0 = λ v. (Staying v x.uid → v (key.User x.uid) ≡ fact.Known) × (v (key.User x.uid) ≡ fact.Known → Staying v x.uid) × (v (key.Sess s) ≡ fact.Session y) in
     let q : Q (value t4) = subst Q (sym path4) (
       (λ z. upd-same (key.User x.uid) fact.Known (value t)),
-      (λ z. inl (s, ap is_session_fact (upd-same (key.Sess s) (fact.Session y) f), ap (is_user_in x.uid.0) (upd-same (key.Sess s) (fact.Session y) f) ∙ same-refl x.uid.0)),
+      (λ z. inl (s, ap is_session_fact (upd-same (key.Sess s) (fact.Session y) f), ap (is_session_of x.uid.0) (upd-same (key.Sess s) (fact.Session y) f) ∙ same-refl x.uid.0)),
       upd-same (key.Sess s) (fact.Session y) f,
     ) in
     let b = good-all x.uid t4 q.0 q.1 a in

@@ -25,7 +25,7 @@ use Rattle.login_model.specs.Facts.{is_number_fact}
 use Rattle.login_model.specs.Switching.{arrive, ask_getty, ask_switch, await_device, await_devices, await_handle, complete, move_to, request, settle_switch, tell_change, unawait_devices, withdraw_switch}
 use Rattle.login_model.specs.Creating.{appear_on, create, created_session, seat_of}
 use Rattle.login_model.specs.Turning.{next_around, open_on, open_terminals, previous_around, turn_to_next, turn_to_previous, vt_in}
-use Rattle.login_model.specs.Direct.{activate, activate_on, close, close_handle, close_owned, control, control_from, controlled_by, direct_call, end_sessions, exit, happen, is_this_handle, kept_open_by, leave_known, linger, lock_session, locks_of, overdue, owner_of, press, tick, unlock, unlock_session, direct, disconnect}
+use Rattle.login_model.specs.Direct.{activate, activate_on, close, close_handle, close_owned, control, control_from, controlled_by, direct_call, end_sessions, exit, happen, is_this_handle, kept_open_by, leave_known, linger, lock_session, locks_of, overdue, user_or_root, press, tick, unlock, unlock_session, direct, disconnect}
 use Rattle.login_model.specs.Words.{whom_of}
 use Rattle.login_model.specs.Settle.{settle}
 use Rattle.login_model.specs.declared.call.Call.{Call}
@@ -481,7 +481,7 @@ ends-carried r k c t =
 pub exit-carried : (r : Carried) (U : Setup) (s : SessId) (t : Trail) → r.R t (exit U s t)
 unfolding exit
 exit-carried r U s t =
-    let u = owner_of (value t (key.Sess s)) in
+    let u = user_or_root (value t (key.Sess s)) in
     let a = set_phase s Gone (shut s t) in
     let b = tell_all (notice.SessionRemoved s) a in
     r.trans t b (leave U u b) (r.trans t a b (r.gone s t (shut s t) (shut-carried r s t)) (r.say All (notice.SessionRemoved s) a)) (leave-carried r U u b)

@@ -7,7 +7,7 @@ use Rattle.login_model.specs.Same.{same_key}
 use Rattle.login_model.specs.Start.{seat0}
 use Rattle.login_model.specs.Trail.{Trail, value, put}
 use Rattle.login_model.specs.Fresh.{is_open_fact, is_open_phase}
-use Rattle.login_model.specs.Where.{is_active, is_number, is_on_terminal, is_open, is_seat0, is_session_fact, is_user_in, seat_in_fact, seat_of_session}
+use Rattle.login_model.specs.Where.{is_active, is_this_number, is_on_terminal, is_open, is_seat0, is_session_fact, is_session_of, seat_in_fact, seat_of_session}
 use Rattle.login_model.specs.Procedure.{each, if_some, in_phase, leave_seat, release, set_phase, shut, vacate}
 use Rattle.login_model.specs.declared.mark.Notice.{Notice}
 use Rattle.login_model.specs.declared.mark.Notice.TheVariants as notice
@@ -54,7 +54,7 @@ pub record Shut (out : Exempt) (s : SessId) (t u : Trail) : Type 0 where
   pub others : (r : SessId) → (s ≡ r → ⊥) → value u (key.Sess r) ≡ value t (key.Sess r)
   pub controls : (r : SessId) (c : ConnId) → value u (key.Ctl r) ≡ fact.Controller c → value t (key.Ctl r) ≡ fact.Controller c
   pub there : is_session_fact (value u (key.Sess s)) ≡ is_session_fact (value t (key.Sess s))
-  pub theirs : (n : ℕ) → is_user_in n (value u (key.Sess s)) ≡ is_user_in n (value t (key.Sess s))
+  pub theirs : (n : ℕ) → is_session_of n (value u (key.Sess s)) ≡ is_session_of n (value t (key.Sess s))
 
 -- what the setting of the phase leaves, after what was given back
 abbrev pub closed_in : SessId → Facts → Facts
@@ -71,7 +71,7 @@ pub not-in-front : (f : Facts) (s : SessId) (seat : List ℕ) → seat_in_fact (
 not-in-front f s seat e n a = by (f key.Vt) (f (key.Sess s)) e a where
   by : (v x : Fact) → seat_in_fact x ≡ Some seat → is_on_terminal v x ≡ true → ⊥
   by v (fact.Session x) e a =
-      let p = (both (is_open_phase x.phase && is_seat0 x.seat) (is_number x.vt v) a).0 in
+      let p = (both (is_open_phase x.phase && is_seat0 x.seat) (is_this_number x.vt v) a).0 in
       let q = (both (is_open_phase x.phase) (is_seat0 x.seat) p).1 in
       let z : bytes_eq seat seat0 ≡ true = ap is_seat0 (sym e) ∙ q in
       true-false (bytes_eq seat seat0) z n
@@ -190,7 +190,7 @@ shut-at out s t g o =
         | inr n ↦ sym (r.others q (λ z. true-false (same_key (key.Ctl s) (key.Ctl q)) (ap (λ (m : SessId). same_key (key.Ctl s) (key.Ctl m)) (sym z) ∙ same-refl s.0) n)) ∙ sym (c.ctl q) ∙ p
       ];
       there = ap is_session_fact mine ∙ closing-there (value t (key.Sess s)) o ∙ sym (open-there (value t (key.Sess s)) o);
-      theirs = λ n. ap (is_user_in n) mine ∙ phase-user Closing n (value t (key.Sess s));
+      theirs = λ n. ap (is_session_of n) mine ∙ phase-user Closing n (value t (key.Sess s));
     }
 
 shut-by : (b : Bool) (out : Exempt) (s : SessId) (t : Trail) → is_open t s ≡ b → Good out t

@@ -8,14 +8,14 @@ use Rattle.login_base.specs.declared.ids.DevNo.{DevNo}
 use Rattle.login_base.specs.declared.ids.Uid.{Uid}
 use Rattle.login_model.specs.Trail.{Trail, value, put, tell_all}
 use Rattle.login_model.specs.Fresh.{is_open_fact}
-use Rattle.login_model.specs.Where.{is_lock, is_lock_fact, is_session_fact, is_user_in, locks, open_sessions, sessions}
+use Rattle.login_model.specs.Where.{is_lock, is_lock_fact, is_session_fact, is_session_of, locks, open_sessions, sessions}
 use Rattle.login_model.specs.Names.{lock_in, lock_lt, names}
 use Rattle.login_model.specs.Facts.{holds_back}
 use Rattle.login_model.specs.declared.lock.Lock.{Lock}
 use Rattle.login_model.specs.declared.lock.LockMode.TheVariants.{Block}
 use Rattle.login_model.specs.Policy.{controls, is_controller_fact}
 use Rattle.login_model.specs.Procedure.{each, in_phase, release, shut, untake}
-use Rattle.login_model.specs.Direct.{close, close_handle, close_owned, controlled_by, disconnect, end_sessions, exit, fifo_of, is_fifo_of, is_held_by, is_this_handle, kept_open_by, locks_of, owner_of, unlock}
+use Rattle.login_model.specs.Direct.{close, close_handle, close_owned, controlled_by, disconnect, end_sessions, exit, fifo_in, is_fifo_of, is_lock_of, is_this_handle, kept_open_by, locks_of, user_or_root, unlock}
 use Rattle.login_model.specs.declared.setup.Setup.{Setup}
 use Rattle.login_model.specs.declared.session.Phase.TheVariants.{Gone}
 use Rattle.login_model.specs.declared.mark.Notice.TheVariants.{SessionRemoved}
@@ -56,7 +56,7 @@ holds-handle-closed out h f n m k w =
       shaped = shaped-put (key.Owner h) x f w.shaped refl;
       controls = w.controls;
       fifos = λ s o e. (let i = w.fifos s o e in
-          (i.0, closed-other f h (fifo_of (f (key.Sess s))) x (λ z. m s e i.0 (ap (λ (g : HandleNo). f (key.Owner g)) z ∙ i.1)) ∙ i.1, i.2));
+          (i.0, closed-other f h (fifo_in (f (key.Sess s))) x (λ z. m s e i.0 (ap (λ (g : HandleNo). f (key.Owner g)) z ∙ i.1)) ∙ i.1, i.2));
       takes = λ s d g e. (let i = w.takes s d g e in
           (i.0, i.1, i.2, i.3, i.4, i.5, i.6, closed-other f h g x (λ z. n s d (e ∙ ap fact.Handle (sym z))) ∙ i.7));
       lives = λ g e. (let i = w.lives g e in
@@ -184,18 +184,18 @@ gone-open : (x : Fact) → is_open_fact (in_phase Gone x) ≡ true → ⊥
 gone-open (fact.Session x) e = cc
 gone-open _ e = cc
 
-user-of : (n : ℕ) (x : Fact) → is_user_in n x ≡ true → (owner_of x).0 ≡ n
+user-of : (n : ℕ) (x : Fact) → is_session_of n x ≡ true → (user_or_root x).0 ≡ n
 user-of n (fact.Session x) e = same-number x.uid.0 n e
 user-of n _ e = cc
 
-of-user : (x : Fact) → is_session_fact x ≡ true → is_user_in (owner_of x).0 x ≡ true
+of-user : (x : Fact) → is_session_fact x ≡ true → is_session_of (user_or_root x).0 x ≡ true
 of-user (fact.Session x) e = same-refl x.uid.0
 of-user _ e = cc
 
 pub good-exit : (U : Setup) (s : SessId) (t : Trail) → is_session_fact (value t (key.Sess s)) ≡ true → Good none_out t → Good none_out (exit U s t)
 unfolding exit
 good-exit U s t there g =
-    let u = owner_of (value t (key.Sess s)) in
+    let u = user_or_root (value t (key.Sess s)) in
     let v = shut s t in
     let d = shut-does none_out s t g in
     let f = value v in
@@ -254,23 +254,23 @@ none-controlled c t g s e =
     (controlled_by t c) t (record { good = g; falls = λ q b z. z }) s
     (in-controlled t c s (open-there (value t (key.Sess s)) (g.holds.controls s c old).1) old) e
 
-in-kept : (t : Trail) (c : ConnId) (s : SessId) → Opened (value t) s → value t (key.Owner (fifo_of (value t (key.Sess s)))) ≡ fact.Owned (owner.Fifo c s) → IsIn s (kept_open_by t c)
+in-kept : (t : Trail) (c : ConnId) (s : SessId) → Opened (value t) s → value t (key.Owner (fifo_in (value t (key.Sess s)))) ≡ fact.Owned (owner.Fifo c s) → IsIn s (kept_open_by t c)
 unfolding kept_open_by
 in-kept t c s o e =
-    filter-keeps (λ r. is_fifo_of c (value t (key.Owner (fifo_of (value t (key.Sess r)))))) s (open_sessions t) (ap (is_fifo_of c) e ∙ same-refl c.0)
+    filter-keeps (λ r. is_fifo_of c (value t (key.Owner (fifo_in (value t (key.Sess r)))))) s (open_sessions t) (ap (is_fifo_of c) e ∙ same-refl c.0)
     (in-open_sessions t s (open-there (value t (key.Sess s)) o) o)
 
 -- no open session is kept so
 abbrev pub NoFifo : ConnId → Facts → Type 0
-NoFifo c f = (s : SessId) → Opened f s → f (key.Owner (fifo_of (f (key.Sess s)))) ≡ fact.Owned (owner.Fifo c s) → ⊥
+NoFifo c f = (s : SessId) → Opened f s → f (key.Owner (fifo_in (f (key.Sess s)))) ≡ fact.Owned (owner.Fifo c s) → ⊥
 
 none-kept : (c : ConnId) (t : Trail) → Good none_out t → NoFifo c (value (end_sessions c t))
 none-kept c t g s o e =
     let v = end_sessions c t in
     let all : ShutAll none_out t v = each-keeps (ShutAll none_out t) shut (kept_open_by t c) (λ x u i w. shut-one none_out x t u w) t (shut-all-refl none_out t g) in
     let w = all.opens s o in
-    let old : value t (key.Owner (fifo_of (value t (key.Sess s)))) ≡ fact.Owned (owner.Fifo c s) =
-    sym (all.keeps.facts (key.Owner (fifo_of (value t (key.Sess s)))) refl) ∙ ap (λ (x : Fact). value v (key.Owner (fifo_of x))) (sym w.1) ∙ e in
+    let old : value t (key.Owner (fifo_in (value t (key.Sess s)))) ≡ fact.Owned (owner.Fifo c s) =
+    sym (all.keeps.facts (key.Owner (fifo_in (value t (key.Sess s)))) refl) ∙ ap (λ (x : Fact). value v (key.Owner (fifo_in x))) (sym w.1) ∙ e in
     each-does (ShutAll none_out t) (λ x u. Opened (value u) x → ⊥) shut
     (λ x u k. shut-one none_out x t u k)
     (λ x u k. (shut-does none_out x u k.good).closed)
@@ -304,7 +304,7 @@ unlocked c t g = each-keeps (Unlocked t) (λ l u. put (key.Lock l) fact.Absent u
 in-locks_of : (t : Trail) (c : ConnId) (l : LockNo) (x : Lock) → value t (key.Lock l) ≡ fact.Lock x → c ≡ x.holder → IsIn l (locks_of t c)
 unfolding locks_of locks
 in-locks_of t c l x e q =
-    filter-keeps (λ r. is_held_by c (value t (key.Lock r))) l (locks t) (ap (is_held_by c) e ∙ ap (λ (b : ConnId). x.holder.0 == b.0) q ∙ same-refl x.holder.0)
+    filter-keeps (λ r. is_lock_of c (value t (key.Lock r))) l (locks t) (ap (is_lock_of c) e ∙ ap (λ (b : ConnId). x.holder.0 == b.0) q ∙ same-refl x.holder.0)
     (filter-keeps (is_lock t) l (names lock_lt lock_in t) (ap is_lock_fact e) ((locks-enumerated t).complete l (ap is_lock_fact e)))
 
 -- none of its locks stands
@@ -330,7 +330,7 @@ good-disconnect c t g =
     (holds-unlinked none_out c (value t3)
     (λ s e. none-controlled c t g s (all.controls s c (sym (k (key.Ctl s) refl) ∙ e)))
     (λ s o x i z. none-kept c t1 a.good s (ap is_open_fact (sym (k (key.Sess s) refl)) ∙ o)
-    (ap (λ (y : Fact). value t2 (key.Owner (fifo_of y))) (sym (k (key.Sess s) refl)) ∙ sym (k (key.Owner (fifo_of (value t3 (key.Sess s)))) refl) ∙ i.1 ∙ ap (λ (b : ConnId). fact.Owned (owner.Fifo b s)) (sym z)))
+    (ap (λ (y : Fact). value t2 (key.Owner (fifo_in y))) (sym (k (key.Sess s) refl)) ∙ sym (k (key.Owner (fifo_in (value t3 (key.Sess s)))) refl) ∙ i.1 ∙ ap (λ (b : ConnId). fact.Owned (owner.Fifo b s)) (sym z)))
     (none-locked c t2 all.good)
     w.good.holds)
     (unused-start (key.Conn c) t3 tt w.good.unused)

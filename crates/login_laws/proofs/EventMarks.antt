@@ -9,7 +9,7 @@ use Rattle.login_base.specs.SessionId.{session_of}
 use Rattle.login_model.specs.Names.{conn_lt, device_lt, lock_lt, session_lt}
 use Rattle.login_model.specs.Start.{seat0}
 use Rattle.login_model.specs.Trail.{Trail, put, tell_all, value}
-use Rattle.login_model.specs.Where.{active_on, connections, is_active, is_seat, is_set, now, is_connected, is_connected_fact, is_lock, is_lock_fact, is_on_seat, is_open, is_session, is_session_fact, is_user_in, locks, open_sessions, sessions, sessions_of, sessions_on, users}
+use Rattle.login_model.specs.Where.{active_on, connections, is_active, is_seat, is_set, now, is_connected, is_connected_fact, is_lock, is_lock_fact, is_on_seat, is_open, is_session, is_session_fact, is_session_of, locks, open_sessions, sessions, sessions_of, sessions_on, users}
 use Rattle.login_model.specs.Fresh.{is_open_fact, next_handle, next_lock, next_session}
 use Rattle.login_model.specs.Devices.{is_handle_fact, is_taken, taken_devices}
 use Rattle.login_model.specs.Full.{controlled_sessions, is_controlled_fact, taken_by, taken_count}
@@ -435,7 +435,7 @@ step-create c x t w l =
 
 shut-of : (uid : ℕ) (t : Trail) → Within (3 * taken_count t + 4 * length (sessions t)) t (each shut (sessions_of t uid) t)
 unfolding sessions_of
-shut-of uid t = shut-some (λ s. is_user_in uid (value t (key.Sess s))) t
+shut-of uid t = shut-some (λ s. is_session_of uid (value t (key.Sess s))) t
 
 -- one mark for each of some of the sessions
 some-within : (f : SessId → Trail → Trail) → ((s : SessId) (u : Trail) → Within 1 u (f s u)) → (p : SessId → Bool) (t : Trail) → Within (length (sessions t)) t (each f (filter p (sessions t)) t)
@@ -450,7 +450,7 @@ open-within f step t = some-within f step (is_open t) t
 
 of-within : (f : SessId → Trail → Trail) → ((s : SessId) (u : Trail) → Within 1 u (f s u)) → (uid : ℕ) (t : Trail) → Within (length (sessions t)) t (each f (sessions_of t uid) t)
 unfolding sessions_of
-of-within f step uid t = some-within f step (λ s. is_user_in uid (value t (key.Sess s))) t
+of-within f step uid t = some-within f step (λ s. is_session_of uid (value t (key.Sess s))) t
 
 signal-within : (who : KillWhom) (n : ℤ) (s : SessId) (t : Trail) → Within 1 t (put (key.Sig s) (fact.Signal who n) t)
 signal-within who n s t = plain-within (key.Sig s) (fact.Signal who n) t refl

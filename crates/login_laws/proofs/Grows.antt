@@ -6,10 +6,8 @@ use Rattle.login_base.specs.declared.ids.DevNo.{DevNo}
 use Rattle.login_base.specs.declared.ids.HandleNo.{HandleNo}
 use Rattle.login_model.specs.Same.{same_fact}
 use Rattle.login_model.specs.Trail.{Trail, put, tell_all, value}
-use Rattle.login_model.specs.Procedure.{each, force, force_handle, forget, if_some, in_phase, kill, know, leave, leave_seat, release, resume, resume_handle, revoke, set_phase, shut, take_seat, tell_controller, tell_new_user, untake, vacate, yes}
-use Rattle.login_model.specs.Switching.{await_devices, await_handle, unawait_devices}
+use Rattle.login_model.specs.Procedure.{each, force, forget, if_some, in_phase, kill, know, leave, leave_seat, release, resume, revoke, set_phase, shut, take_seat, tell_controller, untake, vacate, yes}
 use Rattle.login_model.specs.Creating.{appear_on}
-use Rattle.login_model.specs.Settle.{settle}
 use Rattle.login_model.specs.Taking.{appear_seat, enliven, lose_seat}
 use Rattle.login_model.specs.declared.hardware.DevKind.{DevKind}
 use Rattle.login_model.specs.declared.mark.Whom.{Whom}
@@ -23,7 +21,7 @@ use Rattle.login_model.specs.declared.fact.Key.{Key}
 use Rattle.login_model.specs.declared.fact.Key.TheVariants as key
 use Rattle.login_model.specs.declared.fact.Fact.{Fact}
 use Rattle.login_model.specs.declared.fact.Fact.TheVariants as fact
-use Rattle.login_laws.proofs.Carried.{Carried, Operated, Switched, appear_on-carried, appear_seat-carried, await_devices-carried, await_handle-carried, enliven-carried, force-carried, force_handle-carried, forget-carried, kill-carried, know-carried, leave-carried, leave_seat-carried, lose_seat-carried, release-carried, resume-carried, resume_handle-carried, revoke-carried, settle-carried, shut-carried, take_seat-carried, tell_new_user-carried, unawait_devices-carried, untake-carried, vacate-carried}
+use Rattle.login_laws.proofs.Carried.{Carried, Operated, Switched, appear_on-carried, appear_seat-carried, enliven-carried, force-carried, forget-carried, kill-carried, know-carried, leave-carried, leave_seat-carried, lose_seat-carried, release-carried, resume-carried, revoke-carried, shut-carried, take_seat-carried, untake-carried, vacate-carried}
 
 -- at least as many marks as before
 abbrev pub Grows : Trail → Trail → Type 0
@@ -72,7 +70,8 @@ if_some-grows f step (Some x) t = step x t
 pub say-grows : (w : Whom) (n : Notice) (t : Trail) → Grows t (Say w n ∷ t)
 say-grows w n t = omega arith
 
--- growing is carried along all procedures; what tactics are told of them has a name below
+-- growing is carried along all procedures: a law of `Carried` is cited at `grows`. Only the laws that a ruleset names
+-- have a line here, since a ruleset takes names alone
 abbrev pub grows : Carried
 grows = record {
   R = Grows;
@@ -102,14 +101,8 @@ release-grows s t = release-carried grows s t
 pub revoke-grows : (s : SessId) (d : DevNo) (t : Trail) → Grows t (revoke s d t)
 revoke-grows s d t = revoke-carried grows s d t
 
-pub force_handle-grows : (s : SessId) (d : DevNo) (x : Fact) (t : Trail) → Grows t (force_handle s d x t)
-force_handle-grows s d x t = force_handle-carried grows s d x t
-
 pub force-grows : (s : SessId) (t : Trail) → Grows t (force s t)
 force-grows s t = force-carried grows s t
-
-pub resume_handle-grows : (s : SessId) (d : DevNo) (x : Fact) (t : Trail) → Grows t (resume_handle s d x t)
-resume_handle-grows s d x t = resume_handle-carried grows s d x t
 
 pub resume-grows : (s : SessId) (t : Trail) → Grows t (resume s t)
 resume-grows s t = resume-carried grows s t
@@ -129,9 +122,6 @@ shut-grows s t = shut-carried grows s t
 pub take_seat-grows : (seat : List ℕ) (s : SessId) (old : Option SessId) (t : Trail) → Grows t (take_seat seat s old t)
 take_seat-grows seat s old t = take_seat-carried grows seat s old t
 
-pub tell_new_user-grows : (u : Uid) (x : Fact) (t : Trail) → Grows t (tell_new_user u x t)
-tell_new_user-grows u x t = tell_new_user-carried grows u x t
-
 pub know-grows : (u : Uid) (t : Trail) → Grows t (know u t)
 know-grows u t = know-carried grows u t
 
@@ -140,15 +130,6 @@ forget-grows u t = forget-carried grows u t
 
 pub leave-grows : (U : Setup) (u : Uid) (t : Trail) → Grows t (leave U u t)
 leave-grows U u t = leave-carried grows U u t
-
-pub await_handle-grows : (s : SessId) (d : DevNo) (x : Fact) (t : Trail) → Grows t (await_handle s d x t)
-await_handle-grows s d x t = await_handle-carried grows grows-switched s d x t
-
-pub await_devices-grows : (s : SessId) (t : Trail) → Grows t (await_devices s t)
-await_devices-grows s t = await_devices-carried grows grows-switched s t
-
-pub unawait_devices-grows : (s : SessId) (t : Trail) → Grows t (unawait_devices s t)
-unawait_devices-grows s t = unawait_devices-carried grows s t
 
 pub appear_on-grows : (o : Option (List ℕ)) (s : SessId) (t : Trail) → Grows t (appear_on o s t)
 appear_on-grows o s t = appear_on-carried grows o s t
@@ -161,6 +142,3 @@ appear_seat-grows kind seat t = appear_seat-carried grows kind seat t
 
 pub lose_seat-grows : (x : Fact) (t : Trail) → Grows t (lose_seat x t)
 lose_seat-grows x t = lose_seat-carried grows x t
-
-pub settle-grows : (U : Setup) (t : Trail) → Grows t (settle U t)
-settle-grows U t = settle-carried grows grows-switched grows-operated U t

@@ -22,6 +22,7 @@ use Rattle.login_model.specs.declared.call.Call.TheVariants as call
 use Rattle.login_model.specs.declared.event.Event.{Event}
 use Rattle.login_model.specs.declared.event.Event.TheVariants.{Call as Calls, Hardware as Happens}
 use Rattle.login_model.specs.declared.event.Request.{Request}
+use Rattle.login_model.specs.Facts.{handle_device}
 use Rattle.login_model.specs.declared.fact.Fact.{Fact}
 use Rattle.login_model.specs.declared.fact.Fact.TheVariants as fact
 use Rattle.login_model.specs.declared.fact.Key.TheVariants as key
@@ -339,13 +340,13 @@ hearing-goes-on U before e h l k =
 -- ---- a read that is granted
 
 read-as : (U : Setup) (before : List Entry) (r : Request) (h : HandleNo) (x : Fact) → r.call ≡ call.ReadInput h → value (trail_of before) (key.Owner h) ≡ x → is_live (trail_of before) h ≡ true
-    → handle_wrong Evdev (trail_of before) x ≡ None → IsHeard U before r h
+    → handle_wrong Evdev (trail_of before) (handle_device x) ≡ None → IsHeard U before r h
 unfolding answer
 read-as U before r h (fact.Owned (owner.Device c s d)) e q l w = record {
   device = d;
   inputs = reads h d before;
   heard = ap (λ (b : Bool). cond b (read_of (value (trail_of before) (key.Owner h)) h before) None) l ∙ ap (λ (x : Fact). read_of x h before) q;
-  answered = ap (call_answer U before r.who) e ∙ ap (λ (x : Fact). Inputs (read_by x h before)) q;
+  answered = ap (call_answer U before r.who) e ∙ ap (λ (x : Fact). Inputs (read_by (handle_device x) h before)) q;
 }
 read-as U before r h _ e q l w = cc
 

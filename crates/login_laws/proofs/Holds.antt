@@ -18,9 +18,9 @@ use Rattle.login_base.specs.declared.ids.Millis.{Millis}
 use Rattle.login_model.specs.Same.{same_key}
 use Rattle.login_model.specs.Start.{seat0}
 use Rattle.login_model.specs.Fresh.{is_open_fact}
-use Rattle.login_model.specs.Where.{is_connected_fact, is_on_terminal, is_seat_fact, is_session_fact, is_set, is_user_in, moment_in, number_in, seat_in_fact}
+use Rattle.login_model.specs.Where.{is_connected_fact, is_on_terminal, is_seat_fact, is_session_fact, is_set, is_session_of, moment_or_zero, number_or_zero, seat_in_fact}
 use Rattle.login_model.specs.Policy.{is_vt}
-use Rattle.login_model.specs.Direct.{fifo_of}
+use Rattle.login_model.specs.Direct.{fifo_in}
 use Rattle.login_laws.specs.Shapes.{fits_key}
 use Rattle.login_model.specs.declared.hardware.DevKind.{DevKind}
 use Rattle.login_model.specs.declared.hardware.DevKind.TheVariants.{Drm}
@@ -47,7 +47,7 @@ Controlling f = (s : SessId) (c : ConnId) → f (key.Ctl s) ≡ fact.Controller 
 
 -- a connection keeps a session open
 abbrev pub KeptOpen : Facts → SessId → Type 0
-KeptOpen f s = (c : ConnId) × (f (key.Owner (fifo_of (f (key.Sess s)))) ≡ fact.Owned (owner.Fifo c s)) × Linked f c
+KeptOpen f s = (c : ConnId) × (f (key.Owner (fifo_in (f (key.Sess s)))) ≡ fact.Owned (owner.Fifo c s)) × Linked f c
 
 -- the sessions whose fifo may be gone, the users who may be known or not, and the seats that may be there or not,
 -- between two settings
@@ -106,10 +106,10 @@ abbrev pub OnVts : Facts → Type 0
 OnVts f = (s : SessId) (v : ℕ) → OnVt f s v → is_vt v ≡ true
 
 abbrev pub Coming : Facts → Type 0
-Coming f = (v : ℕ) → f key.Pending ≡ fact.Number v → (is_vt v ≡ true) × (v ≡ number_in (f key.Vt) → ⊥)
+Coming f = (v : ℕ) → f key.Pending ≡ fact.Number v → (is_vt v ≡ true) × (v ≡ number_or_zero (f key.Vt) → ⊥)
 
 abbrev pub OnTerminals : Facts → Type 0
-OnTerminals f = Apart f × OnVts f × (is_vt (number_in (f key.Vt)) ≡ true) × Coming f
+OnTerminals f = Apart f × OnVts f × (is_vt (number_or_zero (f key.Vt)) ≡ true) × Coming f
 
 abbrev pub Graphical : Facts → List ℕ → Type 0
 Graphical f seat = (d : DevNo) × (f (key.Dev d) ≡ fact.Device Drm seat)
@@ -129,11 +129,11 @@ Seated out f =
 
 abbrev pub Staying : Facts → Uid → Type 0
 Staying f u =
-    ((s : SessId) × (is_session_fact (f (key.Sess s)) ≡ true) × (is_user_in u.0 (f (key.Sess s)) ≡ true))
+    ((s : SessId) × (is_session_fact (f (key.Sess s)) ≡ true) × (is_session_of u.0 (f (key.Sess s)) ≡ true))
     ⊎ (is_set (f (key.Linger u)) ≡ true)
 
 abbrev pub Leaving : Facts → Type 0
-Leaving f = (u : Uid) (since : Millis) → f (key.User u) ≡ fact.Leaving since → since.0 ≤ moment_in (f key.Now)
+Leaving f = (u : Uid) (since : Millis) → f (key.User u) ≡ fact.Leaving since → since.0 ≤ moment_or_zero (f key.Now)
 
 -- a lock that stands has a connection, and a handle that keeps it
 abbrev pub Locked : Facts → LockNo → Lock → Type 0
@@ -147,7 +147,7 @@ abbrev pub Held : Facts → OpKind → LockMode → Type 0
 Held f k mode = (l : LockNo) × (holds_back k mode (f (key.Lock l)) ≡ true)
 
 abbrev pub Since : Facts → Type 0
-Since f = (k : OpKind) (since : Millis) (skip : Bool) → f key.Op ≡ fact.Operation (Waiting k since skip) → since.0 ≤ moment_in (f key.Now)
+Since f = (k : OpKind) (since : Millis) (skip : Bool) → f key.Op ≡ fact.Operation (Waiting k since skip) → since.0 ≤ moment_or_zero (f key.Now)
 
 abbrev pub Unblocked : Facts → Type 0
 Unblocked f = (k : OpKind) (since : Millis) → f key.Op ≡ fact.Operation (Waiting k since false) → Held f k Block → ⊥

@@ -52,6 +52,7 @@ pub mod PayingMoves
 pub mod NeedLaws
 pub mod ProcedureMarks
 pub mod EventMarks
+pub mod EndsLaws
 pub mod NamedMarks
 pub mod NamedCounts
 pub mod NamedLimits

@@ -8,7 +8,7 @@ use Rattle.login_model.specs.Kind.{AreKeys}
 use Rattle.login_model.specs.Names.{device_lt, names, session_lt, session_in}
 use Rattle.login_model.specs.Procedure.{each}
 use Rattle.login_model.specs.Devices.{is_awaited_among, is_awaiting, is_handle_fact, is_taken, taken_devices, taken_in}
-use Rattle.login_model.specs.Where.{is_on_terminal, is_session, is_set, is_user_in, open_sessions, is_open, session_on, sessions, sessions_of, sessions_on, is_on_seat}
+use Rattle.login_model.specs.Where.{is_on_terminal, is_session, is_set, is_session_of, open_sessions, is_open, session_on, sessions, sessions_of, sessions_on, is_on_seat}
 use Rattle.login_model.specs.declared.fact.Key.{Key}
 use Rattle.login_model.specs.declared.fact.Key.TheVariants.{Sess, Taken, Awaited}
 use Rattle.login_model.specs.declared.fact.Fact.{Fact}
@@ -76,14 +76,14 @@ pub in-open_sessions : (t : Trail) (s : SessId) → is_session t s ≡ true → 
 unfolding open_sessions
 in-open_sessions t s a e = filter-keeps (is_open t) s (sessions t) e (in-sessions t s a)
 
-pub of-sessions_of : (t : Trail) (u : ℕ) (s : SessId) → IsIn s (sessions_of t u) → (is_session t s ≡ true) × (is_user_in u (value t (Sess s)) ≡ true)
+pub of-sessions_of : (t : Trail) (u : ℕ) (s : SessId) → IsIn s (sessions_of t u) → (is_session t s ≡ true) × (is_session_of u (value t (Sess s)) ≡ true)
 unfolding sessions_of
 of-sessions_of t u s i =
-    (of-sessions t s (filter-in (λ r. is_user_in u (value t (Sess r))) s (sessions t) i), filter-gives (λ r. is_user_in u (value t (Sess r))) s (sessions t) i)
+    (of-sessions t s (filter-in (λ r. is_session_of u (value t (Sess r))) s (sessions t) i), filter-gives (λ r. is_session_of u (value t (Sess r))) s (sessions t) i)
 
-pub in-sessions_of : (t : Trail) (u : ℕ) (s : SessId) → is_session t s ≡ true → is_user_in u (value t (Sess s)) ≡ true → IsIn s (sessions_of t u)
+pub in-sessions_of : (t : Trail) (u : ℕ) (s : SessId) → is_session t s ≡ true → is_session_of u (value t (Sess s)) ≡ true → IsIn s (sessions_of t u)
 unfolding sessions_of
-in-sessions_of t u s a e = filter-keeps (λ r. is_user_in u (value t (Sess r))) s (sessions t) e (in-sessions t s a)
+in-sessions_of t u s a e = filter-keeps (λ r. is_session_of u (value t (Sess r))) s (sessions t) e (in-sessions t s a)
 
 pub of-sessions_on : (t : Trail) (seat : List ℕ) (s : SessId) → IsIn s (sessions_on t seat) → is_on_seat t seat s ≡ true
 unfolding sessions_on

@@ -14,10 +14,10 @@ use Rattle.login_base.specs.declared.ids.SessId.{SessId}
 use Rattle.login_base.specs.declared.ids.Uid.{Uid}
 use Rattle.login_model.specs.Creating.{appear_on, create, created_session, seat_of}
 use Rattle.login_model.specs.Devices.{is_awaiting, is_live, taken_devices}
-use Rattle.login_model.specs.Direct.{activate, activate_on, close, close_handle, close_owned, control, control_from, controlled_by, direct, direct_call, disconnect, end_sessions, exit, happen, is_this_handle, kept_open_by, leave_known, linger, lock_session, locks_of, overdue, owner_of, press, tick, unlock, unlock_session}
+use Rattle.login_model.specs.Direct.{activate, activate_on, close, close_handle, close_owned, control, control_from, controlled_by, direct, direct_call, disconnect, end_sessions, exit, happen, is_this_handle, kept_open_by, leave_known, linger, lock_session, locks_of, overdue, user_or_root, press, tick, unlock, unlock_session}
 use Rattle.login_model.specs.Facts.{is_number_fact, seat_in_fact}
 use Rattle.login_model.specs.Fresh.{next_handle, next_lock, next_session}
-use Rattle.login_model.specs.Legal.{IsLegal, IsLegalAfter, IsLegalEntry, IsPlaced, after_all, stepped, trail_of}
+use Rattle.login_model.specs.Legal.{IsLegalAfter, IsLegalEntry, IsPlaced, after_all, stepped, trail_of}
 use Rattle.login_model.specs.Limits.{text_limit}
 use Rattle.login_model.specs.Locks.{asked_lock}
 use Rattle.login_model.specs.Names.{session_lt}
@@ -133,11 +133,11 @@ seat-in U s _ h = tt
 pub session-seat : (U : Setup) (t : Trail) (s : SessId) → AreNamed U t → IsSeatIf (seat_of_session t s)
 session-seat U t s h = seat-in U s (value t (key.Sess s)) (value-named U t (key.Sess s) h)
 
-owner-in : (U : Setup) (s : SessId) (x : Fact) → IsNamedFact U (key.Sess s) x → IsUser U (owner_of x).0
+owner-in : (U : Setup) (s : SessId) (x : Fact) → IsNamedFact U (key.Sess s) x → IsUser U (user_or_root x).0
 owner-in U s (fact.Session x) h = h.1
 owner-in U s _ h = refl
 
-pub session-owner : (U : Setup) (t : Trail) (s : SessId) → AreNamed U t → IsUser U (owner_of (value t (key.Sess s))).0
+pub session-owner : (U : Setup) (t : Trail) (s : SessId) → AreNamed U t → IsUser U (user_or_root (value t (key.Sess s))).0
 session-owner U t s h = owner-in U s (value t (key.Sess s)) (value-named U t (key.Sess s) h)
 
 phase-fact : (U : Setup) (s : SessId) (p : Phase) (x : Fact) → IsNamedFact U (key.Sess s) x → IsNamedFact U (key.Sess s) (in_phase p x)
@@ -491,7 +491,7 @@ unfolding exit
 exit-named U r s t h =
     let a = set_phase s Gone (shut s t) in
     let b = tell_all (notice.SessionRemoved s) a in
-    leave-named U r (owner_of (value t (key.Sess s))) b (session-owner U t s (r.named t h))
+    leave-named U r (user_or_root (value t (key.Sess s))) b (session-owner U t s (r.named t h))
     (say-named U r All (notice.SessionRemoved s) a tt (set_phase-named U r s Gone (shut s t) (shut-named U r s t h)))
 
 tick-named : (U : Setup) (r : Walk U) (m : Millis) (t : Trail) → r.N t → r.N (tick U m t)
@@ -654,6 +654,3 @@ after-named U before [] l h = h
 after-named U before (e ∷ es) l h =
     let P : Trail → Type 0 = λ t. AreNamed U (after_all t es) in
     subst P (after-more [] before e) (after-named U (before ++ e ∷ []) es l.1 (entry-named U before e l.0 h))
-
-pub journal-named : (U : Setup) (journal : List Entry) → IsLegal U journal → AreNamed U (trail_of journal)
-journal-named U journal l = after-named U [] journal l tt

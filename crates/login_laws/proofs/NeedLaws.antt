@@ -23,7 +23,7 @@ use Rattle.login_model.specs.Facts.{holds_back, is_number_fact}
 use Rattle.login_model.specs.Names.{lock_lt}
 use Rattle.login_model.specs.Power.{is_delayed, is_over, settle_operation, start}
 use Rattle.login_model.specs.Trail.{put}
-use Rattle.login_model.specs.Where.{is_lock, is_lock_fact, locks, moment_in}
+use Rattle.login_model.specs.Where.{is_lock, is_lock_fact, locks, moment_or_zero}
 use Rattle.login_model.specs.declared.lock.Lock.{Lock}
 use Rattle.login_model.specs.declared.lock.LockMode.TheVariants.{Delay}
 use Rattle.login_model.specs.declared.operation.OpKind.{OpKind}
@@ -161,10 +161,6 @@ disconnect-pays c t g =
 
 -- ---- the operation that waits
 
--- an operation that a lock delayed is started only where a lock is gone
-same-kind : (j k : OpKind) (a b : Millis) (x y : Bool) → fact.Operation (Waiting j a x) ≡ fact.Operation (Waiting k b y) → (j ≡ k) × (a ≡ b)
-same-kind j k a b x y e = (cc, cc)
-
 run-length : (b c : Bool) (k : OpKind) (t : Trail) → length (cond (b && not c) t (put key.Op (fact.Operation (Running k)) t)) ≤ length t + 1
 run-length true true k t = put-length key.Op (fact.Operation (Running k)) t
 run-length true false k t = omega arith
@@ -190,7 +186,7 @@ start-by : (x : Fact) (U : Setup) (t u : Trail) → value u key.Op ≡ x → val
     → length (start U.conf x u) + 3 * length (locks u) ≤ length u + 3 * length (locks t)
 start-by (fact.Operation (Waiting k since skip)) U t u e o n f s =
     let h = s.held k since skip (sym o ∙ e) in
-    let early : is_over U.conf u since ≡ false = ap (λ (x : Fact). nat_le U.conf.inhibit_delay_max.0 (moment_in x - since.0)) n ∙ h.early in
+    let early : is_over U.conf u since ≡ false = ap (λ (x : Fact). nat_le U.conf.inhibit_delay_max.0 (moment_or_zero x - since.0)) n ∙ h.early in
     let m = run-length (is_delayed u k) (is_over U.conf u since) k u in
     let r = locks-fall-less t u f in
     elim (gone-or t u k f h.delayed) [

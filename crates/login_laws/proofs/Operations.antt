@@ -4,7 +4,7 @@ use Rattle.login_base.specs.declared.ids.HandleNo.{HandleNo}
 use Rattle.login_base.specs.declared.ids.LockNo.{LockNo}
 use Rattle.login_base.specs.declared.ids.Millis.{Millis}
 use Rattle.login_model.specs.Devices.{is_awaited_among, is_awaiting}
-use Rattle.login_model.specs.Direct.{fifo_of}
+use Rattle.login_model.specs.Direct.{fifo_in}
 use Rattle.login_model.specs.Fresh.{next_handle, next_lock}
 use Rattle.login_model.specs.Facts.{holds_back, holds_up}
 use Rattle.login_model.specs.Locks.{matching}
@@ -208,7 +208,7 @@ holds-inhibiting out x l h f linked new quiet w =
     record {
       shaped = shaped-put (key.Owner h) o g (shaped-put (key.Lock l) (fact.Lock x) f w.shaped refl) refl;
       controls = w.controls;
-      fifos = λ s p q. (let i = w.fifos s p q in (i.0, owner-kept f h (fifo_of (f (key.Sess s))) o (owner.Fifo i.0 s) new i.1, i.2));
+      fifos = λ s p q. (let i = w.fifos s p q in (i.0, owner-kept f h (fifo_in (f (key.Sess s))) o (owner.Fifo i.0 s) new i.1, i.2));
       takes = λ s d n e. (let i = w.takes s d n e in (i.0, i.1, i.2, i.3, i.4, i.5, i.6, owner-kept f h n o (owner.Device i.0 s d) new i.7));
       lives = λ n e. (let i = w.lives n e in (i.0, i.1, i.2, owner-kept f h n o (owner.Device i.0 i.1 i.2) new i.3, i.4, i.5));
       awaits = w.awaits;

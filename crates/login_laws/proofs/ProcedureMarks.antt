@@ -17,7 +17,7 @@ use Rattle.login_model.specs.Procedure.{each, force, forget, front, if_some, in_
 use Rattle.login_model.specs.Facts.{is_number_fact}
 use Rattle.login_model.specs.Switching.{ask_switch, await_device, await_devices, await_handle, request, unawait_devices, withdraw_switch}
 use Rattle.login_model.specs.Turning.{next_around, open_on, open_terminals, previous_around, turn, turn_to_next, turn_to_previous, vt_in}
-use Rattle.login_model.specs.Direct.{activate, activate_on, close, close_handle, close_owned, exit, is_overdue_fact, is_this_handle, leave_known, linger, overdue, owner_of, tick}
+use Rattle.login_model.specs.Direct.{activate, activate_on, close, close_handle, close_owned, exit, is_overdue_fact, is_this_handle, leave_known, linger, overdue, user_or_root, tick}
 use Rattle.login_model.specs.declared.mark.Notice.TheVariants as notice
 use Rattle.login_model.specs.declared.mark.PauseKind.TheVariants as pause
 use Rattle.login_model.specs.declared.mark.Whom.TheVariants.{All}
@@ -354,7 +354,7 @@ unfolding exit
 exit-within U s t l =
     let n = taken_count t in
     let m = l s in
-    let who = owner_of (value t (key.Sess s)) in
+    let who = user_or_root (value t (key.Sess s)) in
     let u = shut s t in
     let v = set_phase s Gone u in
     let w = tell_all (notice.SessionRemoved s) v in

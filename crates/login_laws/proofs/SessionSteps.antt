@@ -12,9 +12,9 @@ use Rattle.login_model.specs.Same.{same_key}
 use Rattle.login_model.specs.Start.{seat0}
 use Rattle.login_model.specs.Procedure.{in_phase}
 use Rattle.login_model.specs.Fresh.{is_open_fact, is_open_phase}
-use Rattle.login_model.specs.Where.{is_connected_fact, is_number, is_on_terminal, is_seat0, is_session_fact, is_set, is_user_in, seat_in_fact}
+use Rattle.login_model.specs.Where.{is_connected_fact, is_this_number, is_on_terminal, is_seat0, is_session_fact, is_set, is_session_of, seat_in_fact}
 use Rattle.login_laws.specs.Shapes.{fits_key}
-use Rattle.login_model.specs.Direct.{fifo_of}
+use Rattle.login_model.specs.Direct.{fifo_in}
 use Rattle.login_model.specs.declared.session.Phase.{Phase}
 use Rattle.login_model.specs.declared.session.Phase.TheVariants.{Open, Closing, Gone}
 use Rattle.login_model.specs.declared.fact.Key.TheVariants as key
@@ -143,7 +143,7 @@ holds-acting out seat x f idle p ok w = record {
 
 -- ---- a session that closes
 
-pub phase-user : (p : Phase) (u : ℕ) (x : Fact) → is_user_in u (in_phase p x) ≡ is_user_in u x
+pub phase-user : (p : Phase) (u : ℕ) (x : Fact) → is_session_of u (in_phase p x) ≡ is_session_of u x
 phase-user p u (fact.Session x) = refl
 phase-user p u _ = refl
 
@@ -165,7 +165,7 @@ open-there _ e = cc
 
 pub on-terminal-open : (v x : Fact) → is_on_terminal v x ≡ true → is_open_fact x ≡ true
 on-terminal-open v (fact.Session x) e =
-    (both (is_open_phase x.phase) (is_seat0 x.seat) (both (is_open_phase x.phase && is_seat0 x.seat) (is_number x.vt v) e).0).0
+    (both (is_open_phase x.phase) (is_seat0 x.seat) (both (is_open_phase x.phase && is_seat0 x.seat) (is_this_number x.vt v) e).0).0
 on-terminal-open v _ e = cc
 
 -- a fact of a session where it was made is that of one
@@ -185,7 +185,7 @@ activated-along f g s e v a (inr i) = inr (i.0, ap is_open_fact e ∙ i.1, ap se
 
 -- a user whom a session's fact keeps
 abbrev pub KeptBy : Fact → Uid → Type 0
-KeptBy x u = (is_session_fact x ≡ true) × (is_user_in u.0 x ≡ true)
+KeptBy x u = (is_session_fact x ≡ true) × (is_session_of u.0 x ≡ true)
 
 staying-at : (b : Bool) (s r : SessId) (y : Fact) (f : Facts) (u : Uid) → same_key (key.Sess s) (key.Sess r) ≡ b → (KeptBy y u → KeptBy (f (key.Sess s)) u)
     → KeptBy (cond b y (f (key.Sess r))) u → Staying f u
@@ -199,9 +199,9 @@ staying-before s y f u fore (inr l) = inr l
 pub staying-after : (s : SessId) (y : Fact) (f : Facts) (u : Uid) → (KeptBy (f (key.Sess s)) u → KeptBy y u) → Staying f u → Staying (upd (key.Sess s) y f) u
 staying-after s y f u back (inl i) = elim (test (same_key (key.Sess s) (key.Sess i.0))) [
   | inl t ↦ (let z = sess-one s i.0 (same_key-true (key.Sess s) (key.Sess i.0) t) in
-      let k = back (ap (λ (v : SessId). is_session_fact (f (key.Sess v))) z ∙ i.1, ap (λ (v : SessId). is_user_in u.0 (f (key.Sess v))) z ∙ i.2) in
-      inl (s, ap is_session_fact (upd-same (key.Sess s) y f) ∙ k.0, ap (is_user_in u.0) (upd-same (key.Sess s) y f) ∙ k.1))
-  | inr n ↦ inl (i.0, ap is_session_fact (upd-other (key.Sess s) (key.Sess i.0) y f n) ∙ i.1, ap (is_user_in u.0) (upd-other (key.Sess s) (key.Sess i.0) y f n) ∙ i.2)
+      let k = back (ap (λ (v : SessId). is_session_fact (f (key.Sess v))) z ∙ i.1, ap (λ (v : SessId). is_session_of u.0 (f (key.Sess v))) z ∙ i.2) in
+      inl (s, ap is_session_fact (upd-same (key.Sess s) y f) ∙ k.0, ap (is_session_of u.0) (upd-same (key.Sess s) y f) ∙ k.1))
+  | inr n ↦ inl (i.0, ap is_session_fact (upd-other (key.Sess s) (key.Sess i.0) y f n) ∙ i.1, ap (is_session_of u.0) (upd-other (key.Sess s) (key.Sess i.0) y f n) ∙ i.2)
 ]
 staying-after s y f u back (inr l) = inr l
 
@@ -221,7 +221,7 @@ holds-shut out s y f none free idle closed p same w =
       fifos = λ r o x. elim (was is_open_fact (key.Sess s) (key.Sess r) y f o) [
         | inl q ↦ absurd (closed q.1)
         | inr q ↦ (let i = w.fifos r q.1 x in
-            (i.0, ap (λ (z : Fact). f (key.Owner (fifo_of z))) (upd-other (key.Sess s) (key.Sess r) y f q.0) ∙ i.1, i.2))
+            (i.0, ap (λ (z : Fact). f (key.Owner (fifo_in z))) (upd-other (key.Sess s) (key.Sess r) y f q.0) ∙ i.1, i.2))
       ];
       takes = λ r d h e. (let i = w.takes r d h e in let z = had r d h e in
           (i.0, i.1, i.2, ap is_open_fact z ∙ i.3, i.4, i.5, ap seat_in_fact z ∙ i.6, i.7));

@@ -34,7 +34,7 @@ use Rattle.login_laws.proofs.Resuming.{fresh-owner}
 use Rattle.login_model.specs.declared.conf.KeyAction.{KeyAction}
 use Rattle.login_model.specs.declared.conf.KeyAction.TheVariants as does
 use Rattle.login_model.specs.Locks.{asked_lock, mode_of, what_of}
-use Rattle.login_model.specs.Facts.{kind_under_way, holds_up, is_device_on}
+use Rattle.login_model.specs.Facts.{under_way_in, holds_up, is_device_on}
 use Rattle.login_model.specs.Power.{is_blocked, key_action}
 use Rattle.login_laws.proofs.Operations.{good-ask, good-done, good-inhibit}
 use Rattle.login_model.specs.declared.event.Event.{Event}
@@ -184,7 +184,7 @@ good-call U c (call.Power k) t r l g = good-ask none_out k (is_blocked t k) t (�
 good-call U c (call.Inhibit x) t r l g =
     (let y = asked_lock c (record { 0 = uid_of t c }) x in
     let p = none-behind (word_rules U t c (mode_of x.mode) (what_of x.what)) (lock_in_progress t (what_of x.what) ∷ too_many_locks U t ∷ []) r.1.1 in
-    good-inhibit none_out y t l (λ k since e. not-broken (holds_up k y.what) (OperationInProgress k) (ap (λ (z : Fact). meets y.what (kind_under_way z)) (sym e) ∙ p.0)) g)
+    good-inhibit none_out y t l (λ k since e. not-broken (holds_up k y.what) (OperationInProgress k) (ap (λ (z : Fact). meets y.what (under_way_in z)) (sym e) ∙ p.0)) g)
 good-call U c _ t r l g = g
 
 -- ---- events

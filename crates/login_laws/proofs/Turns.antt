@@ -7,7 +7,7 @@ use Rattle.login_model.specs.Start.{seat0}
 use Rattle.login_model.specs.Trail.{Trail, value}
 use Rattle.login_model.specs.Fresh.{is_open_fact}
 use Rattle.login_model.specs.Names.{session_lt}
-use Rattle.login_model.specs.Where.{active_on, current_vt, is_number, is_on_terminal, is_open, is_seat0, is_this_seat, seat_in_fact, seat_of_session, sessions_on}
+use Rattle.login_model.specs.Where.{active_on, current_vt, is_this_number, is_on_terminal, is_open, is_seat0, is_this_seat, seat_in_fact, seat_of_session, sessions_on}
 use Rattle.login_model.specs.Policy.{is_vt}
 use Rattle.login_model.specs.Procedure.{front, if_some}
 use Rattle.login_model.specs.Switching.{request}
@@ -76,7 +76,7 @@ previous-chooses lt (Some place) xs y e = or-in (last_below lt place xs) (last_o
 -- an open session of seat0 is on its terminal
 pub on-own : (x : Fact) → is_open_fact x ≡ true → is_seat0 (seat_in_fact x) ≡ true → is_on_terminal (Number (vt_in x)) x ≡ true
 on-own (Session x) o e =
-    ap (λ (b : Bool). b && is_seat0 x.seat && is_number x.vt (Number x.vt)) o ∙ ap (λ (b : Bool). b && (x.vt == x.vt)) e ∙ same-refl x.vt
+    ap (λ (b : Bool). b && is_seat0 x.seat && is_this_number x.vt (Number x.vt)) o ∙ ap (λ (b : Bool). b && (x.vt == x.vt)) e ∙ same-refl x.vt
 on-own _ o e = cc
 
 pub own-vt : (out : Exempt) (t : Trail) (s : SessId) → Good out t → Opened (value t) s → is_seat0 (seat_of_session t s) ≡ true → is_vt (vt_in (value t (Sess s))) ≡ true

@@ -7,9 +7,9 @@ use Rattle.login_base.specs.declared.ids.DevNo.{DevNo}
 use Rattle.login_base.specs.declared.ids.Uid.{Uid}
 use Rattle.login_base.specs.declared.ids.Millis.{Millis}
 use Rattle.login_model.specs.Fresh.{is_open_fact, is_open_phase}
-use Rattle.login_model.specs.Where.{is_on_terminal, is_seat_fact, is_seat0, is_session_fact, is_set, moment_in, number_in, seat_in_fact}
+use Rattle.login_model.specs.Where.{is_on_terminal, is_seat_fact, is_seat0, is_session_fact, is_set, moment_or_zero, number_or_zero, seat_in_fact}
 use Rattle.login_model.specs.Policy.{is_vt}
-use Rattle.login_model.specs.Direct.{fifo_of}
+use Rattle.login_model.specs.Direct.{fifo_in}
 use Rattle.login_laws.specs.Shapes.{fits_key}
 use Rattle.login_model.specs.declared.session.Phase.TheVariants.{Open}
 use Rattle.login_model.specs.declared.session.Session.{Session}
@@ -30,7 +30,7 @@ user-apart out u v a b e = true-false (out.1 u) a (ap out.1 (user-one u v e) ∙
 
 -- an exempt user is known, leaves or is absent
 pub holds-user : (out : Exempt) (u : Uid) (x : Fact) (f : Facts) → out.1 u ≡ true → fits_key (key.User u) x ≡ true
-    → ((since : Millis) → x ≡ fact.Leaving since → since.0 ≤ moment_in (f key.Now)) → Holds out f → Holds out (upd (key.User u) x f)
+    → ((since : Millis) → x ≡ fact.Leaving since → since.0 ≤ moment_or_zero (f key.Now)) → Holds out f → Holds out (upd (key.User u) x f)
 holds-user out u x f free p past w =
     let other = λ (v : Uid) (e : out.1 v ≡ false). (let z : upd (key.User u) x f (key.User v) ≡ f (key.User v) = upd-other (key.User u) (key.User v) x f (apart (key.User u) (key.User v) (user-apart out u v free e)) in z) in
     record {
@@ -76,7 +76,7 @@ holds-linger out u b f free w =
     }
 
 -- the clock goes on
-pub holds-now : (out : Exempt) (m : Millis) (f : Facts) → moment_in (f key.Now) ≤ m.0 → ((a b c : ℕ) → a ≤ b → b ≤ c → a ≤ c) → Holds out f → Holds out (upd key.Now (fact.Moment m) f)
+pub holds-now : (out : Exempt) (m : Millis) (f : Facts) → moment_or_zero (f key.Now) ≤ m.0 → ((a b c : ℕ) → a ≤ b → b ≤ c → a ≤ c) → Holds out f → Holds out (upd key.Now (fact.Moment m) f)
 holds-now out m f later trans w = record {
   shaped = shaped-put key.Now (fact.Moment m) f w.shaped refl;
   controls = w.controls;
@@ -87,8 +87,8 @@ holds-now out m f later trans w = record {
   terminals = w.terminals;
   seats = w.seats;
   locks = w.locks;
-  operation = ((λ k since skip e. trans since.0 (moment_in (f key.Now)) m.0 (w.operation.0 k since skip e) later), w.operation.1);
-  users = (w.users.0, w.users.1, λ u since e. trans since.0 (moment_in (f key.Now)) m.0 (w.users.2 u since e) later);
+  operation = ((λ k since skip e. trans since.0 (moment_or_zero (f key.Now)) m.0 (w.operation.0 k since skip e) later), w.operation.1);
+  users = (w.users.0, w.users.1, λ u since e. trans since.0 (moment_or_zero (f key.Now)) m.0 (w.users.2 u since e) later);
 }
 
 -- ---- a session that is made
@@ -134,10 +134,10 @@ holds-made out c s x f n w =
       controls = λ r b e. (let i = w.controls r b e in (i.0, ap is_open_fact (other r i.1) ∙ i.1));
       fifos = λ r p q. elim (was is_open_fact (key.Sess s) (key.Sess r) y f p) [
         | inl z ↦ (let e = sess-one s r z.0 in
-            let mine : KeptOpen (made c s x f) s = (c, ap (λ (v : Fact). g (key.Owner (fifo_of v))) (upd-same (key.Sess s) y f) ∙ upd-same (key.Owner x.fifo) o f, n.linked) in
+            let mine : KeptOpen (made c s x f) s = (c, ap (λ (v : Fact). g (key.Owner (fifo_in v))) (upd-same (key.Sess s) y f) ∙ upd-same (key.Owner x.fifo) o f, n.linked) in
             let P : SessId → Type 0 = λ v. KeptOpen (made c s x f) v in subst P e mine)
         | inr z ↦ (let i = w.fifos r z.1 q in
-            (i.0, ap (λ (v : Fact). g (key.Owner (fifo_of v))) (upd-other (key.Sess s) (key.Sess r) y f z.0) ∙ kept (fifo_of (f (key.Sess r))) (owner.Fifo i.0 r) i.1, i.2))
+            (i.0, ap (λ (v : Fact). g (key.Owner (fifo_in v))) (upd-other (key.Sess s) (key.Sess r) y f z.0) ∙ kept (fifo_in (f (key.Sess r))) (owner.Fifo i.0 r) i.1, i.2))
       ];
       takes = λ r d h e. (let i = w.takes r d h e in let z = other r i.3 in
           (i.0, i.1, i.2, ap is_open_fact z ∙ i.3, i.4, i.5, ap seat_in_fact z ∙ i.6, kept h (owner.Device i.0 r d) i.7));
@@ -189,7 +189,7 @@ absent-number : (a : ℕ) → fact.Absent ≡ fact.Number a → ⊥
 absent-number a e = cc
 
 -- a switch to another terminal is pending
-pub holds-pending : (out : Exempt) (v : ℕ) (f : Facts) → is_vt v ≡ true → (v ≡ number_in (f key.Vt) → ⊥) → Holds out f → Holds out (upd key.Pending (fact.Number v) f)
+pub holds-pending : (out : Exempt) (v : ℕ) (f : Facts) → is_vt v ≡ true → (v ≡ number_or_zero (f key.Vt) → ⊥) → Holds out f → Holds out (upd key.Pending (fact.Number v) f)
 holds-pending out v f p n w = record {
   shaped = shaped-put key.Pending (fact.Number v) f w.shaped refl;
   controls = w.controls;

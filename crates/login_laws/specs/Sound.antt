@@ -12,7 +12,7 @@ use Rattle.login_base.specs.declared.ids.Millis.{Millis}
 use Rattle.login_base.specs.declared.ids.SessId.{SessId}
 use Rattle.login_base.specs.declared.ids.Uid.{Uid}
 use Rattle.login_model.specs.Devices.{is_awaiting, is_live}
-use Rattle.login_model.specs.Direct.{fifo_of}
+use Rattle.login_model.specs.Direct.{fifo_in}
 use Rattle.login_model.specs.Fresh.{fresh_handle, fresh_lock, fresh_session}
 use Rattle.login_model.specs.Policy.{is_vt}
 use Rattle.login_model.specs.Procedure.{is_kept}
@@ -45,7 +45,7 @@ Controls t = (s : SessId) (c : ConnId) → value t (key.Ctl s) ≡ fact.Controll
 -- a connection that is connected owns the fifo of a session
 pub record IsKeptOpen (t : Trail) (s : SessId) : Type 0 where
   pub by_whom : ConnId
-  pub owned : value t (key.Owner (fifo_of (value t (key.Sess s)))) ≡ fact.Owned (owner.Fifo by_whom s)
+  pub owned : value t (key.Owner (fifo_in (value t (key.Sess s)))) ≡ fact.Owned (owner.Fifo by_whom s)
   pub connected : is_connected t by_whom ≡ true
 
 abbrev pub Fifos : Trail → Type 0

@@ -19,6 +19,7 @@ abbrev pub awaited_in : SessId → Key → Option DevNo
 awaited_in s (key.Awaited r d) = if r.0 == s.0 then Some d else None
 awaited_in s _ = None
 
+-- whether the pause of a device is awaited
 abbrev pub is_awaited : Trail → SessId → DevNo → Bool
 is_awaited t s d = is_set (value t (key.Awaited s d))
 

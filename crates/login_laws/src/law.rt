@@ -6,7 +6,7 @@ ghost use Rattle.login_laws.specs.Hearing.{HearingGoesOn, ReadsAreHeard};
 ghost use Rattle.login_laws.specs.Lawful.{LegalIsLawful};
 ghost use Rattle.login_laws.specs.Left.{HandlesAreLeft};
 ghost use Rattle.login_laws.specs.Named.{LegalIsNamed};
-ghost use Rattle.login_laws.specs.Need.{RoomIsKept};
+ghost use Rattle.login_laws.specs.Need.{EndsShareNeed, RoomIsKept};
 ghost use Rattle.login_laws.specs.OneJournal.{OneJournal};
 ghost use Rattle.login_laws.specs.Withdrawing.{WithdrawsEach};
 ghost use Rattle.login_model.specs.declared.setup.Setup.{Setup};
@@ -61,6 +61,12 @@ pub fn handles_are_left()
 /// marks and takes none, and the stop makes none.
 pub fn room_is_kept()
     ensures { (U : Setup) → RoomIsKept U }
+{}
+
+/// Whichever connections end behind a legal journal, in whatever order, one after the other: all their ends
+/// together make no more marks than the need before them.
+pub fn ends_share_need()
+    ensures { EndsShareNeed }
 {}
 
 /// In every legal journal seats have seats' names, users are those of the setup, and who asked for a lock and why

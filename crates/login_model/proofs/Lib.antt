@@ -6,7 +6,6 @@ pub mod WordLaws
 pub mod FactLaws
 pub mod Values
 pub mod HeldValue
-pub mod Latest
 pub mod Cuts
 pub mod Joined
 pub mod Elements

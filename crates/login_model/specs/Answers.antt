@@ -28,11 +28,11 @@ use Rattle.login_model.specs.declared.operation.OpKind.{OpKind}
 use Rattle.login_model.specs.declared.table.Say.{Say}
 use Rattle.login_model.specs.declared.table.Say.TheVariants as says
 use Rattle.login_base.specs.declared.ids.ConnId.{ConnId}
+use Rattle.login_base.specs.declared.ids.DevNo.{DevNo}
 use Rattle.login_base.specs.declared.ids.LockNo.{LockNo}
 use Rattle.login_model.specs.Marks.{trail_of}
 use Rattle.login_model.specs.Reading.{reads}
 use Rattle.login_model.specs.declared.answer.Input.{Input}
-use Rattle.login_model.specs.declared.fact.Owner.TheVariants as owner
 use Rattle.login_model.specs.declared.mark.Entry.{Entry}
 use Rattle.login_base.specs.declared.ids.HandleNo.{HandleNo}
 use Rattle.login_model.specs.Policy.{for_others, has_others, past_locks, plain, say, uid_of}
@@ -40,13 +40,13 @@ use Rattle.login_model.specs.Power.{is_blocked}
 use Rattle.login_model.specs.declared.fact.Key.TheVariants as key
 use Rattle.login_model.specs.Where.{is_active, locks, sessions, users, seats, seat_of_session}
 use Rattle.login_model.specs.Creating.{seat_of}
-use Rattle.login_model.specs.Direct.{owner_of}
+use Rattle.login_model.specs.Facts.{handle_device, user_or_root}
 
 abbrev pub session_row : Setup → Trail → SessId → SessionRow
 session_row U t s = record {
   session = s;
-  uid = owner_of (value t (Sess s));
-  name = user_name U (owner_of (value t (Sess s))).0;
+  uid = user_or_root (value t (Sess s));
+  name = user_name U (user_or_root (value t (Sess s))).0;
   seat = seat_of_session t s;
 }
 
@@ -88,9 +88,9 @@ lock_rows t [] = []
 lock_rows t (l ∷ ls) = lock_row (value t (key.Lock l)) (lock_rows t ls)
 
 -- what a handle of a device reads
-abbrev pub read_by : Fact → HandleNo → List Entry → List Input
-read_by (fact.Owned (owner.Device c s d)) h before = reads h d before
-read_by _ h before = []
+abbrev pub read_by : Option DevNo → HandleNo → List Entry → List Input
+read_by (Some d) h before = reads h d before
+read_by None h before = []
 
 -- the handle with which a session takes a device, and whether the session is inactive
 abbrev pub taken_answer : Trail → Option SessId → Answer
@@ -169,7 +169,7 @@ marks_answer U t c call.BadArguments = Nothing
 
 -- inputs leave no mark, so what is read is answered from the entries
 abbrev pub call_answer : Setup → List Entry → ConnId → Call → Answer
-call_answer U before c (call.ReadInput h) = Inputs (read_by (value (trail_of before) (key.Owner h)) h before)
+call_answer U before c (call.ReadInput h) = Inputs (read_by (handle_device (value (trail_of before) (key.Owner h))) h before)
 call_answer U before c x = marks_answer U (trail_of before) c x
 
 -- what a granted event is answered, from the entries before it

@@ -37,7 +37,7 @@ use Rattle.login_model.specs.Creating.{create}
 use Rattle.login_model.specs.Taking.{acknowledge, add_device, remove_device, set_mode, take_device}
 use Rattle.login_model.specs.Turning.{vt_in, turn_to_next, turn_to_previous}
 use Rattle.login_model.specs.Words.{whom_of}
-pub use Rattle.login_model.specs.Facts.{is_this_handle, is_fifo_of, fifo_of, is_held_by, owner_of, is_overdue_fact}
+pub use Rattle.login_model.specs.Facts.{is_this_handle, is_fifo_of, fifo_in, is_lock_of, user_or_root, is_overdue_fact}
 
 -- a session is brought to its seat: on seat0 its terminal is asked for
 abbrev pub activate_on : Option (List ℕ) → SessId → Trail → Trail
@@ -153,11 +153,11 @@ controlled_by t c = filter (controls t c) (sessions t)
 
 -- the open sessions whose fifo a connection owns, in order
 unfoldable pub kept_open_by : Trail → ConnId → List SessId
-kept_open_by t c = filter (λ s. is_fifo_of c (value t (key.Owner (fifo_of (value t (key.Sess s)))))) (open_sessions t)
+kept_open_by t c = filter (λ s. is_fifo_of c (value t (key.Owner (fifo_in (value t (key.Sess s)))))) (open_sessions t)
 
 -- the locks of a connection, in order
 unfoldable pub locks_of : Trail → ConnId → List LockNo
-locks_of t c = filter (λ l. is_held_by c (value t (key.Lock l))) (locks t)
+locks_of t c = filter (λ l. is_lock_of c (value t (key.Lock l))) (locks t)
 
 -- the sessions that a connection keeps open are shut
 abbrev pub end_sessions : ConnId → Trail → Trail
@@ -174,7 +174,7 @@ disconnect c t = put (key.Conn c) fact.Absent (unlock c (end_sessions c (each re
 
 -- the last process of a session is gone
 unfoldable pub exit : Setup → SessId → Trail → Trail
-exit U s t = leave U (owner_of (value t (key.Sess s))) (tell_all (SessionRemoved s) (set_phase s Gone (shut s t)))
+exit U s t = leave U (user_or_root (value t (key.Sess s))) (tell_all (SessionRemoved s) (set_phase s Gone (shut s t)))
 
 -- the users whose delay is over at a moment, in order
 unfoldable pub overdue : Setup → Trail → ℕ → List Uid

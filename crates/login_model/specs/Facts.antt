@@ -1,10 +1,12 @@
--- What a fact says.
+-- What a fact says. A method of `Fact` and its definition have one name. Where the definition gives a part, or where
+-- keys or marks have that name, there stands `_in`, `_fact` or `_in_fact` behind it.
 use Rattle.std.specs.Prelude.{ℕ, ◌-◌, ◌==◌, ◌&&◌, not, nat_le, if◌then◌else◌, Bool, true, false, Option, Some, None, List}
 use Rattle.std.specs.Option.{is_some}
 use Rattle.std.specs.Str.{bytes_eq}
 use Rattle.login_base.specs.declared.ids.SessId.{SessId}
 use Rattle.login_base.specs.declared.ids.Uid.{Uid}
 use Rattle.login_base.specs.declared.ids.ConnId.{ConnId}
+use Rattle.login_base.specs.declared.ids.DevNo.{DevNo}
 use Rattle.login_base.specs.declared.ids.HandleNo.{HandleNo}
 use Rattle.login_base.specs.declared.ids.Millis.{Millis}
 use Rattle.login_model.specs.declared.fact.Fact.{Fact}
@@ -95,13 +97,13 @@ is_closing_fact (fact.Session x) = is_closing_phase x.phase
 is_closing_fact _ = false
 
 -- the user of a session, or root
-abbrev pub owner_of : Fact → Uid
-owner_of (fact.Session x) = x.uid
-owner_of _ = record { 0 = 0 }
+abbrev pub user_or_root : Fact → Uid
+user_or_root (fact.Session x) = x.uid
+user_or_root _ = record { 0 = 0 }
 
-abbrev pub is_user_in : ℕ → Fact → Bool
-is_user_in uid (fact.Session x) = x.uid.0 == uid
-is_user_in uid _ = false
+abbrev pub is_session_of : ℕ → Fact → Bool
+is_session_of uid (fact.Session x) = x.uid.0 == uid
+is_session_of uid _ = false
 
 -- the seat of a session, if it has one
 abbrev pub seat_in_fact : Fact → Option (List ℕ)
@@ -114,9 +116,9 @@ vt_in (fact.Session x) = x.vt
 vt_in _ = 0
 
 -- the handle that keeps a session open, or 0
-abbrev pub fifo_of : Fact → HandleNo
-fifo_of (fact.Session x) = x.fifo
-fifo_of _ = record { 0 = 0 }
+abbrev pub fifo_in : Fact → HandleNo
+fifo_in (fact.Session x) = x.fifo
+fifo_in _ = record { 0 = 0 }
 
 abbrev pub leader_in : Fact → Option ConnId
 leader_in (fact.Session x) = Some x.leader
@@ -228,6 +230,11 @@ abbrev pub fifo_session : Fact → Option SessId
 fifo_session (fact.Owned (owner.Fifo c s)) = Some s
 fifo_session _ = None
 
+-- the device of a handle that is a device's
+abbrev pub handle_device : Fact → Option DevNo
+handle_device (fact.Owned (owner.Device c s d)) = Some d
+handle_device _ = None
+
 -- ---- taken devices
 
 -- the handle with which a device is taken
@@ -278,21 +285,21 @@ number_in_fact (fact.Number n) = Some n
 number_in_fact _ = None
 
 -- the number, or 0
-abbrev pub number_in : Fact → ℕ
-number_in (fact.Number n) = n
-number_in _ = 0
+abbrev pub number_or_zero : Fact → ℕ
+number_or_zero (fact.Number n) = n
+number_or_zero _ = 0
 
 abbrev pub is_number_fact : Fact → Bool
 is_number_fact (fact.Number n) = true
 is_number_fact _ = false
 
-abbrev pub is_number : ℕ → Fact → Bool
-is_number v (fact.Number n) = v == n
-is_number v _ = false
+abbrev pub is_this_number : ℕ → Fact → Bool
+is_this_number v (fact.Number n) = v == n
+is_this_number v _ = false
 
 -- an open session of seat0 on the virtual terminal that the other fact names
 abbrev pub is_on_terminal : Fact → Fact → Bool
-is_on_terminal terminal (fact.Session x) = is_open_phase x.phase && is_seat0 x.seat && is_number x.vt terminal
+is_on_terminal terminal (fact.Session x) = is_open_phase x.phase && is_seat0 x.seat && is_this_number x.vt terminal
 is_on_terminal terminal _ = false
 
 abbrev pub moment_in_fact : Fact → Option Millis
@@ -300,9 +307,9 @@ moment_in_fact (fact.Moment m) = Some m
 moment_in_fact _ = None
 
 -- the moment, or the start
-abbrev pub moment_in : Fact → ℕ
-moment_in (fact.Moment m) = m.0
-moment_in _ = 0
+abbrev pub moment_or_zero : Fact → ℕ
+moment_or_zero (fact.Moment m) = m.0
+moment_or_zero _ = 0
 
 abbrev pub is_moment_fact : Fact → Bool
 is_moment_fact (fact.Moment m) = true
@@ -310,9 +317,9 @@ is_moment_fact _ = false
 
 -- ---- devices, locks and operations
 
-abbrev pub kind_in : Fact → Option DevKind
-kind_in (fact.Device kind seat) = Some kind
-kind_in _ = None
+abbrev pub device_kind_in : Fact → Option DevKind
+device_kind_in (fact.Device kind seat) = Some kind
+device_kind_in _ = None
 
 abbrev pub is_device_fact : Fact → Bool
 is_device_fact (fact.Device kind seat) = true
@@ -344,9 +351,9 @@ is_lock_fact (fact.Lock l) = true
 is_lock_fact _ = false
 
 -- a lock of a connection
-abbrev pub is_held_by : ConnId → Fact → Bool
-is_held_by c (fact.Lock l) = l.holder.0 == c.0
-is_held_by c _ = false
+abbrev pub is_lock_of : ConnId → Fact → Bool
+is_lock_of c (fact.Lock l) = l.holder.0 == c.0
+is_lock_of c _ = false
 
 -- whether what is inhibited has the word of an operation: shutdown for those that end the machine's run, else sleep
 abbrev pub holds_up : OpKind → Inhibited → Bool
@@ -398,10 +405,10 @@ is_operation_fact (fact.Operation o) = true
 is_operation_fact _ = false
 
 -- the operation that waits or runs
-abbrev pub kind_under_way : Fact → Option OpKind
-kind_under_way (fact.Operation (Waiting k since skip)) = Some k
-kind_under_way (fact.Operation (Running k)) = Some k
-kind_under_way _ = None
+abbrev pub under_way_in : Fact → Option OpKind
+under_way_in (fact.Operation (Waiting k since skip)) = Some k
+under_way_in (fact.Operation (Running k)) = Some k
+under_way_in _ = None
 
 -- the operation that runs
 abbrev pub running_in : Fact → Option OpKind

@@ -1,6 +1,7 @@
--- The paths of objects (org.freedesktop.login1(5)).
+-- The paths of objects (org.freedesktop.login1(5)), and the unique names of connections.
 use Rattle.std.specs.Prelude.{ℕ, List, ◌++◌, codes}
 use Rattle.std.specs.Fmt.{decimal}
+use Rattle.login_base.specs.declared.ids.ConnId.{ConnId}
 use Rattle.login_base.specs.declared.ids.SessId.{SessId}
 use Rattle.login_base.specs.declared.ids.Uid.{Uid}
 use Rattle.login_base.specs.Labels.{escape}
@@ -35,3 +36,7 @@ user_path u = user_front ++ decimal u.0
 -- the path of a user's runtime directory
 unfoldable pub runtime_path : Uid → List ℕ
 runtime_path u = codes "/run/user/" ++ decimal u.0
+
+-- the unique name of a connection
+abbrev pub unique_name : ConnId → List ℕ
+unique_name c = codes ":1." ++ decimal c.0

@@ -56,10 +56,7 @@ use Rattle.login_model.specs.declared.operation.OpKind.{OpKind}
 use Rattle.login_model.specs.declared.session.KillWhom.TheVariants.{Leader}
 use Rattle.login_base.specs.declared.ids.LockNo.{LockNo}
 use Rattle.login_model.specs.Where.{locks}
-use Rattle.login_model.specs.Facts.{client_or, is_client_of, controller_in, is_owned_fact, leader_in, owner_of, kind_under_way, running_in, holds_up, is_device_on, is_other_kind, is_other_user}
-use Rattle.login_model.specs.declared.fact.Fact.{Fact}
-use Rattle.login_model.specs.declared.fact.Fact.TheVariants as fact
-use Rattle.login_model.specs.declared.fact.Owner.TheVariants as owner
+use Rattle.login_model.specs.Facts.{client_or, is_client_of, controller_in, handle_device, is_owned_fact, leader_in, user_or_root, under_way_in, running_in, holds_up, is_device_on, is_other_kind, is_other_user}
 pub use Rattle.login_model.specs.Facts.{is_controller_fact, is_closing_phase, is_closing_fact, holder_in}
 use Rattle.login_model.specs.Words.{is_read_or_empty, type_named, class_named, whom_named, whom_word}
 use Rattle.login_model.specs.Limits.{links_limit, taken_limit, devices_limit, last_terminal, last_signal}
@@ -70,7 +67,7 @@ broken_if b r = if b then Some r else None
 
 -- the user of a session
 abbrev pub session_uid : Trail → SessId → ℕ
-session_uid t s = (owner_of (value t (Sess s))).0
+session_uid t s = (user_or_root (value t (Sess s))).0
 
 -- the number that stands for the caller's own user in `linger`, and for the user of a caller that is not connected
 abbrev pub no_user : ℕ
@@ -348,9 +345,9 @@ not_live t h = broken_if (not (is_live t h)) NotLive
 abbrev pub device_wrong : DevKind → Trail → DevNo → Option Rule
 device_wrong kind t d = broken_if (is_other_kind kind (value t (Dev d))) WrongKind
 
-abbrev pub handle_wrong : DevKind → Trail → Fact → Option Rule
-handle_wrong kind t (fact.Owned (owner.Device c s d)) = device_wrong kind t d
-handle_wrong kind t _ = Some WrongKind
+abbrev pub handle_wrong : DevKind → Trail → Option DevNo → Option Rule
+handle_wrong kind t (Some d) = device_wrong kind t d
+handle_wrong kind t None = Some WrongKind
 
 abbrev pub take_rules : Trail → ConnId → DevNo → SessId → List (Option Rule)
 take_rules t c d s =
@@ -363,18 +360,18 @@ taken_rules t c d s = no_such_session t s ∷ not_in_control t c s ∷ device_no
 
 -- of reading a device, and of setting its mode
 abbrev pub handle_rules : DevKind → Trail → ConnId → HandleNo → List (Option Rule)
-handle_rules kind t c h = no_such_handle t h ∷ not_yours t c h ∷ handle_wrong kind t (value t (OwnerKey h)) ∷ not_live t h ∷ []
+handle_rules kind t c h = no_such_handle t h ∷ not_yours t c h ∷ handle_wrong kind t (handle_device (value t (OwnerKey h))) ∷ not_live t h ∷ []
 
 -- P23 operation-in-progress: an operation waits or runs; for a lock: one whose word it names
 abbrev pub in_progress : Trail → Option Rule
-in_progress t = option_map OperationInProgress (kind_under_way (value t Op))
+in_progress t = option_map OperationInProgress (under_way_in (value t Op))
 
 abbrev pub meets : What → Option OpKind → Option Rule
 meets what (Some k) = broken_if (holds_up k what) (OperationInProgress k)
 meets what None = None
 
 abbrev pub lock_in_progress : Trail → What → Option Rule
-lock_in_progress t what = meets what (kind_under_way (value t Op))
+lock_in_progress t what = meets what (under_way_in (value t Op))
 
 -- P24 inhibited: the lowest lock that stands in the way
 abbrev pub first_lock : List LockNo → Option Rule

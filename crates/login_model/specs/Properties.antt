@@ -35,7 +35,7 @@ use Rattle.login_model.specs.declared.session.Session.{Session as Data}
 use Rattle.login_model.specs.declared.setup.Setup.{Setup}
 use Rattle.login_model.specs.declared.state.State.{State}
 use Rattle.login_model.specs.declared.state.State.TheVariants.{Active, Online, Lingering, Closing}
-use Rattle.login_model.specs.Facts.{inhibited_in, is_open_of, kind_under_way}
+use Rattle.login_model.specs.Facts.{inhibited_in, is_open_of, under_way_in}
 use Rattle.login_model.specs.PropertyNames.{manager_named, manager_properties, seat_named, seat_properties, session_named, session_properties, user_named, user_properties}
 use Rattle.login_model.specs.Start.{seat0}
 use Rattle.login_model.specs.Taking.{has_graphics}
@@ -119,8 +119,8 @@ manager_value U t manager.DelayInhibited = Held (inhibited_by t Delay)
 manager_value U t manager.InhibitDelayMax = Time U.conf.inhibit_delay_max
 manager_value U t manager.CurrentInhibitors = Count (length (locks t))
 manager_value U t manager.CurrentSessions = Count (length (sessions t))
-manager_value U t manager.PreparingForShutdown = Flag (is_preparing_for true (kind_under_way (value t key.Op)))
-manager_value U t manager.PreparingForSleep = Flag (is_preparing_for false (kind_under_way (value t key.Op)))
+manager_value U t manager.PreparingForShutdown = Flag (is_preparing_for true (under_way_in (value t key.Op)))
+manager_value U t manager.PreparingForSleep = Flag (is_preparing_for false (under_way_in (value t key.Op)))
 manager_value U t manager.Docked = Flag (is_set (value t key.Docked))
 
 -- ---- a session

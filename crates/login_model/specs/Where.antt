@@ -13,7 +13,7 @@ use Rattle.login_model.specs.Trail.{Trail, value}
 use Rattle.login_model.specs.Start.{seat0}
 use Rattle.login_model.specs.Names.{names, insert, session_lt, conn_lt, user_lt, seat_lt, device_lt, lock_lt, session_in, conn_in, user_in, seat_in, device_in, lock_in}
 use Rattle.login_model.specs.Fresh.{is_open_phase, is_open_fact}
-pub use Rattle.login_model.specs.Facts.{is_connected_fact, is_gone_phase, is_session_fact, is_user_fact, is_seat_fact, is_device_fact, is_lock_fact, is_seat0, is_this_seat, is_number, is_on_terminal, number_in, seat_in_fact, is_acting_fact, is_user_in, is_set, moment_in}
+pub use Rattle.login_model.specs.Facts.{is_connected_fact, is_gone_phase, is_session_fact, is_user_fact, is_seat_fact, is_device_fact, is_lock_fact, is_seat0, is_this_seat, is_this_number, is_on_terminal, number_or_zero, seat_in_fact, is_acting_fact, is_session_of, is_set, moment_or_zero}
 
 -- whether a client is connected
 abbrev pub is_connected : Trail → ConnId → Bool
@@ -65,7 +65,7 @@ locks t = filter (is_lock t) (names lock_lt lock_in t)
 
 -- the current virtual terminal
 abbrev pub current_vt : Trail → ℕ
-current_vt t = number_in (value t key.Vt)
+current_vt t = number_or_zero (value t key.Vt)
 
 -- whether a session is open
 abbrev pub is_open : Trail → SessId → Bool
@@ -116,8 +116,8 @@ sessions_on t seat = filter (is_on_seat t seat) (sessions t)
 
 -- the sessions of a user that are not gone, in order
 unfoldable pub sessions_of : Trail → ℕ → List SessId
-sessions_of t uid = filter (λ s. is_user_in uid (value t (key.Sess s))) (sessions t)
+sessions_of t uid = filter (λ s. is_session_of uid (value t (key.Sess s))) (sessions t)
 
 -- the moment that the clock reached last
 abbrev pub now : Trail → ℕ
-now t = moment_in (value t key.Now)
+now t = moment_or_zero (value t key.Now)

@@ -11,6 +11,8 @@ use Rattle.login_model.specs.declared.state.State.{State}
 use Rattle.login_model.specs.declared.state.State.TheVariants as state
 use Rattle.login_model.specs.declared.session.KillWhom.{KillWhom}
 use Rattle.login_model.specs.declared.session.KillWhom.TheVariants as whom
+use Rattle.login_model.specs.declared.mark.PauseKind.{PauseKind}
+use Rattle.login_model.specs.declared.mark.PauseKind.TheVariants as pause
 use Rattle.login_model.specs.declared.operation.OpKind.{OpKind}
 use Rattle.login_model.specs.declared.operation.OpKind.TheVariants as kind
 use Rattle.login_model.specs.declared.hardware.HardKey.{HardKey}
@@ -74,6 +76,11 @@ state_word state.Active = codes "active"
 state_word state.Online = codes "online"
 state_word state.Lingering = codes "lingering"
 state_word state.Closing = codes "closing"
+
+abbrev pub pause_word : PauseKind → List ℕ
+pause_word pause.Pause = codes "pause"
+pause_word pause.Force = codes "force"
+pause_word pause.Gone = codes "gone"
 
 -- which processes of a session a signal is for
 abbrev pub whom_word : KillWhom → List ℕ

@@ -1,6 +1,7 @@
 // What a client calls: one variant for each member of org.freedesktop.login1(5), of the modelled
 // machine's interface and of the D-Bus Specification that is answered, and four for other messages.
 
+use crate::boxed::Boxed;
 use crate::operation::OpKind;
 use login_base::{DevNo, HandleNo, SessId, Uid, Word};
 
@@ -50,7 +51,7 @@ pub struct PropertyName {
 #[derive(Debug, Drop)]
 pub enum Call {
     /// Manager.CreateSession.
-    Create(Creation),
+    Create(Boxed<Creation>),
     /// Manager.GetSession.
     GetSession(Word),
     /// Manager.GetUser.

@@ -132,7 +132,7 @@ fn is_session_on(session: &Session, terminal: &Fact) -> bool
 
 /// What a fact says. Each call answers None, no or 0 of a fact of another kind.
 impl Fact {
-    ghost use Rattle.login_model.specs.Facts.{is_absent, client_in, is_connected_fact, is_client_of, client_or, session_in_fact, is_session_fact, is_open_fact, is_closing_fact, owner_of, is_user_in, seat_in_fact, vt_in, fifo_of, leader_in, is_open_of, is_other_user, is_seated_of, is_on_terminal, is_set, controller_in, is_controlled_fact, is_controller_fact, is_known, is_user_fact, is_overdue_fact, owner_in, is_owned_fact, holder_in, is_fifo_of, fifo_session, handle_in, is_handle_fact, is_this_handle, is_seat_fact, active_in, is_acting_fact, number_in_fact, number_in, is_number_fact, is_number, moment_in_fact, moment_in, kind_in, is_device_fact, lock_in_fact, is_lock_fact, is_held_by, holds_back, handles_key, inhibited_in, operation_in, kind_under_way, running_in};
+    ghost use Rattle.login_model.specs.Facts.{is_absent, client_in, is_connected_fact, is_client_of, client_or, session_in_fact, is_session_fact, is_open_fact, is_closing_fact, user_or_root, is_session_of, seat_in_fact, vt_in, fifo_in, leader_in, is_open_of, is_other_user, is_seated_of, is_on_terminal, is_set, controller_in, is_controlled_fact, is_controller_fact, is_known, is_user_fact, is_overdue_fact, owner_in, is_owned_fact, holder_in, is_fifo_of, fifo_session, handle_device, handle_in, is_handle_fact, is_this_handle, is_seat_fact, active_in, is_acting_fact, number_in_fact, number_or_zero, is_number_fact, is_this_number, moment_in_fact, moment_or_zero, device_kind_in, is_device_fact, lock_in_fact, is_lock_fact, is_lock_of, holds_back, handles_key, inhibited_in, operation_in, under_way_in, running_in};
 
     /// Whether nothing is there.
     pub fn is_absent(&self) -> bool
@@ -220,7 +220,7 @@ impl Fact {
 
     /// The user of a session, or root.
     pub fn user_or_root(&self) -> Uid
-        ensures { result ≡ owner_of self.now }
+        ensures { result ≡ user_or_root self.now }
     {
         match self {
             Fact::Session(session) => session.get().uid,
@@ -230,7 +230,7 @@ impl Fact {
 
     /// Whether it is that of a user's session, gone or not.
     pub fn is_session_of(&self, uid: u32) -> bool
-        ensures { result ≡ is_user_in uid self.now }
+        ensures { result ≡ is_session_of uid self.now }
     {
         match self {
             Fact::Session(session) => session.get().uid.0 == uid,
@@ -295,7 +295,7 @@ impl Fact {
 
     /// The handle whose closing closes a session, or 0.
     pub fn fifo(&self) -> HandleNo
-        ensures { result ≡ fifo_of self.now }
+        ensures { result ≡ fifo_in self.now }
     {
         match self {
             Fact::Session(session) => session.get().fifo,
@@ -351,7 +351,7 @@ impl Fact {
     }
 
     /// Whether it names this controller.
-    pub fn is_controlled_by(&self, who: ConnId) -> bool
+    pub fn is_controller(&self, who: ConnId) -> bool
         ensures { result ≡ is_controller_fact who self.now }
     {
         match self {
@@ -395,7 +395,7 @@ impl Fact {
     }
 
     /// Whether it is that of a handle that someone has.
-    pub fn is_held(&self) -> bool
+    pub fn is_owned(&self) -> bool
         ensures { result ≡ is_owned_fact self.now }
     {
         matches!(
@@ -432,6 +432,16 @@ impl Fact {
     {
         match self {
             Fact::Owned(Owner::Fifo(_, session)) => Some(*session),
+            _ => None,
+        }
+    }
+
+    /// The device of a handle that is a device's.
+    pub fn handle_device(&self) -> Option<DevNo>
+        ensures { result ≡ handle_device self.now }
+    {
+        match self {
+            Fact::Owned(Owner::Device(_, _, device)) => Some(*device),
             _ => None,
         }
     }
@@ -502,7 +512,7 @@ impl Fact {
 
     /// A number, or 0.
     pub fn number_or_zero(&self) -> u32
-        ensures { result ≡ number_in self.now }
+        ensures { result ≡ number_or_zero self.now }
     {
         match self {
             Fact::Number(number) => *number,
@@ -519,7 +529,7 @@ impl Fact {
 
     /// Whether it is this number.
     pub fn is_this_number(&self, number: u32) -> bool
-        ensures { result ≡ is_number number self.now }
+        ensures { result ≡ is_this_number number self.now }
     {
         match self {
             Fact::Number(other) => number == *other,
@@ -539,7 +549,7 @@ impl Fact {
 
     /// A moment in milliseconds, or 0.
     pub fn moment_or_zero(&self) -> u64
-        ensures { result ≡ moment_in self.now }
+        ensures { result ≡ moment_or_zero self.now }
     {
         match self {
             Fact::Moment(moment) => moment.0,
@@ -549,7 +559,7 @@ impl Fact {
 
     /// The kind of a device that is present.
     pub fn device_kind(&self) -> Option<DevKind>
-        ensures { result ≡ kind_in self.now }
+        ensures { result ≡ device_kind_in self.now }
     {
         match self {
             Fact::Device(kind, _) => Some(*kind),
@@ -583,7 +593,7 @@ impl Fact {
 
     /// Whether it is that of a connection's lock.
     pub fn is_lock_of(&self, who: ConnId) -> bool
-        ensures { result ≡ is_held_by who self.now }
+        ensures { result ≡ is_lock_of who self.now }
     {
         match self {
             Fact::Lock(lock) => lock.get().holder.0 == who.0,
@@ -633,7 +643,7 @@ impl Fact {
 
     /// The operation that waits or runs.
     pub fn under_way(&self) -> Option<OpKind>
-        ensures { result ≡ kind_under_way self.now }
+        ensures { result ≡ under_way_in self.now }
     {
         match self {
             Fact::Operation(Operation::Waiting(kind, ..) | Operation::Running(kind)) => Some(*kind),

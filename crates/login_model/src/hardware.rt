@@ -1,5 +1,6 @@
 // What the machine's hardware does.
 
+use crate::boxed::Boxed;
 use login_base::{DevNo, SeatName, Word};
 
 /// A kind of device that a session can take.
@@ -93,7 +94,7 @@ impl HardKey {
 #[derive(Debug, Drop)]
 pub enum Hardware {
     /// A device of this kind appears on a seat.
-    Add(DevNo, DevKind, SeatName),
+    Add(DevNo, DevKind, Boxed<SeatName>),
     /// A device disappears.
     Remove(DevNo),
     /// An input device reports a type, a code and a value (struct input_event of Linux).

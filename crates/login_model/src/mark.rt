@@ -17,6 +17,22 @@ pub enum PauseKind {
     Gone,
 }
 
+impl PauseKind {
+    ghost use Rattle.std.specs.Prelude.{◌≡◌};
+    ghost use Rattle.login_model.specs.Words.{pause_word};
+
+    /// The word for the kind.
+    pub fn name(self) -> &'static [u8]
+        ensures { result.now ≡ pause_word self }
+    {
+        match self {
+            PauseKind::Pause => b"pause",
+            PauseKind::Force => b"force",
+            PauseKind::Gone => b"gone",
+        }
+    }
+}
+
 /// What clients are told by a signal of org.freedesktop.login1(5).
 #[derive(Clone, Copy, Debug)]
 pub enum Notice {

@@ -12,7 +12,7 @@ use Rattle.login_model.specs.Names.{session_lt, seat_lt, device_lt}
 use Rattle.login_model.proofs.NameLaws.{number_order, session_order, user_order, conn_order, seat_order, device_order, lock_order}
 use Rattle.login_model.proofs.Keys.{test}
 use Rattle.login_model.proofs.Values.{apart, key-refl}
-use Rattle.login_table.specs.KeyOrder.{place, pair_lt, key_lt}
+use Rattle.login_table.specs.KeyOrder.{rank_of, pair_lt, key_lt}
 
 -- a key as the numbers by which it stands behind others of its kind
 abbrev numbers : Key → List ℕ
@@ -53,7 +53,7 @@ of-device a b = ap (λ (x : Bool). nat_lt a.major b.major || ((a.major == b.majo
 of-pair : (s r : SessId) (a b : DevNo) → pair_lt s a r b ≡ seat_lt (s.0 ∷ a.major ∷ a.minor ∷ []) (r.0 ∷ b.major ∷ b.minor ∷ [])
 of-pair s r a b = ap (λ (x : Bool). nat_lt s.0 r.0 || ((s.0 == r.0) && x)) (of-device a b)
 
-by-numbers : (j k : Key) → key_lt j k ≡ seat_lt (place j ∷ numbers j) (place k ∷ numbers k)
+by-numbers : (j k : Key) → key_lt j k ≡ seat_lt (rank_of j ∷ numbers j) (rank_of k ∷ numbers k)
 by-numbers (Conn a) (Conn b) = alone a.0 b.0
 by-numbers (Sess a) (Sess b) = level a.0 b.0
 by-numbers (User a) (User b) = level a.0 b.0
@@ -80,12 +80,12 @@ by-numbers Now Now = refl
 by-numbers _ _ = refl
 
 key-irreflexive : (k : Key) → key_lt k k ≡ false
-key-irreflexive k = by-numbers k k ∙ seat_order.irreflexive (place k ∷ numbers k)
+key-irreflexive k = by-numbers k k ∙ seat_order.irreflexive (rank_of k ∷ numbers k)
 
 key-transitive : (j k l : Key) → key_lt j k ≡ true → key_lt k l ≡ true → key_lt j l ≡ true
 key-transitive j k l p q =
     by-numbers j l
-    ∙ seat_order.transitive (place j ∷ numbers j) (place k ∷ numbers k) (place l ∷ numbers l) (sym (by-numbers j k) ∙ p) (sym (by-numbers k l) ∙ q)
+    ∙ seat_order.transitive (rank_of j ∷ numbers j) (rank_of k ∷ numbers k) (rank_of l ∷ numbers l) (sym (by-numbers j k) ∙ p) (sym (by-numbers k l) ∙ q)
 
 pair-session : (s r : SessId) (a b : DevNo) → pair_lt s a r b ≡ false → pair_lt r b s a ≡ false → (session_lt s r ≡ false) × (session_lt r s ≡ false)
 pair-session s r a b p q = (grind (arith, nat_tests), grind (arith, nat_tests))
@@ -170,8 +170,8 @@ head-up : (a b : ℕ) (xs ys : List ℕ) → seat_lt (a ∷ xs) (b ∷ ys) ≡ t
 head-up a b xs ys h = grind (arith, nat_tests)
 
 -- the kinds do not fall
-pub place-up : (j k : Key) → key_lt j k ≡ true → nat_lt (place k) (place j) ≡ false
-place-up j k h = head-up (place j) (place k) (numbers j) (numbers k) (sym (by-numbers j k) ∙ h)
+pub rank-up : (j k : Key) → key_lt j k ≡ true → nat_lt (rank_of k) (rank_of j) ≡ false
+rank-up j k h = head-up (rank_of j) (rank_of k) (numbers j) (numbers k) (sym (by-numbers j k) ∙ h)
 
 up-below : (m a b : ℕ) → nat_lt b a ≡ false → nat_lt b m ≡ true → nat_lt a m ≡ true
 up-below m a b p q = grind (arith, nat_tests)
@@ -179,11 +179,11 @@ up-below m a b p q = grind (arith, nat_tests)
 up-above : (m a b : ℕ) → nat_lt b a ≡ false → nat_lt m a ≡ true → nat_lt m b ≡ true
 up-above m a b p q = grind (arith, nat_tests)
 
-pub kind-below : (m : ℕ) (j k : Key) → key_lt j k ≡ true → nat_lt (place k) m ≡ true → nat_lt (place j) m ≡ true
-kind-below m j k h e = up-below m (place j) (place k) (place-up j k h) e
+pub rank-below : (m : ℕ) (j k : Key) → key_lt j k ≡ true → nat_lt (rank_of k) m ≡ true → nat_lt (rank_of j) m ≡ true
+rank-below m j k h e = up-below m (rank_of j) (rank_of k) (rank-up j k h) e
 
-pub kind-above : (m : ℕ) (j k : Key) → key_lt j k ≡ true → nat_lt m (place j) ≡ true → nat_lt m (place k) ≡ true
-kind-above m j k h e = up-above m (place j) (place k) (place-up j k h) e
+pub rank-above : (m : ℕ) (j k : Key) → key_lt j k ≡ true → nat_lt m (rank_of j) ≡ true → nat_lt m (rank_of k) ≡ true
+rank-above m j k h e = up-above m (rank_of j) (rank_of k) (rank-up j k h) e
 
-pub same-kind : (m n : ℕ) → m ≡ n → nat_lt m n ≡ true → ⊥
-same-kind m n e h = no-test h (ap (λ (x : ℕ). nat_lt x n) e ∙ number_order.irreflexive n)
+pub same-rank : (m n : ℕ) → m ≡ n → nat_lt m n ≡ true → ⊥
+same-rank m n e h = no-test h (ap (λ (x : ℕ). nat_lt x n) e ∙ number_order.irreflexive n)

@@ -5,10 +5,10 @@ use Rattle.login_model.specs.declared.fact.Key.{Key}
 use Rattle.login_model.specs.Same.{same_key}
 use Rattle.login_model.specs.Names.{is_above}
 use Rattle.login_model.proofs.Keys.{same_key-true, test}
-use Rattle.login_table.specs.KeyOrder.{key_lt, place}
+use Rattle.login_table.specs.KeyOrder.{key_lt, rank_of}
 use Rattle.login_table.specs.KeySet.{has, KeysAscend, KeysAscendFrom}
 use Rattle.login_table.specs.Rows.{IsFront}
-use Rattle.login_table.proofs.KeyOrder.{key_order, kind-below, no-test, below-apart, above-apart, above}
+use Rattle.login_table.proofs.KeyOrder.{key_order, rank-below, no-test, below-apart, above-apart, above}
 
 -- ascending keys, opened
 pub keys-opened : (xs : List Key) → KeysAscend xs → KeysAscendFrom None xs
@@ -47,8 +47,8 @@ keys-up-to k x y h e = elim (test (key_lt k x)) [
   | inr f ↦ ap not f
 ]
 
-pub keys-of-kinds : (m : ℕ) (x y : Key) → key_lt x y ≡ true → nat_lt (place y) m ≡ true → nat_lt (place x) m ≡ true
-keys-of-kinds m x y h e = kind-below m x y h e
+pub keys-of-kinds : (m : ℕ) (x y : Key) → key_lt x y ≡ true → nat_lt (rank_of y) m ≡ true → nat_lt (rank_of x) m ≡ true
+keys-of-kinds m x y h e = rank-below m x y h e
 
 -- keys above one are above those below it
 pub keys-lower : (j k : Key) (xs : List Key) → key_lt j k ≡ true → KeysAscendFrom (Some k) xs → KeysAscendFrom (Some j) xs

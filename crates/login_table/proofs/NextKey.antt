@@ -1,5 +1,6 @@
 -- The next name among keys that ascend.
 use Rattle.std.proofs.Common.{◌≡◌, ℕ, zero, suc, nat_lt, ◌<◌, get_or, ◌||◌, Bool, true, false, not, Option, Some, None, option_map, List, [], ◌∷◌, length, take, drop, ◌-◌, refl, ap, sym, arith, ◌∙◌, subst, ◌⊎◌, inl, inr}
+use Rattle.std.specs.Option.{option_or}
 use Rattle.std.proofs.lemmas.List.{take_rest}
 use Rattle.login_model.specs.declared.fact.Key.{Key}
 use Rattle.login_model.specs.declared.fact.Fact.{Fact}
@@ -8,25 +9,25 @@ use Rattle.login_model.specs.Kind.{IsOrder, AreKeys}
 use Rattle.login_model.specs.Names.{IsNext, is_above}
 use Rattle.login_model.proofs.Keys.{same_key-true, test}
 use Rattle.login_model.proofs.Values.{key-refl}
-use Rattle.login_table.specs.KeyOrder.{key_lt, place}
-use Rattle.login_table.specs.KeySet.{first_named, has, is_passed, KeysAscendFrom, or_else}
+use Rattle.login_table.specs.KeyOrder.{key_lt, rank_of}
+use Rattle.login_table.specs.KeySet.{first_named, has, is_passed, KeysAscendFrom}
 use Rattle.login_table.specs.Rows.{IsFront}
-use Rattle.login_table.proofs.KeyOrder.{same-kind, kind-above, no-test}
+use Rattle.login_table.proofs.KeyOrder.{same-rank, rank-above, no-test}
 use Rattle.login_table.proofs.KeySets.{keys-lower, keys-anyhow}
 
 -- the keys behind one are those above the name that has it
-pub front-above : {A : Type 0} (key_of : A → Key) (kind : ℕ) (above : Option A) (name : A) (k : Key) (n : ℕ) (xs : List Key) → above ≡ Some name → k ≡ key_of name
-    → IsFront (λ (x : Key). not (key_lt k x)) n xs → IsFront (is_passed key_of kind above) n xs
-front-above {A} key_of kind above name k n xs e h f =
+pub front-above : {A : Type 0} (key_of : A → Key) (rank : ℕ) (above : Option A) (name : A) (k : Key) (n : ℕ) (xs : List Key) → above ≡ Some name → k ≡ key_of name
+    → IsFront (λ (x : Key). not (key_lt k x)) n xs → IsFront (is_passed key_of rank above) n xs
+front-above {A} key_of rank above name k n xs e h f =
     let P : Key → Type 0 = λ j. IsFront (λ (x : Key). not (key_lt j x)) n xs in
-    let Q : Option A → Type 0 = λ a. IsFront (is_passed key_of kind a) n xs in
+    let Q : Option A → Type 0 = λ a. IsFront (is_passed key_of rank a) n xs in
     subst Q (sym e) (subst P h f)
 
-pub front-kind : {A : Type 0} (key_of : A → Key) (kind m : ℕ) (above : Option A) (n : ℕ) (xs : List Key) → above ≡ None → m ≡ kind
-    → IsFront (λ (x : Key). nat_lt (place x) m) n xs → IsFront (is_passed key_of kind above) n xs
-front-kind {A} key_of kind m above n xs e h f =
-    let P : ℕ → Type 0 = λ j. IsFront (λ (x : Key). nat_lt (place x) j) n xs in
-    let Q : Option A → Type 0 = λ a. IsFront (is_passed key_of kind a) n xs in
+pub front-rank : {A : Type 0} (key_of : A → Key) (rank m : ℕ) (above : Option A) (n : ℕ) (xs : List Key) → above ≡ None → m ≡ rank
+    → IsFront (λ (x : Key). nat_lt (rank_of x) m) n xs → IsFront (is_passed key_of rank above) n xs
+front-rank {A} key_of rank m above n xs e h f =
+    let P : ℕ → Type 0 = λ j. IsFront (λ (x : Key). nat_lt (rank_of x) j) n xs in
+    let Q : Option A → Type 0 = λ a. IsFront (is_passed key_of rank a) n xs in
     subst Q (sym e) (subst P h f)
 
 true-from : (b : Bool) → not b ≡ false → b ≡ true
@@ -38,21 +39,21 @@ false-from true h = let z : false ≡ true = h in cc
 false-from false h = refl
 
 -- the keys behind ascend from there
-drop-ascends : {A : Type 0} (key_of : A → Key) (kind : ℕ) (above : Option A) (b : Option Key) (n : ℕ) (xs : List Key) → KeysAscendFrom b xs → IsFront (is_passed key_of kind above) n xs
+drop-ascends : {A : Type 0} (key_of : A → Key) (rank : ℕ) (above : Option A) (b : Option Key) (n : ℕ) (xs : List Key) → KeysAscendFrom b xs → IsFront (is_passed key_of rank above) n xs
     → KeysAscendFrom (option_map key_of above) (drop n xs)
-drop-ascends key_of kind above b zero [] a f = tt
-drop-ascends key_of kind above b (suc n) [] a f = absurd f
-drop-ascends key_of kind None b zero (x ∷ xs) a f = (refl, a.1)
-drop-ascends key_of kind (Some d) b zero (x ∷ xs) a f = (true-from (key_lt (key_of d) x) f, a.1)
-drop-ascends key_of kind None b (suc n) (x ∷ xs) a f = drop-ascends key_of kind None (Some x) n xs a.1 f.1
-drop-ascends key_of kind (Some d) b (suc n) (x ∷ xs) a f = drop-ascends key_of kind (Some d) (Some x) n xs a.1 f.1
+drop-ascends key_of rank above b zero [] a f = tt
+drop-ascends key_of rank above b (suc n) [] a f = absurd f
+drop-ascends key_of rank None b zero (x ∷ xs) a f = (refl, a.1)
+drop-ascends key_of rank (Some d) b zero (x ∷ xs) a f = (true-from (key_lt (key_of d) x) f, a.1)
+drop-ascends key_of rank None b (suc n) (x ∷ xs) a f = drop-ascends key_of rank None (Some x) n xs a.1 f.1
+drop-ascends key_of rank (Some d) b (suc n) (x ∷ xs) a f = drop-ascends key_of rank (Some d) (Some x) n xs a.1 f.1
 
 -- the keys that are searched ascend
-pub rest-ascends : {A : Type 0} (key_of : A → Key) (kind : ℕ) (above : Option A) (n : ℕ) (xs : List Key) → KeysAscendFrom None xs → IsFront (is_passed key_of kind above) n xs
+pub rest-ascends : {A : Type 0} (key_of : A → Key) (rank : ℕ) (above : Option A) (n : ℕ) (xs : List Key) → KeysAscendFrom None xs → IsFront (is_passed key_of rank above) n xs
     → KeysAscendFrom None (take (length xs - n) (drop n xs))
-rest-ascends key_of kind above n xs a f =
+rest-ascends key_of rank above n xs a f =
     let P : List Key → Type 0 = λ ys. KeysAscendFrom None ys in
-    subst P (sym (take_rest xs n)) (keys-anyhow (option_map key_of above) (drop n xs) (drop-ascends key_of kind above None n xs a f))
+    subst P (sym (take_rest xs n)) (keys-anyhow (option_map key_of above) (drop n xs) (drop-ascends key_of rank above None n xs a f))
 
 pub no-some : {A : Type 0} {a : A} {z : Option A} → z ≡ None → z ≡ Some a → ⊥
 no-some p q = let e = sym p ∙ q in cc
@@ -74,7 +75,7 @@ or-second true b h = refl
 or-second false b h = h
 
 module _ {A : Type 0} (lt : A → A → Bool) (o : IsOrder lt) (name_in : Key → Option A) (key_of : A → Key) (is_fact : Fact → Bool) (first : Option A) (k : AreKeys name_in key_of is_fact first)
-    (ordered : (a b : A) → key_lt (key_of a) (key_of b) ≡ lt a b) (kind : ℕ) (of_kind : (a : A) → place (key_of a) ≡ kind) where
+    (ordered : (a b : A) → key_lt (key_of a) (key_of b) ≡ lt a b) (rank : ℕ) (of_rank : (a : A) → rank_of (key_of a) ≡ rank) where
   has-named : (xs : List Key) (e : A) → has (key_of e) xs ≡ true → NamedIn name_in e xs
   has-named [] e h = let z : false ≡ true = h in cc
   has-named (x ∷ xs) e h = elim (either (same_key x (key_of e)) (has (key_of e) xs) h) [
@@ -90,11 +91,11 @@ module _ {A : Type 0} (lt : A → A → Bool) (o : IsOrder lt) (name_in : Key �
   ]
 
   -- a name that is above has its key behind
-  behind-named : (above : Option A) (n : ℕ) (xs : List Key) (e : A) → IsFront (is_passed key_of kind above) n xs → is_above lt above e ≡ true → NamedIn name_in e xs → NamedIn name_in e (drop n xs)
+  behind-named : (above : Option A) (n : ℕ) (xs : List Key) (e : A) → IsFront (is_passed key_of rank above) n xs → is_above lt above e ≡ true → NamedIn name_in e xs → NamedIn name_in e (drop n xs)
   behind-named above n [] e f h g = absurd g
   behind-named above zero (x ∷ xs) e f h g = g
   behind-named None (suc n) (x ∷ xs) e f h g = elim g [
-    | inl p ↦ absurd (same-kind (place x) kind (ap place (k.own x e p) ∙ of_kind e) f.0)
+    | inl p ↦ absurd (same-rank (rank_of x) rank (ap rank_of (k.own x e p) ∙ of_rank e) f.0)
     | inr q ↦ behind-named None n xs e f.1 h q
   ]
   behind-named (Some d) (suc n) (x ∷ xs) e f h g = elim g [
@@ -131,7 +132,7 @@ module _ {A : Type 0} (lt : A → A → Bool) (o : IsOrder lt) (name_in : Key �
   Firsts : A → List Key → Type 0
   Firsts a xs = NamedIn name_in a xs × ((e : A) → NamedIn name_in e xs → lt e a ≡ false)
 
-  firsts-by : (x : Key) (xs : List Key) (a : A) (z : Option A) → name_in x ≡ z → KeysAscendFrom (Some x) xs → or_else z (first_named name_in xs) ≡ Some a
+  firsts-by : (x : Key) (xs : List Key) (a : A) (z : Option A) → name_in x ≡ z → KeysAscendFrom (Some x) xs → option_or z (first_named name_in xs) ≡ Some a
       → (first_named name_in xs ≡ Some a → Firsts a xs) → Firsts a (x ∷ xs)
   unfolding Firsts
   firsts-by x xs a None n up h more =
@@ -155,7 +156,7 @@ module _ {A : Type 0} (lt : A → A → Bool) (o : IsOrder lt) (name_in : Key �
   firsts b [] a up h = absurd (no-some refl h)
   firsts b (x ∷ xs) a up h = firsts-by x xs a (name_in x) refl up.1 h (λ m. firsts (Some x) xs a up.1 m)
 
-  none-by : (x : Key) (xs : List Key) (e : A) (z : Option A) → name_in x ≡ z → or_else z (first_named name_in xs) ≡ None
+  none-by : (x : Key) (xs : List Key) (e : A) (z : Option A) → name_in x ≡ z → option_or z (first_named name_in xs) ≡ None
       → (first_named name_in xs ≡ None → NamedIn name_in e xs → ⊥) → NamedIn name_in e (x ∷ xs) → ⊥
   none-by x xs e None n h more g = elim g [
     | inl q ↦ no-some n q
@@ -168,44 +169,44 @@ module _ {A : Type 0} (lt : A → A → Bool) (o : IsOrder lt) (name_in : Key �
   none-named (x ∷ xs) e h g = none-by x xs e (name_in x) refl h (λ m. none-named xs e m) g
 
   -- the first name behind is the next
-  next-named : (above : Option A) (n : ℕ) (xs : List Key) (z : Option A) → KeysAscendFrom None xs → IsFront (is_passed key_of kind above) n xs
+  next-named : (above : Option A) (n : ℕ) (xs : List Key) (z : Option A) → KeysAscendFrom None xs → IsFront (is_passed key_of rank above) n xs
       → first_named name_in (drop n xs) ≡ z → IsNext lt (λ a. has (key_of a) xs) above z
   unfolding Firsts
   next-named above n xs None up f h = λ e p q. none-named (drop n xs) e h (behind-named above n xs e f q (has-named xs e p))
   next-named above n xs (Some a) up f h =
-      let more = drop-ascends key_of kind above None n xs up f in
+      let more = drop-ascends key_of rank above None n xs up f in
       let p = firsts (option_map key_of above) (drop n xs) a more h in (
-        named-has xs a (front-named (is_passed key_of kind above) n xs a f p.0),
+        named-has xs a (front-named (is_passed key_of rank above) n xs a f p.0),
         above-named above (drop n xs) a more p.0,
         λ e t q. p.1 e (behind-named above n xs e f q (has-named xs e t)),
       )
 
 -- the next name of what is read from the keys
 pub next-key : {A : Type 0} (lt : A → A → Bool) → IsOrder lt → (name_in : Key → Option A) (key_of : A → Key) (is_fact : Fact → Bool) (first : Option A) → AreKeys name_in key_of is_fact first
-    → ((a b : A) → key_lt (key_of a) (key_of b) ≡ lt a b) → (kind : ℕ) → ((a : A) → place (key_of a) ≡ kind) → (above : Option A) (n : ℕ) (xs ys : List Key) → KeysAscendFrom None xs → IsFront (is_passed key_of kind above) n xs
+    → ((a b : A) → key_lt (key_of a) (key_of b) ≡ lt a b) → (rank : ℕ) → ((a : A) → rank_of (key_of a) ≡ rank) → (above : Option A) (n : ℕ) (xs ys : List Key) → KeysAscendFrom None xs → IsFront (is_passed key_of rank above) n xs
     → (z : Option A) → xs ≡ ys → z ≡ first_named name_in (take (length xs - n) (drop n xs)) → IsNext lt (λ a. has (key_of a) ys) above z
-next-key {A} lt o name_in key_of is_fact first k ordered kind of_kind above n xs ys up f z same e =
+next-key {A} lt o name_in key_of is_fact first k ordered rank of_rank above n xs ys up f z same e =
     let P : List Key → Type 0 = λ us. IsNext lt (λ a. has (key_of a) us) above z in
     let read = e ∙ ap (first_named name_in) (take_rest xs n) in
-    subst P same (next-named lt o name_in key_of is_fact first k ordered kind of_kind above n xs z up f (sym read))
+    subst P same (next-named lt o name_in key_of is_fact first k ordered rank of_rank above n xs z up f (sym read))
 
-module _ {A : Type 0} (name_in : Key → Option A) (key_of : A → Key) (is_fact : Fact → Bool) (first : Option A) (k : AreKeys name_in key_of is_fact first) (kind : ℕ)
-    (of_kind : (a : A) → place (key_of a) ≡ kind) where
-  foreign-by : (x : Key) (z : Option A) → name_in x ≡ z → nat_lt kind (place x) ≡ true → z ≡ None
+module _ {A : Type 0} (name_in : Key → Option A) (key_of : A → Key) (is_fact : Fact → Bool) (first : Option A) (k : AreKeys name_in key_of is_fact first) (rank : ℕ)
+    (of_rank : (a : A) → rank_of (key_of a) ≡ rank) where
+  foreign-by : (x : Key) (z : Option A) → name_in x ≡ z → nat_lt rank (rank_of x) ≡ true → z ≡ None
   foreign-by x None e h = refl
-  foreign-by x (Some a) e h = absurd (same-kind kind (place x) (sym (ap place (k.own x a e) ∙ of_kind a)) h)
+  foreign-by x (Some a) e h = absurd (same-rank rank (rank_of x) (sym (ap rank_of (k.own x a e) ∙ of_rank a)) h)
 
   -- behind a key of a later kind there is no name
-  beyond : (x : Key) (xs : List Key) → KeysAscendFrom (Some x) xs → nat_lt kind (place x) ≡ true → first_named name_in (x ∷ xs) ≡ None
-  beyond x [] a h = ap (λ (z : Option A). or_else z None) (foreign-by x (name_in x) refl h)
+  beyond : (x : Key) (xs : List Key) → KeysAscendFrom (Some x) xs → nat_lt rank (rank_of x) ≡ true → first_named name_in (x ∷ xs) ≡ None
+  beyond x [] a h = ap (λ (z : Option A). option_or z None) (foreign-by x (name_in x) refl h)
   beyond x (y ∷ ys) a h =
-      ap (λ (z : Option A). or_else z (first_named name_in (y ∷ ys))) (foreign-by x (name_in x) refl h)
-      ∙ beyond y ys a.1 (kind-above kind x y a.0 h)
+      ap (λ (z : Option A). option_or z (first_named name_in (y ∷ ys))) (foreign-by x (name_in x) refl h)
+      ∙ beyond y ys a.1 (rank-above rank x y a.0 h)
 
-  beyond-from : (b : Option Key) (xs : List Key) (i : ℕ) (d : Key) → KeysAscendFrom b xs → i < length xs → nat_lt kind (place (get_or xs i d)) ≡ true → first_named name_in (drop i xs) ≡ None
+  beyond-from : (b : Option Key) (xs : List Key) (i : ℕ) (d : Key) → KeysAscendFrom b xs → i < length xs → nat_lt rank (rank_of (get_or xs i d)) ≡ true → first_named name_in (drop i xs) ≡ None
   beyond-from b [] i d a l h = absurd (omega arith)
   beyond-from b (x ∷ xs) zero d a l h = beyond x xs a.1 h
   beyond-from b (x ∷ xs) (suc i) d a l h = beyond-from (Some x) xs i d a.1 (omega arith) h
 
-  pub beyond-at : (xs : List Key) (i : ℕ) (x : Key) → KeysAscendFrom None xs → i < length xs → x ≡ get_or xs i x → nat_lt kind (place x) ≡ true → first_named name_in (drop i xs) ≡ None
-  beyond-at xs i x a l e h = beyond-from None xs i x a l (ap (λ (y : Key). nat_lt kind (place y)) (sym e) ∙ h)
+  pub beyond-at : (xs : List Key) (i : ℕ) (x : Key) → KeysAscendFrom None xs → i < length xs → x ≡ get_or xs i x → nat_lt rank (rank_of x) ≡ true → first_named name_in (drop i xs) ≡ None
+  beyond-at xs i x a l e h = beyond-from None xs i x a l (ap (λ (y : Key). nat_lt rank (rank_of y)) (sym e) ∙ h)

@@ -13,7 +13,7 @@ use Rattle.login_model.proofs.NameLaws.{session_order}
 use Rattle.login_table.specs.KeyOrder.{key_lt, pair_lt}
 use Rattle.login_table.specs.KeySet.{has, holder_in, is_held_by, is_holder, is_holder_passed, KeysAscendFrom}
 use Rattle.login_table.specs.Rows.{IsFront}
-use Rattle.login_table.proofs.KeyOrder.{kind-below, no-test}
+use Rattle.login_table.proofs.KeyOrder.{rank-below, no-test}
 use Rattle.login_table.proofs.KeySets.{key-found, key-missed, keys-lower, other-at, same-at}
 use Rattle.login_table.proofs.NextKey.{no-some, some-is}
 use Rattle.login_table.proofs.NextTaken.{dropped-ascend, or-first, or-second, stops, Stops, true-from}
@@ -30,7 +30,7 @@ pub holder-down : (above : Option SessId) (x y : Key) → key_lt x y ≡ true �
 holder-down above (Taken r a) (Taken q b) h e = taken-down above r q a b h e
 holder-down above (Taken r a) _ h e = cc
 holder-down above _ (Taken q b) h e = h
-holder-down above x y h e = kind-below 13 x y h e
+holder-down above x y h e = rank-below 13 x y h e
 
 -- the key of a session and a device is that session's
 held-itself : (s : SessId) (d : DevNo) (x : Key) → same_key x (Taken s d) ≡ true → is_held_by s x ≡ true

@@ -10,7 +10,7 @@ use Rattle.login_model.specs.Same.{same_key}
 use Rattle.login_model.specs.Start.{start_fact}
 use Rattle.login_model.specs.Trail.{Trail, value}
 use Rattle.login_model.proofs.Keys.{same_key-true, test}
-use Rattle.login_table.specs.KeyOrder.{place}
+use Rattle.login_table.specs.KeyOrder.{rank_of}
 use Rattle.login_table.specs.Parts.{in_front, is_of_kind, is_of_others, joined}
 use Rattle.login_table.specs.Rows.{RowList}
 use Rattle.login_table.proofs.KeyOrder.{no-test}
@@ -63,63 +63,63 @@ same-test m n e = grind (arith, nat_tests)
 pub by-test : (m n : ℕ) → (m == n) ≡ true → m ≡ n
 by-test m n e = grind (arith, nat_tests)
 
-none-of : (kind : ℕ) (b : RowList) (k : Key) → is_of_others kind k ≡ false → value (in_front (is_of_others kind) b.trail []) k ≡ start_fact k
-none-of kind b k n = beside (is_of_others kind) b.trail [] k n ∙ value-start k
+none-of : (rank : ℕ) (b : RowList) (k : Key) → is_of_others rank k ≡ false → value (in_front (is_of_others rank) b.trail []) k ≡ start_fact k
+none-of rank b k n = beside (is_of_others rank) b.trail [] k n ∙ value-start k
 
 -- a key of the kind is told by the first rows
-pub joined-one : (kind : ℕ) (a b : RowList) (k : Key) → place k ≡ kind → value (joined kind a b).trail k ≡ value a.trail k
+pub joined-one : (rank : ℕ) (a b : RowList) (k : Key) → rank_of k ≡ rank → value (joined rank a b).trail k ≡ value a.trail k
 unfolding joined
-joined-one kind a b k e =
-    let y = same-test (place k) kind e in
-    among (is_of_kind kind) a.trail (in_front (is_of_others kind) b.trail []) k y (none-of kind b k (ap not y))
+joined-one rank a b k e =
+    let y = same-test (rank_of k) rank e in
+    among (is_of_kind rank) a.trail (in_front (is_of_others rank) b.trail []) k y (none-of rank b k (ap not y))
 
 -- and others by the second
-pub joined-other : (kind : ℕ) (a b : RowList) (k : Key) → is_of_kind kind k ≡ false → value (joined kind a b).trail k ≡ value b.trail k
+pub joined-other : (rank : ℕ) (a b : RowList) (k : Key) → is_of_kind rank k ≡ false → value (joined rank a b).trail k ≡ value b.trail k
 unfolding joined
-joined-other kind a b k n =
-    beside (is_of_kind kind) a.trail (in_front (is_of_others kind) b.trail []) k n
-    ∙ among (is_of_others kind) b.trail [] k (ap not n) (value-start k)
+joined-other rank a b k n =
+    beside (is_of_kind rank) a.trail (in_front (is_of_others rank) b.trail []) k n
+    ∙ among (is_of_others rank) b.trail [] k (ap not n) (value-start k)
 
--- a key of another place
-pub other-kind : (kind m : ℕ) (k : Key) → place k ≡ m → (m == kind) ≡ false → is_of_kind kind k ≡ false
-other-kind kind m k e n = ap (λ (i : ℕ). i == kind) e ∙ n
+-- a key of another rank
+pub other-kind : (rank m : ℕ) (k : Key) → rank_of k ≡ m → (m == rank) ≡ false → is_of_kind rank k ≡ false
+other-kind rank m k e n = ap (λ (i : ℕ). i == rank) e ∙ n
 
 -- the facts after a setting are those before with that one
 abbrev pub Sets : RowList → RowList → Key → Fact → Type 0
 Sets a b j x = (k : Key) → value b.trail k ≡ value (Set j x ∷ a.trail) k
 
-set-by : (kind : ℕ) (a b : RowList) (j : Key) (x : Fact) (k : Key) (v : Fact) → value (joined kind a b).trail k ≡ v → value (Set j x ∷ (joined kind a b).trail) k ≡ cond (same_key j k) x v
-set-by kind a b j x k v e = value-set k j x (joined kind a b).trail ∙ ap (cond (same_key j k) x) e
+set-by : (rank : ℕ) (a b : RowList) (j : Key) (x : Fact) (k : Key) (v : Fact) → value (joined rank a b).trail k ≡ v → value (Set j x ∷ (joined rank a b).trail) k ≡ cond (same_key j k) x v
+set-by rank a b j x k v e = value-set k j x (joined rank a b).trail ∙ ap (cond (same_key j k) x) e
 
 unset : (j k : Key) (x v : Fact) → same_key j k ≡ false → cond (same_key j k) x v ≡ v
 unset j k x v n = ap (λ (b : Bool). cond b x v) n
 
 -- a setting of the kind, and one of another
-pub set-one : (kind : ℕ) (a c b : RowList) (j : Key) (x : Fact) → place j ≡ kind → Sets a c j x → Sets (joined kind a b) (joined kind c b) j x
-set-one kind a c b j x e s k = elim (test (is_of_kind kind k)) [
+pub set-one : (rank : ℕ) (a c b : RowList) (j : Key) (x : Fact) → rank_of j ≡ rank → Sets a c j x → Sets (joined rank a b) (joined rank c b) j x
+set-one rank a c b j x e s k = elim (test (is_of_kind rank k)) [
   | inl y ↦
-      (let same = by-test (place k) kind y in
-      joined-one kind c b k same ∙ s k ∙ value-set k j x a.trail ∙ sym (set-by kind a b j x k (value a.trail k) (joined-one kind a b k same)))
+      (let same = by-test (rank_of k) rank y in
+      joined-one rank c b k same ∙ s k ∙ value-set k j x a.trail ∙ sym (set-by rank a b j x k (value a.trail k) (joined-one rank a b k same)))
   | inr n ↦
-      joined-other kind c b k n
-      ∙ sym (set-by kind a b j x k (value b.trail k) (joined-other kind a b k n) ∙ unset j k x (value b.trail k) (other-one (is_of_kind kind) j k (same-test (place j) kind e) n))
+      joined-other rank c b k n
+      ∙ sym (set-by rank a b j x k (value b.trail k) (joined-other rank a b k n) ∙ unset j k x (value b.trail k) (other-one (is_of_kind rank) j k (same-test (rank_of j) rank e) n))
 ]
 
-pub set-other : (kind : ℕ) (a b c : RowList) (j : Key) (x : Fact) → is_of_kind kind j ≡ false → Sets b c j x → Sets (joined kind a b) (joined kind a c) j x
-set-other kind a b c j x e s k = elim (test (is_of_kind kind k)) [
+pub set-other : (rank : ℕ) (a b c : RowList) (j : Key) (x : Fact) → is_of_kind rank j ≡ false → Sets b c j x → Sets (joined rank a b) (joined rank a c) j x
+set-other rank a b c j x e s k = elim (test (is_of_kind rank k)) [
   | inl y ↦
-      (let same = by-test (place k) kind y in
-      joined-one kind a c k same
-      ∙ sym (set-by kind a b j x k (value a.trail k) (joined-one kind a b k same) ∙ unset j k x (value a.trail k) (one-other (is_of_kind kind) j k e y)))
+      (let same = by-test (rank_of k) rank y in
+      joined-one rank a c k same
+      ∙ sym (set-by rank a b j x k (value a.trail k) (joined-one rank a b k same) ∙ unset j k x (value a.trail k) (one-other (is_of_kind rank) j k e y)))
   | inr n ↦
-      joined-other kind a c k n ∙ s k ∙ value-set k j x b.trail ∙ sym (set-by kind a b j x k (value b.trail k) (joined-other kind a b k n))
+      joined-other rank a c k n ∙ s k ∙ value-set k j x b.trail ∙ sym (set-by rank a b j x k (value b.trail k) (joined-other rank a b k n))
 ]
 
 -- rows of no settings stand for none
-pub joined-none : (kind : ℕ) (a b : RowList) → a.trail ≡ [] → b.trail ≡ [] → (joined kind a b).trail ≡ []
+pub joined-none : (rank : ℕ) (a b : RowList) → a.trail ≡ [] → b.trail ≡ [] → (joined rank a b).trail ≡ []
 unfolding joined
-joined-none kind a b p q =
-    ap (λ (t : Trail). in_front (is_of_kind kind) t (in_front (is_of_others kind) b.trail [])) p ∙ ap (λ (t : Trail). in_front (is_of_others kind) t []) q
+joined-none rank a b p q =
+    ap (λ (t : Trail). in_front (is_of_kind rank) t (in_front (is_of_others rank) b.trail [])) p ∙ ap (λ (t : Trail). in_front (is_of_others rank) t []) q
 
 pub apart : (m n : ℕ) → (m ≡ n → ⊥) → (m == n) ≡ false
 apart m n h = grind (arith, nat_tests)

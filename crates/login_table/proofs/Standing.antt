@@ -8,7 +8,7 @@ use Rattle.login_model.specs.Start.{start_fact}
 use Rattle.login_model.specs.Trail.{Trail, value}
 use Rattle.login_model.specs.Names.{IsNext}
 use Rattle.login_model.proofs.Keys.{same_key-true, test}
-use Rattle.login_table.specs.KeyOrder.{place}
+use Rattle.login_table.specs.KeyOrder.{rank_of}
 use Rattle.login_table.specs.Listed.{is_there}
 use Rattle.login_table.specs.Stands.{Stands}
 
@@ -34,11 +34,11 @@ other-key owns rows t k x e s j own =
     ]
 
 -- the next name by the rows of its kind is the next one by the marks, where the keys of its kind are the table's
-pub next-standing : {A : Type 0} (lt : A → A → Bool) (key_of : A → Key) (is_fact : Fact → Bool) (owns : Key → Bool) (part rows t : Trail) (kind n : ℕ) (above found : Option A)
-    → ((a : A) → owns (key_of a) ≡ true) → ((a : A) → place (key_of a) ≡ kind) → n ≡ kind → ((k : Key) → place k ≡ n → value part k ≡ value rows k)
+pub next-standing : {A : Type 0} (lt : A → A → Bool) (key_of : A → Key) (is_fact : Fact → Bool) (owns : Key → Bool) (part rows t : Trail) (rank n : ℕ) (above found : Option A)
+    → ((a : A) → owns (key_of a) ≡ true) → ((a : A) → rank_of (key_of a) ≡ rank) → n ≡ rank → ((k : Key) → rank_of k ≡ n → value part k ≡ value rows k)
     → IsNext lt (is_there key_of is_fact part) above found → Stands owns rows t → IsNext lt (is_there key_of is_fact t) above found
-next-standing {A} lt key_of is_fact owns part rows t kind n above found own of_kind e same next s =
+next-standing {A} lt key_of is_fact owns part rows t rank n above found own of_rank e same next s =
     let P : (A → Bool) → Type 0 = λ there. IsNext lt there above found in
-    let all : (a : A) → value part (key_of a) ≡ value t (key_of a) = λ a. same (key_of a) (of_kind a ∙ sym e) ∙ s (key_of a) (own a) in
+    let all : (a : A) → value part (key_of a) ≡ value t (key_of a) = λ a. same (key_of a) (of_rank a ∙ sym e) ∙ s (key_of a) (own a) in
     let there : is_there key_of is_fact part ≡ is_there key_of is_fact t = λ i a. is_fact (all a i) in
     subst P there next

@@ -6,34 +6,34 @@ use Rattle.login_model.specs.declared.fact.Key.{Key}
 use Rattle.login_model.specs.declared.fact.Key.TheVariants as key
 use Rattle.login_model.specs.Names.{session_lt, user_lt, conn_lt, seat_lt, device_lt, lock_lt}
 
--- the place of a key's kind, with those that tell what is there in front; what is told of sessions besides has one
--- place, and what is told of users is with them
-abbrev pub place : Key → ℕ
-place (key.Conn a) = 0
-place (key.Sess a) = 1
-place (key.User a) = 2
-place (key.Linger a) = 2
-place (key.Seat a) = 3
-place (key.Dev a) = 4
-place (key.Lock a) = 5
-place (key.Ctl a) = 6
-place (key.Owner a) = 7
-place (key.Live a) = 8
-place (key.Act a) = 9
-place key.Vt = 10
-place (key.Getty a) = 11
-place key.Pending = 12
-place (key.Taken s a) = 13
-place (key.Awaited s a) = 14
-place (key.Mode a) = 15
-place key.Op = 16
-place key.Docked = 17
-place key.Now = 18
-place (key.Idle a) = 19
-place (key.Locked a) = 19
-place (key.Sig a) = 19
+-- the rank of a key's kind, with those that tell what is there in front; what is told of sessions besides has one
+-- rank, and what is told of users is with them
+abbrev pub rank_of : Key → ℕ
+rank_of (key.Conn a) = 0
+rank_of (key.Sess a) = 1
+rank_of (key.User a) = 2
+rank_of (key.Linger a) = 2
+rank_of (key.Seat a) = 3
+rank_of (key.Dev a) = 4
+rank_of (key.Lock a) = 5
+rank_of (key.Ctl a) = 6
+rank_of (key.Owner a) = 7
+rank_of (key.Live a) = 8
+rank_of (key.Act a) = 9
+rank_of key.Vt = 10
+rank_of (key.Getty a) = 11
+rank_of key.Pending = 12
+rank_of (key.Taken s a) = 13
+rank_of (key.Awaited s a) = 14
+rank_of (key.Mode a) = 15
+rank_of key.Op = 16
+rank_of key.Docked = 17
+rank_of key.Now = 18
+rank_of (key.Idle a) = 19
+rank_of (key.Locked a) = 19
+rank_of (key.Sig a) = 19
 
--- the number of the session or the user by which a key stands in its place
+-- the number of the session or the user by which a key stands in its rank
 abbrev pub number : Key → ℕ
 number (key.Sess a) = a.0
 number (key.Idle a) = a.0
@@ -51,19 +51,19 @@ turn (key.Sig a) = 3
 turn (key.Linger a) = 1
 turn _ = 0
 
--- of keys of two kinds in one place: by the number, and then by the turn
+-- of keys of two kinds in one rank: by the number, and then by the turn
 abbrev pub part_lt : Key → Key → Bool
 part_lt j k = nat_lt (number j) (number k) || ((number j == number k) && nat_lt (turn j) (turn k))
 
--- of keys of two kinds: by the place, and then within it
+-- of keys of two kinds: by the rank, and then within it
 abbrev pub mixed_lt : Key → Key → Bool
-mixed_lt j k = nat_lt (place j) (place k) || ((place j == place k) && part_lt j k)
+mixed_lt j k = nat_lt (rank_of j) (rank_of k) || ((rank_of j == rank_of k) && part_lt j k)
 
 -- by the session, and then by the device
 abbrev pub pair_lt : SessId → DevNo → SessId → DevNo → Bool
 pair_lt s a r b = session_lt s r || ((s.0 == r.0) && device_lt a b)
 
--- keys of one kind by their names, and others by their places and within them
+-- keys of one kind by their names, and others by their ranks and within them
 abbrev pub key_lt : Key → Key → Bool
 key_lt (key.Conn a) (key.Conn b) = conn_lt a b
 key_lt (key.Sess a) (key.Sess b) = session_lt a b

@@ -1,12 +1,13 @@
 -- Keys in order, each once.
 use Rattle.std.specs.Prelude.{◌≡◌, ℕ, ◌==◌, ◌||◌, nat_lt, not, Bool, true, false, Option, Some, None, List, [], ◌∷◌}
+use Rattle.std.specs.Option.{option_or}
 use Rattle.login_base.specs.declared.ids.SessId.{SessId}
 use Rattle.login_base.specs.declared.ids.DevNo.{DevNo}
 use Rattle.login_model.specs.declared.fact.Key.{Key}
 use Rattle.login_model.specs.declared.fact.Key.TheVariants.{Taken}
 use Rattle.login_model.specs.Same.{same_key}
 use Rattle.login_model.specs.Names.{is_above, session_lt}
-use Rattle.login_table.specs.KeyOrder.{key_lt, place}
+use Rattle.login_table.specs.KeyOrder.{key_lt, rank_of}
 
 -- what a set of keys is seen as: its keys in order, and how many more go in without memory
 pub record Keys : Type 0 where
@@ -27,10 +28,10 @@ KeysAscendFrom above (x ∷ xs) = (is_above key_lt above x ≡ true) × KeysAsce
 unfoldable pub KeysAscend : List Key → Type 0
 KeysAscend keys = KeysAscendFrom None keys
 
--- whether whoever goes on from a name is past a key: it is not above the name's. Without a name, it is of a kind in front
+-- whether a walk on from a name leaves a key out: it is not above the name's, or, without a name, its rank is lower
 abbrev pub is_passed : {A : Type 0} → (A → Key) → ℕ → Option A → Key → Bool
-is_passed key_of kind None x = nat_lt (place x) kind
-is_passed key_of kind (Some a) x = not (key_lt (key_of a) x)
+is_passed key_of rank None x = nat_lt (rank_of x) rank
+is_passed key_of rank (Some a) x = not (key_lt (key_of a) x)
 
 -- whether a key is not above that of a device that a session has taken, or in front of all of the session's
 abbrev pub is_taken_passed : SessId → Option DevNo → Key → Bool
@@ -42,10 +43,11 @@ abbrev pub holder_in : Key → Option SessId
 holder_in (Taken s d) = Some s
 holder_in _ = None
 
--- whether whoever goes on from a session is past a key: it is of a kind in front, or of a session that is not above
+-- whether a walk on from a session leaves a key out: its rank is lower than that of what is taken, or its session is
+-- not above
 abbrev pub is_holder_passed : Option SessId → Key → Bool
 is_holder_passed above (Taken s d) = not (is_above session_lt above s)
-is_holder_passed above x = nat_lt (place x) 13
+is_holder_passed above x = nat_lt (rank_of x) 13
 
 -- whether a key is about what that session has taken
 abbrev pub is_held_by : SessId → Key → Bool
@@ -57,12 +59,7 @@ abbrev pub is_holder : SessId → List Key → Bool
 is_holder s [] = false
 is_holder s (x ∷ xs) = is_held_by s x || is_holder s xs
 
--- the name, or else the other
-abbrev pub or_else : {A : Type 0} → Option A → Option A → Option A
-or_else None other = other
-or_else (Some a) other = Some a
-
 -- the first name that a key is about
 abbrev pub first_named : {A : Type 0} → (Key → Option A) → List Key → Option A
 first_named name_in [] = None
-first_named name_in (x ∷ xs) = or_else (name_in x) (first_named name_in xs)
+first_named name_in (x ∷ xs) = option_or (name_in x) (first_named name_in xs)

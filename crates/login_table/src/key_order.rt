@@ -2,46 +2,46 @@
 
 ghost use Rattle.std.specs.Prelude.{◌≡◌};
 ghost use Rattle.login_model.specs.Names.{seat_lt};
-ghost use Rattle.login_table.specs.KeyOrder.{key_lt, mixed_lt, number, pair_lt, part_lt, place, turn};
+ghost use Rattle.login_table.specs.KeyOrder.{key_lt, mixed_lt, number, pair_lt, part_lt, rank_of, turn};
 
 use crate::name::Order;
 use login_base::{DevNo, SeatName, SessId};
 use login_model::Key;
 
-/// The place of connections. The kinds that tell what is there come first.
+/// The rank of connections. The kinds that tell what is there come first.
 pub const CONNECTIONS: u8 = 0;
 
-/// The place of sessions.
+/// The rank of sessions.
 pub const SESSIONS: u8 = 1;
 
-/// The place of users, and of whether they linger.
+/// The rank of users, and of whether they linger.
 pub const USERS: u8 = 2;
 
-/// The place of seats.
+/// The rank of seats.
 pub const SEATS: u8 = 3;
 
-/// The place of devices.
+/// The rank of devices.
 pub const DEVICES: u8 = 4;
 
-/// The place of locks.
+/// The rank of locks.
 pub const LOCKS: u8 = 5;
 
-/// The place of the owners of handles.
+/// The rank of the owners of handles.
 pub const OWNERS: u8 = 7;
 
-/// The place of the handles that give access.
+/// The rank of the handles that give access.
 pub const LIVES: u8 = 8;
 
-/// The place of the devices that sessions have taken.
+/// The rank of the devices that sessions have taken.
 pub const TAKES: u8 = 13;
 
-/// The place of the hints that sessions give, and of the last signals that they were sent.
+/// The rank of the hints that sessions give, and of the last signals that they were sent.
 pub const HINTS: u8 = 19;
 
-/// The place of a key's kind. All hints of a session stand together, and so does what is told of a user, so that
+/// The rank of a key's kind. All hints of a session stand together, and so does what is told of a user, so that
 /// what comes of a new one goes behind all that was told of those before.
-pub fn kind_place(key: &Key) -> u8
-    ensures { result ≡ place key.now }
+pub fn rank_of(key: &Key) -> u8
+    ensures { result ≡ rank_of key.now }
 {
     match key {
         Key::Conn(_) => CONNECTIONS,
@@ -81,7 +81,7 @@ fn is_seat_below(seat: &SeatName, other: &SeatName) -> bool
     seat.as_slice() < other.as_slice()
 }
 
-/// The number of the session or the user by which a key stands in its place.
+/// The number of the session or the user by which a key stands in its rank.
 fn number(key: &Key) -> u32
     ensures { result ≡ number key.now }
 {
@@ -105,7 +105,7 @@ fn turn(key: &Key) -> u8
     }
 }
 
-/// Whether a key is below another of its place, which is of another kind.
+/// Whether a key is below another of its rank, which is of another kind.
 fn is_part_below(a: &Key, b: &Key) -> bool
     ensures { result ≡ part_lt a.now b.now }
 {
@@ -116,7 +116,7 @@ fn is_part_below(a: &Key, b: &Key) -> bool
 fn is_mixed_below(a: &Key, b: &Key) -> bool
     ensures { result ≡ mixed_lt a.now b.now }
 {
-    kind_place(a) < kind_place(b) || (kind_place(a) == kind_place(b) && is_part_below(a, b))
+    rank_of(a) < rank_of(b) || (rank_of(a) == rank_of(b) && is_part_below(a, b))
 }
 
 /// Whether a key is below another.

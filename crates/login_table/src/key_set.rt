@@ -5,11 +5,11 @@ ghost use Rattle.login_model.specs.Devices.{taken_in};
 ghost use Rattle.login_model.specs.Names.{IsNext, device_lt, session_lt};
 ghost use Rattle.login_model.specs.Same.{same_key};
 ghost use Rattle.login_model.specs.declared.fact.Key.{Key as AnyKey};
-ghost use Rattle.login_table.specs.KeyOrder.{key_lt, place};
+ghost use Rattle.login_table.specs.KeyOrder.{key_lt, rank_of};
 ghost use Rattle.login_table.specs.KeySet.{KeysAscend, first_named, has, holder_in, is_holder, is_holder_passed, is_passed, is_taken_passed};
 ghost use Rattle.login_table.specs.Rows.{IsFront};
 
-use crate::key_order::{TAKES, is_key_below, kind_place};
+use crate::key_order::{TAKES, is_key_below, rank_of};
 use crate::name::{Name, is_above};
 use login_base::{DevNo, NoMemory, SessId};
 use login_model::{Key, is_same_key};
@@ -59,28 +59,28 @@ fn place_behind(keys: &[Key], key: &Key) -> usize
     )
 }
 
-/// How many keys are of kinds in front of that one.
-fn place_of_kind(keys: &[Key], kind: u8) -> usize
+/// How many keys are of a lower rank.
+fn place_of_rank(keys: &[Key], rank: u8) -> usize
     requires { KeysAscend keys.now }
-    ensures front { IsFront (λ (x : AnyKey). nat_lt (place x) kind) result keys.now }
+    ensures front { IsFront (λ (x : AnyKey). nat_lt (rank_of x) rank) result keys.now }
     ensures bound { result ≤ length keys.now }
 {
     keys.partition_point(
         |other: &Key| -> bool
-            ensures { result ≡ nat_lt (place other.now) kind }
-        { kind_place(other) < kind },
+            ensures { result ≡ nat_lt (rank_of other.now) rank }
+        { rank_of(other) < rank },
     )
 }
 
 /// How many keys are in front of those of the names above that one.
 fn place_above<N: Name>(keys: &[Key], above: Option<N>) -> usize
     requires { KeysAscend keys.now }
-    ensures front { IsFront (is_passed N.key_of N.kind above) result keys.now }
+    ensures front { IsFront (is_passed N.key_of N.rank above) result keys.now }
     ensures bound { result ≤ length keys.now }
 {
     match above {
         Some(name) => place_behind(keys, &name.key()),
-        None => place_of_kind(keys, N::kind()),
+        None => place_of_rank(keys, N::rank()),
     }
 }
 
@@ -122,13 +122,13 @@ fn holder_in(key: &Key) -> Option<SessId>
     }
 }
 
-/// Whether whoever goes on from a session is past a key.
+/// Whether a walk on from a session leaves a key out.
 fn is_holder_passed(above: Option<SessId>, key: &Key) -> bool
     ensures { result ≡ is_holder_passed above key.now }
 {
     match key {
         Key::Taken(session, _) => !is_above(above, *session),
-        _ => kind_place(key) < TAKES,
+        _ => rank_of(key) < TAKES,
     }
 }
 
@@ -192,7 +192,7 @@ fn first_named<N: Name>(keys: &[Key]) -> Option<N>
     ensures { result ≡ first_named N.name_in keys.now }
 {
     for key in keys {
-        if kind_place(key) > N::kind() {
+        if rank_of(key) > N::rank() {
             return None;
         }
         let name = N::in_key(key);

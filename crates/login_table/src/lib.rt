@@ -15,7 +15,7 @@ mod table;
 pub use active::{active_on, current_vt, is_active, is_on_seat, seat_of_session, session_on};
 pub use home::Home;
 pub use key_order::{
-    CONNECTIONS, DEVICES, HINTS, LIVES, LOCKS, OWNERS, SEATS, SESSIONS, TAKES, USERS, kind_place,
+    CONNECTIONS, DEVICES, HINTS, LIVES, LOCKS, OWNERS, SEATS, SESSIONS, TAKES, USERS, rank_of,
 };
 pub use listed::{Listed, are_taken_at_least, list};
 pub use locks::{key_lock, matching_lock};

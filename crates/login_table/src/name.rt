@@ -10,7 +10,7 @@ ghost use Rattle.login_model.specs.Start.{seat0};
 ghost use Rattle.login_model.specs.Where.{is_session_fact, is_user_fact, is_connected_fact, is_seat_fact, is_device_fact, is_lock_fact};
 ghost use Rattle.login_model.specs.Kind.{IsOrder, AreKeys};
 ghost use Rattle.login_model.proofs.NameLaws.{number_order, session_order, user_order, conn_order, seat_order, device_order, lock_order, session_keys, user_keys, conn_keys, seat_keys, device_keys, lock_keys};
-ghost use Rattle.login_table.specs.KeyOrder.{key_lt, place};
+ghost use Rattle.login_table.specs.KeyOrder.{key_lt, rank_of};
 ghost use Rattle.login_table.specs.Rows.{says_there};
 ghost use Rattle.login_table.specs.declared.key_order.TheConstants.{CONNECTIONS, DEVICES, LOCKS, SEATS, SESSIONS, USERS};
 
@@ -75,15 +75,15 @@ pub trait Name: Order {
     fn at_start() -> Option<Self>
         ensures { result ≡ first };
 
-    ghost kind: { ℕ };
+    ghost rank: { ℕ };
 
-    /// The place of the kind of that key.
-    fn kind() -> u8
-        ensures { result ≡ kind };
+    /// The rank of the kind of that key.
+    fn rank() -> u8
+        ensures { result ≡ rank };
 
     ghost keys: { AreKeys name_in key_of is_fact first };
 
-    ghost of_kind: { (a : Self) → place (key_of a) ≡ Self.kind };
+    ghost of_rank: { (a : Self) → rank_of (key_of a) ≡ Self.rank };
 
     ghost ordered: { (a b : Self) → key_lt (key_of a) (key_of b) ≡ Self.lt a b };
 
@@ -111,9 +111,9 @@ impl Name for SessId {
 
     ghost keys = { session_keys };
 
-    ghost kind = { SESSIONS };
+    ghost rank = { SESSIONS };
 
-    ghost of_kind = { λ a. refl };
+    ghost of_rank = { λ a. refl };
 
     ghost ordered = { λ a b. refl };
 
@@ -138,7 +138,7 @@ impl Name for SessId {
         None
     }
 
-    fn kind() -> u8 {
+    fn rank() -> u8 {
         SESSIONS
     }
 }
@@ -164,9 +164,9 @@ impl Name for Uid {
 
     ghost keys = { user_keys };
 
-    ghost kind = { USERS };
+    ghost rank = { USERS };
 
-    ghost of_kind = { λ a. refl };
+    ghost of_rank = { λ a. refl };
 
     ghost ordered = { λ a b. refl };
 
@@ -191,7 +191,7 @@ impl Name for Uid {
         None
     }
 
-    fn kind() -> u8 {
+    fn rank() -> u8 {
         USERS
     }
 }
@@ -217,9 +217,9 @@ impl Name for ConnId {
 
     ghost keys = { conn_keys };
 
-    ghost kind = { CONNECTIONS };
+    ghost rank = { CONNECTIONS };
 
-    ghost of_kind = { λ a. refl };
+    ghost of_rank = { λ a. refl };
 
     ghost ordered = { λ a b. refl };
 
@@ -244,7 +244,7 @@ impl Name for ConnId {
         None
     }
 
-    fn kind() -> u8 {
+    fn rank() -> u8 {
         CONNECTIONS
     }
 }
@@ -270,9 +270,9 @@ impl Name for SeatName {
 
     ghost keys = { seat_keys };
 
-    ghost kind = { SEATS };
+    ghost rank = { SEATS };
 
-    ghost of_kind = { λ a. refl };
+    ghost of_rank = { λ a. refl };
 
     ghost ordered = { λ a b. refl };
 
@@ -297,7 +297,7 @@ impl Name for SeatName {
         Some(SeatName::SEAT0)
     }
 
-    fn kind() -> u8 {
+    fn rank() -> u8 {
         SEATS
     }
 }
@@ -323,9 +323,9 @@ impl Name for DevNo {
 
     ghost keys = { device_keys };
 
-    ghost kind = { DEVICES };
+    ghost rank = { DEVICES };
 
-    ghost of_kind = { λ a. refl };
+    ghost of_rank = { λ a. refl };
 
     ghost ordered = { λ a b. refl };
 
@@ -350,7 +350,7 @@ impl Name for DevNo {
         None
     }
 
-    fn kind() -> u8 {
+    fn rank() -> u8 {
         DEVICES
     }
 }
@@ -376,9 +376,9 @@ impl Name for LockNo {
 
     ghost keys = { lock_keys };
 
-    ghost kind = { LOCKS };
+    ghost rank = { LOCKS };
 
-    ghost of_kind = { λ a. refl };
+    ghost of_rank = { λ a. refl };
 
     ghost ordered = { λ a b. refl };
 
@@ -403,7 +403,7 @@ impl Name for LockNo {
         None
     }
 
-    fn kind() -> u8 {
+    fn rank() -> u8 {
         LOCKS
     }
 }

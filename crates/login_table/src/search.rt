@@ -3,7 +3,7 @@
 ghost use Rattle.std.specs.Prelude.{◌≡◌, ◌++◌, ◌∷◌, [], Bool, IfOk, OnOk, filter, find};
 ghost use Rattle.login_model.specs.declared.fact.Key.TheVariants.{Dev, Sess};
 ghost use Rattle.login_model.specs.Trail.{Trail, value};
-ghost use Rattle.login_model.specs.Where.{is_on_seat, is_open, is_user_in, sessions};
+ghost use Rattle.login_model.specs.Where.{is_on_seat, is_open, is_session_of, sessions};
 ghost use Rattle.login_model.specs.Facts.{is_graphics_on};
 ghost use Rattle.login_table.specs.Listed.{listed};
 
@@ -41,7 +41,7 @@ impl Test<SessId> for IsOpen {
 pub struct OfUser(pub Uid);
 
 impl Test<SessId> for OfUser {
-    ghost meets = { λ test t s. is_user_in test.0.0 (value t (Sess s)) };
+    ghost meets = { λ test t s. is_session_of test.0.0 (value t (Sess s)) };
 
     fn is_met<F: Look>(&self, facts: &F, session: SessId) -> bool {
         facts.fact(&Key::Sess(session)).is_session_of(self.0.0)

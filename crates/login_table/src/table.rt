@@ -5,12 +5,12 @@ ghost use Rattle.login_model.specs.Trail.{Trail, value};
 ghost use Rattle.login_model.specs.Names.{IsNext};
 ghost use Rattle.login_model.specs.declared.fact.Key.{Key as AnyKey};
 ghost use Rattle.login_model.specs.declared.mark.Mark.TheVariants.{Set};
-ghost use Rattle.login_table.specs.KeyOrder.{place};
+ghost use Rattle.login_table.specs.KeyOrder.{rank_of};
 ghost use Rattle.login_table.specs.Listed.{is_there};
 ghost use Rattle.login_table.specs.Rows.{RowList};
 ghost use Rattle.login_table.specs.Stands.{Stands, told};
 
-use crate::key_order::kind_place;
+use crate::key_order::rank_of;
 use crate::name::Name;
 use crate::rows::Rows;
 use login_base::NoMemory;
@@ -35,9 +35,9 @@ pub trait Table {
     fn new(alloc: Global) -> Self
         ensures { Stands owns (list result).trail [] };
 
-    /// The rows with the facts under the keys of one kind, by its place.
-    fn part(&self, kind: u8) -> &Rows
-        ensures { (k : AnyKey) → place k ≡ kind → value result.now.trail k ≡ value (list self.now).trail k };
+    /// The rows with the facts under the keys of one kind, by its rank.
+    fn part(&self, rank: u8) -> &Rows
+        ensures { (k : AnyKey) → rank_of k ≡ rank → value result.now.trail k ≡ value (list self.now).trail k };
 
     /// Makes the spare at least so much: so many more marks can be applied without memory.
     fn room(&mut self, marks: usize) -> Result<(), NoMemory>
@@ -55,7 +55,7 @@ pub trait Table {
     fn fact(&self, key: &Key) -> &Fact
         ensures { result.now ≡ value (list self.now).trail key.now }
     {
-        self.part(kind_place(key)).fact(key)
+        self.part(rank_of(key)).fact(key)
     }
 
     /// The fact under a key, where it is one of the table's.
@@ -86,6 +86,6 @@ pub trait Table {
         requires { (a : N) → owns (N.key_of a) ≡ true }
         ensures { (t : Trail) → Stands owns (list self.now).trail t → IsNext N.lt (is_there N.key_of N.is_fact t) above result }
     {
-        self.part(N::kind()).next(above)
+        self.part(N::rank()).next(above)
     }
 }

@@ -12,9 +12,9 @@ use Rattle.std.proofs.lemmas.Str.Parse.{digit_from_value}
 use Rattle.std.proofs.lemmas.Fmt.{decimal_is_IsNumeral, decimal_digit}
 use Rattle.std.proofs.lemmas.Bool.Decides.{nat_tests}
 use Rattle.std.proofs.lemmas.Slice.Eq.{bytes_eq-Decides}
-use Rattle.login_base.specs.Number.{number_of}
+use Rattle.login_base.specs.Number.{number_of, whole_of}
 use Rattle.login_base.specs.Seat.{is_seat_name, is_seat_byte}
-use Rattle.login_base.proofs.Numbers.{number_of-decimal, number_of_is}
+use Rattle.login_base.proofs.Numbers.{number_of-decimal, number_of_is, whole_of-decimal, whole_of_is}
 use Rattle.login_model.specs.declared.operation.OpKind.{OpKind}
 use Rattle.login_model.specs.declared.operation.OpKind.TheVariants.{PowerOff, Reboot, Halt, Suspend, Hibernate, HybridSleep, SuspendThenHibernate}
 use Rattle.login_model.specs.declared.hardware.DevKind.{DevKind}
@@ -32,11 +32,10 @@ use Rattle.login_base.specs.Hex.{hex_digit, is_hex_digit}
 use Rattle.recording.specs.Text.{stands, spell_byte, spell_text, spell_flag}
 use Rattle.recording.specs.Hex.{spell_hex, is_guid}
 use Rattle.recording.specs.Bytes.{AreBytes}
-use Rattle.recording.specs.Words.{positive_of, small_of, signed_of, moment_of, flag_of, text_of, seat_of, guid_of, hex_of}
+use Rattle.recording.specs.Words.{positive_of, small_of, signed_of, flag_of, text_of, seat_of, guid_of, hex_of}
 use Rattle.recording.specs.Causes.{unless, unless_so, name_fault, word_fault, first_fault, end_fault, known_fault}
 use Rattle.recording.specs.inner.Arguments.{single, pair_of, made, whole, alone, within, name_of, version_of, Takes, Refuses}
 use Rattle.recording.proofs.Texts.{both, text_of-spell_text, text_of_is}
-use Rattle.recording.proofs.Moments.{moment_of-decimal, moment_of_is}
 use Rattle.recording.proofs.Hexes.{hex_of-spell_hex, hex_of_spells}
 use Rattle.recording.proofs.Singles.{positive_of-decimal, positive_of_is, small_of-decimal, small_of_is, signed_of-decimal, signed_of_is, flag_of-spell_flag, flag_of_is, seat_of-name, seat_of_is, guid_of-guid, guid_of_is}
 use Rattle.recording.proofs.Chains.{mapped, by_word}
@@ -346,8 +345,8 @@ positive = single_reading (record { is = λ word n e. let k = positive_of_is wor
 pub small : IsReading (Small ∷ []) (single small_of) (λ n. decimal n ∷ []) (λ n. n < 2 ^ 16)
 small = single_reading (record { is = small_of_is; again = small_of-decimal; is_word = λ n h. number_IsWord n (omega (arith, h)); agrees = λ word. unread (small_of word) _ })
 
-pub moment : IsReading (Moment ∷ []) (single moment_of) (λ n. decimal n ∷ []) (λ n. n < 2 ^ 64)
-moment = single_reading (record { is = moment_of_is; again = moment_of-decimal; is_word = decimal_IsWord; agrees = λ word. unread (moment_of word) _ })
+pub moment : IsReading (Moment ∷ []) (single whole_of) (λ n. decimal n ∷ []) (λ n. n < 2 ^ 64)
+moment = single_reading (record { is = whole_of_is; again = whole_of-decimal; is_word = decimal_IsWord; agrees = λ word. unread (whole_of word) _ })
 
 seat_agrees : (word : List ℕ) → Agrees (seat_of word) (word_fault SeatName word)
 unfolding seat_of

@@ -13,7 +13,7 @@ use Rattle.recording.specs.declared.line.LineFault.TheVariants.{UnknownWord, Bad
 use Rattle.recording.specs.declared.argument.WordKind.{WordKind}
 use Rattle.recording.specs.declared.argument.WordKind.TheVariants.{Number, Positive, Small, Signed, Moment, Flag, Text, UserName, SessionId, SeatName, Hex, Guid, Version, DeviceKind, Key, Operation, Anything}
 use Rattle.recording.specs.Hex.{is_guid}
-use Rattle.recording.specs.Words.{positive_of, small_of, signed_of, moment_of, flag_of, text_of, hex_of}
+use Rattle.recording.specs.Words.{positive_of, small_of, signed_of, flag_of, text_of, hex_of}
 use Rattle.login_model.specs.Words.{device_kind_named, key_named, operation_named}
 use Rattle.recording.specs.Shapes.{behind_in, line_shapes}
 use Rattle.recording.specs.Calls.{manager_shapes}

@@ -11,7 +11,6 @@ pub mod Joins
 pub mod Kept
 pub mod Lengths
 pub mod LongLines
-pub mod Moments
 pub mod Printed
 pub mod ReadBytes
 pub mod ReadLines

@@ -37,7 +37,8 @@ use Rattle.recording.specs.Lines.{fields, IsWritten, Spells, plain, empty}
 use Rattle.recording.specs.Shapes.{behind_in, line_shapes, event_shapes, hardware_shapes, link_shapes}
 use Rattle.recording.specs.Causes.{first_fault, end_fault, call_fault, words_fault}
 use Rattle.recording.specs.inner.Arguments.{single, pair_of, made, whole, name_of, version_of, connection_id}
-use Rattle.recording.specs.Words.{moment_of, guid_of}
+use Rattle.login_base.specs.Number.{whole_of}
+use Rattle.recording.specs.Words.{guid_of}
 use Rattle.recording.specs.inner.CallReadings.{call_of}
 use Rattle.recording.specs.inner.LineReadings.{above_nought, millis, user_name as as_user_name, session_name as as_session_name, version as as_version, identity as as_identity, positives, connections, link_line_of, hardware_line_of, event_line_of, action_of, known_line_of, request, request_of, line_of}
 use Rattle.recording.proofs.Chains.{mapped, by_word, with_rest}
@@ -123,7 +124,7 @@ serial = made_reading positive above_nought (λ p. p.0) (λ x. refl) (λ y. refl
 caller : IsReading (kind.Positive ∷ kind.Positive ∷ []) (pair_of connections positives) (λ x. decimal x.0.0 ∷ decimal x.1.0 ∷ []) (λ x. ((0 < x.0.0) × (x.0.0 < 2 ^ 32)) × ((0 < x.1.0) × (x.1.0 < 2 ^ 32)))
 caller = pair_reading connection serial
 
-tick : IsReading (kind.Moment ∷ []) (made millis (single moment_of)) (λ m. decimal m.0 ∷ []) (λ m. m.0 < 2 ^ 64)
+tick : IsReading (kind.Moment ∷ []) (made millis (single whole_of)) (λ m. decimal m.0 ∷ []) (λ m. m.0 < 2 ^ 64)
 tick = made_reading moment millis (λ m. m.0) (λ x. refl) (λ y. refl)
 
 ended : IsReading (kind.SessionId ∷ []) (made as_session_name (single (name_of 512))) (λ x. spell_text x.0 ∷ []) (λ x. IsText 512 x.0)

@@ -38,9 +38,5 @@ pub last_written : (before now after : Option (List ℕ)) (left whole : List ℕ
 last_written before now after left whole (Ok u) h k = whole_written before after [] whole (part_written before now after left [] left whole h (sym (append-nil left)) k) refl
 last_written before now after left whole (Err e) h k = part_broken before now after left [] left whole h (sym (append-nil left)) k
 
--- nothing was written of a text
-pub none_written : (before : Option (List ℕ)) (text : List ℕ) → GainsFront before before text
-none_written before text = record { count = 0; gained = Gains-nothing before }
-
 pub rises_on : (a b c : ℕ) (r : Result (Unit {0}) WriteEnd) → b ≡ a → FaultRises b c r → FaultRises a c r
 rises_on a b c r e h = subst (λ (n : ℕ). FaultRises n c r) e h

@@ -2,11 +2,10 @@
 use Rattle.std.specs.Prelude.{ℕ, ◌*◌, Option, Some, None, List, [], ◌∷◌, ◌++◌, map, codes}
 use Rattle.std.specs.List.{join_with_byte}
 use Rattle.std.specs.Fmt.{decimal, signed_decimal}
-use Rattle.login_base.specs.declared.ids.ConnId.{ConnId}
 use Rattle.login_base.specs.declared.ids.SessId.{SessId}
 use Rattle.login_base.specs.declared.ids.Uid.{Uid}
 use Rattle.login_base.specs.SessionId.{session_text}
-use Rattle.login_model.specs.Paths.{session_path, seat_path, user_path, runtime_path}
+use Rattle.login_model.specs.Paths.{session_path, seat_path, unique_name, user_path, runtime_path}
 use Rattle.login_model.specs.Words.{mode_word, say_word, what_text}
 use Rattle.login_model.specs.declared.answer.Created.{Created}
 use Rattle.login_model.specs.declared.answer.SessionRow.{SessionRow}
@@ -117,10 +116,6 @@ variant x = 60 ∷ (join_with_byte 32 (typed x) ++ 62 ∷ [])
 -- a property's name with its value
 abbrev pub property_value : PropertyRow → List ℕ
 property_value r = 123 ∷ (property_name r.property ++ 32 ∷ (variant r.value ++ 125 ∷ []))
-
--- the unique name of a connection
-abbrev pub unique_name : ConnId → List ℕ
-unique_name c = codes ":1." ++ decimal c.0
 
 -- the values of an answer
 unfoldable pub answer_words : Answer → List (List ℕ)

@@ -5,14 +5,14 @@ use Rattle.std.specs.Prelude.{ℕ, ◌==◌, ◌-◌, not, nat_le, Bool, true, f
 use Rattle.std.specs.List.{slice_split, last_or, list_any}
 use Rattle.std.specs.Option.{option_or}
 use Rattle.std.specs.Str.{bytes_eq}
-use Rattle.login_base.specs.Number.{number_of}
+use Rattle.login_base.specs.Number.{number_of, whole_of}
 use Rattle.login_base.specs.Seat.{is_seat_name}
 use Rattle.recording.specs.declared.line.LineFault.{LineFault}
 use Rattle.recording.specs.declared.line.LineFault.TheVariants.{UnknownWord, BadNumber, BadHex, MissingWord, ExtraWord, TooLong, BadName, Ended}
 use Rattle.recording.specs.declared.argument.WordKind.{WordKind}
 use Rattle.recording.specs.declared.argument.WordKind.TheVariants.{Number, Positive, Small, Signed, Moment, Flag, Text, UserName, SessionId, SeatName, Hex, Guid, Version, DeviceKind, Key, Operation, Anything}
 use Rattle.login_model.specs.Words.{device_kind_named, key_named, operation_named}
-use Rattle.recording.specs.Words.{positive_of, small_of, signed_of, moment_of, flag_of, text_of, hex_of}
+use Rattle.recording.specs.Words.{positive_of, small_of, signed_of, flag_of, text_of, hex_of}
 use Rattle.recording.specs.Hex.{is_guid}
 use Rattle.recording.specs.Shapes.{behind_in, line_shapes}
 use Rattle.recording.specs.Calls.{call_shapes}
@@ -40,7 +40,7 @@ word_fault Number word = unless (number_of word) BadNumber
 word_fault Positive word = unless (positive_of word) BadNumber
 word_fault Small word = unless (small_of word) BadNumber
 word_fault Signed word = unless (signed_of word) BadNumber
-word_fault Moment word = unless (moment_of word) BadNumber
+word_fault Moment word = unless (whole_of word) BadNumber
 word_fault Flag word = unless (flag_of word) UnknownWord
 word_fault Text word = unless (text_of line_limit word) BadHex
 word_fault UserName word = name_fault name_limit (text_of line_limit word)

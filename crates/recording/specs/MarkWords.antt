@@ -16,15 +16,13 @@ use Rattle.login_model.specs.declared.session.Phase.TheVariants.{Open, Closing, 
 use Rattle.login_model.specs.declared.lock.Lock.{Lock}
 use Rattle.login_model.specs.declared.operation.Operation.{Operation}
 use Rattle.login_model.specs.declared.operation.Operation.TheVariants.{Idle, Waiting, Running}
-use Rattle.login_model.specs.declared.mark.PauseKind.{PauseKind}
-use Rattle.login_model.specs.declared.mark.PauseKind.TheVariants as pause
 use Rattle.login_model.specs.declared.mark.Notice.{Notice}
 use Rattle.login_model.specs.declared.mark.Notice.TheVariants as notice
 use Rattle.login_model.specs.declared.mark.Whom.{Whom}
 use Rattle.login_model.specs.declared.mark.Whom.TheVariants.{One, All}
 use Rattle.login_model.specs.declared.mark.Mark.{Mark}
 use Rattle.login_model.specs.declared.mark.Mark.TheVariants.{Set, Say}
-use Rattle.login_model.specs.Words.{type_word, class_word, whom_word, operation_word, device_kind_word, mode_word, what_text}
+use Rattle.login_model.specs.Words.{type_word, class_word, whom_word, operation_word, pause_word, device_kind_word, mode_word, what_text}
 use Rattle.recording.specs.Text.{spell_flag}
 
 -- a device's major and minor number, with a colon between them
@@ -114,11 +112,6 @@ fact_words k (fact.Moment m) = decimal m.0 ∷ []
 fact_words k (fact.Device kind seat) = device_kind_word kind ∷ seat ∷ []
 fact_words k (fact.Lock x) = lock_words x
 fact_words k (fact.Operation o) = progress_words o
-
-abbrev pub pause_word : PauseKind → List ℕ
-pause_word pause.Pause = codes "pause"
-pause_word pause.Force = codes "force"
-pause_word pause.Gone = codes "gone"
 
 unfoldable pub notice_words : Notice → List (List ℕ)
 notice_words (notice.Pause s d kind) = codes "pause" ∷ session_text s ∷ device_word d ∷ pause_word kind ∷ []

@@ -6,8 +6,6 @@ use Rattle.std.specs.Str.{bytes_eq, is_utf8}
 use Rattle.login_base.specs.Number.{number_of}
 use Rattle.recording.specs.declared.word.Misread.{Misread}
 use Rattle.recording.specs.declared.word.Misread.TheVariants.{Misfit, NoMemory}
-use Rattle.std.specs.Fmt.{decimal}
-use Rattle.std.specs.Str.Parse.{digits_value}
 use Rattle.login_base.specs.Seat.{is_seat_name}
 use Rattle.recording.specs.Text.{spell_text}
 use Rattle.login_base.specs.Hex.{hex_value, is_hex_digit}
@@ -33,12 +31,6 @@ if_below bound n = if nat_lt n bound then Some n else None
 -- a number below 2^16
 abbrev pub small_of : List ℕ → Option ℕ
 small_of word = option_and_then (if_below (2 ^ 16)) (number_of word)
-
--- the number below 2^64 whose decimal spelling the word is, without sign or leading zeros
-unfoldable pub moment_of : List ℕ → Option ℕ
-moment_of word =
-    if nat_lt (digits_value 10 word) (2 ^ 64) && bytes_eq (decimal (digits_value 10 word)) word
-    then Some (digits_value 10 word) else None
 
 -- a number of 31 bits as a signed one
 abbrev pub from_zero : ℕ → Option ℤ

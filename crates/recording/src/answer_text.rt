@@ -3,7 +3,8 @@
 ghost use Rattle.std.specs.Prelude.{◌≡◌, ◌++◌, ◌∷◌, OnOk, List, ℕ, map};
 ghost use Rattle.std.specs.List.{flat_map, join_with_byte};
 ghost use Rattle.login_model.specs.Paths.{session_path, seat_path, user_path, runtime_path};
-ghost use Rattle.recording.specs.AnswerWords.{array, seat_text, found_words, value_words, row_words, session_value, user_value, seat_value, lock_value, why_words, input_value, answer_words, session_reference, property_value, or_empty, user_reference, seat_or_none, session_or_none, typed, variant, unique_name};
+ghost use Rattle.recording.specs.AnswerWords.{array, seat_text, found_words, value_words, row_words, session_value, user_value, seat_value, lock_value, why_words, input_value, answer_words, session_reference, property_value, or_empty, user_reference, seat_or_none, session_or_none, typed, variant};
+ghost use Rattle.login_model.specs.Paths.{unique_name};
 ghost use Rattle.login_model.specs.Words.{say_word, what_text};
 ghost use Rattle.recording.specs.Text.{spell_flag};
 ghost use Rattle.std.specs.Fmt.{decimal};

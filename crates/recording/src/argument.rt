@@ -13,8 +13,8 @@ use crate::word::{
     LONGEST_ID, LONGEST_TEXT, LONGEST_USER, Misread, device_kind, flag, guid, hex, is_word, key,
     moment, number, operation, positive, seat, signed, small, text,
 };
-use login_base::{Bytes, ConnId, DevNo, HandleNo, Millis, SeatName, Uid, Word};
-use login_model::{Creation, DevKind, HardKey, Inhibition, OpKind, PropertyName};
+use login_base::{Bytes, ConnId, DevNo, HandleNo, Millis, NoMemory, SeatName, Uid, Word};
+use login_model::{Boxed, Creation, DevKind, HardKey, Inhibition, OpKind, PropertyName};
 use std::alloc::Global;
 
 /// A kind of word.
@@ -402,12 +402,12 @@ impl Argument for Millis {
     ghost use Rattle.std.specs.Prelude.{[], ◌∷◌};
     ghost use Rattle.recording.specs.declared.argument.WordKind.TheVariants.{Moment as kind};
     ghost use Rattle.recording.specs.inner.Arguments.{made, single};
-    ghost use Rattle.recording.specs.Words.{moment_of};
+    ghost use Rattle.login_base.specs.Number.{whole_of};
     ghost use Rattle.recording.specs.inner.LineReadings.{millis};
 
     ghost kinds = { kind ∷ [] };
 
-    ghost of = { made millis (single moment_of) };
+    ghost of = { made millis (single whole_of) };
 
     fn take<'a>(
         alloc: Global,
@@ -661,6 +661,24 @@ impl Argument for Creation {
             (Place, Origin),
         )>::take(alloc, words)?;
         Ok((created(owner, purpose, place, origin), words))
+    }
+}
+
+/// A value in memory of its own is said by the same words.
+impl<A: Argument + Drop> Argument for Boxed<A> {
+    ghost kinds = { A.kinds };
+
+    ghost of = { A.of };
+
+    fn take<'a>(
+        alloc: Global,
+        words: &'a [&'a [u8]],
+    ) -> Result<(Boxed<A>, &'a [&'a [u8]]), LineFault> {
+        let (value, words) = A::take(alloc, words)?;
+        match Boxed::new(alloc, value) {
+            Ok(value) => Ok((value, words)),
+            Err(NoMemory) => Err(LineFault::NoMemory),
+        }
     }
 }
 

@@ -338,7 +338,7 @@ pub(crate) fn push_call(text: &mut LineText, call: &Call) -> Result<(), NoMemory
     ensures { OnOk result (text.new ≡ text.old ++ spaced (call_words call.now)) }
 {
     match call {
-        Call::Create(x) => push_creation(text, x),
+        Call::Create(x) => push_creation(text, x.get()),
         Call::GetSession(id) => push_named(text, b"get-session", id),
         Call::GetUser(uid) => push_numbered(text, b"get-user", uid.0),
         Call::GetSeat(seat) => push_named(text, b"get-seat", seat),

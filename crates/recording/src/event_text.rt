@@ -41,7 +41,7 @@ fn push_hardware(text: &mut LineText, hardware: &Hardware) -> Result<(), NoMemor
             text.word(b"add")?;
             push_device(text, *device)?;
             push_device_kind(text, *kind)?;
-            text.word(seat.as_slice())
+            text.word(seat.get().as_slice())
         }
         Hardware::Remove(device) => {
             text.word(b"remove")?;

@@ -33,13 +33,13 @@ pub enum Next {
 
 /// How much of a piece belongs to a line.
 #[derive(Clone, Copy)]
-struct Taken {
+struct LinePart {
     count: usize,
     whole: bool,
 }
 
 /// Puts bytes behind the front of a line, through its end. It takes no memory.
-fn take_piece(line: &mut Vec<u8>, piece: &[u8]) -> Taken
+fn take_piece(line: &mut Vec<u8>, piece: &[u8]) -> LinePart
     requires front { NoLineFeed line.old.items }
     requires short { vec_len line.old < line_room }
     requires room { line_room ≤ vec_capacity line.old }
@@ -54,13 +54,13 @@ fn take_piece(line: &mut Vec<u8>, piece: &[u8]) -> Taken
     for (i, b) in piece.iter().enumerate() {
         line.push_reserved(*b);
         if *b == b'\n' || line.len() == LINE_ROOM {
-            return Taken {
+            return LinePart {
                 count: i + 1,
                 whole: true,
             };
         }
     }
-    Taken {
+    LinePart {
         count: piece.len(),
         whole: false,
     }

@@ -43,7 +43,7 @@ fn are_short(call: &Call) -> bool
     ensures { result ≡ are_short call.now }
 {
     match call {
-        Call::Create(x) => is_short_creation(x),
+        Call::Create(x) => is_short_creation(x.get()),
         Call::Inhibit(x) => {
             is_short(&x.what) && is_short(&x.who) && is_short(&x.why) && is_short(&x.mode)
         }

@@ -1,7 +1,8 @@
 // How notices are printed.
 
 ghost use Rattle.std.specs.Prelude.{◌≡◌, ◌++◌, ◌∷◌, OnOk};
-ghost use Rattle.recording.specs.MarkWords.{session_or_dash, pause_word, notice_words};
+ghost use Rattle.login_model.specs.Words.{pause_word};
+ghost use Rattle.recording.specs.MarkWords.{session_or_dash, notice_words};
 ghost use Rattle.recording.specs.inner.Spaced.{spaced};
 
 use crate::key_text::{push_device_word, push_number, push_seat, push_session};
@@ -22,11 +23,7 @@ fn push_session_or_dash(text: &mut LineText, session: Option<SessId>) -> Result<
 fn push_pause_kind(text: &mut LineText, kind: PauseKind) -> Result<(), NoMemory>
     ensures { OnOk result (text.new ≡ text.old ++ 32 ∷ pause_word kind) }
 {
-    match kind {
-        PauseKind::Pause => text.word(b"pause"),
-        PauseKind::Force => text.word(b"force"),
-        PauseKind::Gone => text.word(b"gone"),
-    }
+    text.word(kind.name())
 }
 
 /// Adds the words of a notice.

@@ -3,15 +3,14 @@
 ghost use Rattle.std.specs.Prelude.{◌≡◌, ◌<◌, ◌≤◌, ◌/◌, ◌%◌, ◌++◌, [], ℕ, List, None, Some, IfOk, IfErr, IfSome, IfNone, IsTrue, ◌↔◌};
 ghost use Rattle.std.specs.List.{flat_map, list_all};
 ghost use Rattle.std.specs.Str.{bytes_eq};
-ghost use Rattle.login_base.specs.Number.{number_of};
+ghost use Rattle.login_base.specs.Number.{number_of, whole_of};
 ghost use Rattle.login_model.specs.Texts.{IsText};
 ghost use Rattle.login_base.specs.Hex.{hex_digit, is_hex_digit};
 ghost use Rattle.recording.specs.Text.{stands, spell_byte, spell_text};
 ghost use Rattle.recording.specs.Bytes.{AreBytes};
-ghost use Rattle.login_base.specs.Plain.{IsPlain};
 ghost use Rattle.recording.specs.Hex.{is_guid};
 ghost use Rattle.login_model.specs.Words.{device_kind_named, key_named, operation_named};
-ghost use Rattle.recording.specs.Words.{Gives, positive_of, small_of, from_zero, negative, signed_of, moment_of, flag_of, text_of, hex_of, guid_of, seat_of};
+ghost use Rattle.recording.specs.Words.{Gives, positive_of, small_of, from_zero, negative, signed_of, flag_of, text_of, hex_of, guid_of, seat_of};
 
 use login_base::{Bytes, SeatName, Word, hex_value, is_hex_digit};
 use login_model::{DevKind, HardKey, OpKind};
@@ -75,13 +74,6 @@ pub(crate) fn flag(word: &[u8]) -> Result<bool, Misread>
     }
 }
 
-/// Whether a word is a number without sign and leading zeros, or may be one.
-fn is_plain(word: &[u8]) -> bool
-    ensures { IsTrue result ↔ IsPlain word.now }
-{
-    !word.is_empty() && word[0] != b'+' && (word[0] != b'0' || word.len() == 1)
-}
-
 /// A number below 2^16.
 pub(crate) fn small(word: &[u8]) -> Result<u16, Misread>
     ensures { Gives (small_of word.now) result }
@@ -96,17 +88,11 @@ pub(crate) fn small(word: &[u8]) -> Result<u16, Misread>
 
 /// A number below 2^64.
 pub(crate) fn moment(word: &[u8]) -> Result<u64, Misread>
-    ensures { Gives (moment_of word.now) result }
+    ensures { Gives (whole_of word.now) result }
 {
-    if !is_plain(word) {
-        return Err(Misread::Misfit);
-    }
-    match str::from_utf8(word) {
-        Ok(text) => match text.parse::<u64>() {
-            Ok(n) => Ok(n),
-            Err(_) => Err(Misread::Misfit),
-        },
-        Err(_) => Err(Misread::Misfit),
+    match login_base::read_whole(word) {
+        Some(n) => Ok(n),
+        None => Err(Misread::Misfit),
     }
 }
 

@@ -8,7 +8,7 @@ ghost use Rattle.login_table.specs.declared.home.Home.TheVariants.{Sessions};
 
 use login_base::NoMemory;
 use login_model::{Fact, Key};
-use login_table::{Home, Rows, SESSIONS, Table, kind_place};
+use login_table::{Home, Rows, SESSIONS, Table, rank_of};
 use std::alloc::Global;
 use std::marker::Model;
 
@@ -47,8 +47,8 @@ impl Table for Sessions {
         }
     }
 
-    fn part(&self, kind: u8) -> &Rows {
-        if kind == SESSIONS {
+    fn part(&self, rank: u8) -> &Rows {
+        if rank == SESSIONS {
             &self.sessions
         } else {
             &self.hints
@@ -61,7 +61,7 @@ impl Table for Sessions {
     }
 
     fn set(&mut self, key: Key, fact: Fact) {
-        if kind_place(&key) == SESSIONS {
+        if rank_of(&key) == SESSIONS {
             self.sessions.set(key, fact);
         } else {
             self.hints.set(key, fact);

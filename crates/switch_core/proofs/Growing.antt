@@ -18,10 +18,6 @@ fits t u m n e h = let l = ap (λ (d : AheadState). length d.trail) e in let r =
 pub trails : {m n : AheadState} → m ≡ n → m.trail ≡ n.trail
 trails e = ap (λ (d : AheadState). d.trail) e
 
--- and what was before them
-pub befores : {m n : AheadState} → m ≡ n → m.before ≡ n.before
-befores e = ap (λ (d : AheadState). d.before) e
-
 -- sessions and what they have taken stay behind one step more
 pub stays-behind : (m n : AheadState) (f : Trail → Trail) → n ≡ marked_by f m → Stay m.before m.trail → Stay m.trail (f m.trail) → Stay n.before n.trail
 stays-behind m n f e a b =

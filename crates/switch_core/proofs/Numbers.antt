@@ -104,9 +104,6 @@ gives-tell : (x : Fact) (n : Notice) (t : Trail) → Gives 0 t (tell_controller 
 gives-tell (fact.Controller c) n t = gives-say (One c) n t
 gives-tell _ n t = gives-none 0 t
 
-gives-then : (a b : ℕ) (t u v : Trail) → Gives a t u → Gives b u v → Gives (a + b) t v
-gives-then a b t u v p q = omega arith
-
 gives-if : (b : Bool) (n : ℕ) (t u v : Trail) → Gives n t u → Gives n t v → Gives n t (cond b u v)
 gives-if true n t u v p q = p
 gives-if false n t u v p q = q

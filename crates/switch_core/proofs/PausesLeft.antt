@@ -11,7 +11,8 @@ use Rattle.login_model.specs.Devices.{is_awaiting, taken_devices}
 use Rattle.login_model.specs.Start.{seat0}
 use Rattle.login_model.specs.Trail.{Trail}
 use Rattle.login_model.specs.Where.{active_on}
-use Rattle.switch_core.specs.inner.Awaited.{has_awaited, is_awaited}
+use Rattle.login_laws.specs.Withdrawing.{is_awaited}
+use Rattle.switch_core.specs.inner.Awaited.{has_awaited}
 
 -- ---- one of some devices
 

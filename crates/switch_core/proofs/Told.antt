@@ -8,7 +8,7 @@ use Rattle.login_model.specs.declared.fact.Fact.{Fact}
 use Rattle.login_model.specs.declared.fact.Fact.TheVariants.{Handle, Controller, Device, Number}
 use Rattle.login_model.specs.declared.hardware.DevKind.TheVariants.{Evdev, Drm}
 use Rattle.login_model.specs.declared.mark.Notice.{Notice}
-use Rattle.login_model.specs.Facts.{handle_in, controller_in, kind_in, number_in_fact}
+use Rattle.login_model.specs.Facts.{handle_in, controller_in, device_kind_in, number_in_fact}
 use Rattle.login_model.specs.Trail.{Trail}
 use Rattle.login_model.specs.Procedure.{tell_controller, kill, force_handle, renew, revive, resume_handle}
 use Rattle.login_model.specs.Switching.{await_handle, complete}
@@ -30,7 +30,7 @@ pub renewed : (s : SessId) (d : DevNo) (h : HandleNo) (f : Fact) (t : Trail) →
 renewed s d h (Controller c) t = refl
 renewed s d h _ t = refl
 
-pub revived : (s : SessId) (d : DevNo) (h : HandleNo) (f : Fact) (t : Trail) → revive s d h (kind_fact (kind_in f)) t ≡ revive s d h f t
+pub revived : (s : SessId) (d : DevNo) (h : HandleNo) (f : Fact) (t : Trail) → revive s d h (kind_fact (device_kind_in f)) t ≡ revive s d h f t
 revived s d h (Device Drm seat) t = refl
 revived s d h (Device Evdev seat) t = refl
 revived s d h _ t = refl

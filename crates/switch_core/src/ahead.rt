@@ -38,7 +38,7 @@ fn given_in(key: &Key, fact: &Fact) -> u32
     ensures { result ≡ gives key.now fact.now }
 {
     match key {
-        Key::Owner(_) => { if fact.is_held() { 1 } else { 0 } }
+        Key::Owner(_) => { if fact.is_owned() { 1 } else { 0 } }
         _ => 0,
     }
 }

@@ -9,7 +9,8 @@ ghost use Rattle.login_model.specs.Procedure.{if_some, yes, no, tell_controller,
 ghost use Rattle.login_model.specs.Facts.{is_number_fact};
 ghost use Rattle.login_model.specs.Switching.{await_handle, await_device, await_devices, unawait_devices, ask_switch, withdraw_switch, request};
 ghost use Rattle.login_model.specs.declared.fact.Key.TheVariants.{Taken, Awaited};
-ghost use Rattle.login_laws.proofs.Grows.{put-grows, await_handle-grows};
+ghost use Rattle.login_laws.proofs.Carried.{await_handle-carried};
+ghost use Rattle.login_laws.proofs.Grows.{grows, grows-switched, put-grows};
 ghost use Rattle.switch_core.specs.inner.Told.{handle_fact};
 ghost use Rattle.switch_core.specs.inner.Ahead.{Anything, Fits, marked_by};
 ghost use Rattle.switch_core.specs.Handles.{IsNumbered};
@@ -33,7 +34,7 @@ impl Task for Await {
         ahead.await_device(self.0, device);
     }
 
-    ghost adds = { λ x d t. await_handle-grows x.0 d (value t (Taken x.0 d)) t };
+    ghost adds = { λ x d t. await_handle-carried grows grows-switched x.0 d (value t (Taken x.0 d)) t };
 }
 
 /// The pause of a session's device is not awaited.

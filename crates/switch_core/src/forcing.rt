@@ -6,9 +6,10 @@ ghost use Rattle.login_model.specs.Fresh.{next_handle};
 ghost use Rattle.login_model.specs.Devices.{taken_devices};
 ghost use Rattle.login_model.specs.Procedure.{if_some, yes, no, tell_controller, force_handle, force_device, force, renew, revive, resume_handle, resume_device, resume};
 ghost use Rattle.login_model.specs.declared.fact.Key.TheVariants.{Taken};
-ghost use Rattle.login_laws.proofs.Grows.{force_handle-grows, resume_handle-grows};
+ghost use Rattle.login_laws.proofs.Carried.{force_handle-carried, resume_handle-carried};
+ghost use Rattle.login_laws.proofs.Grows.{grows};
 ghost use Rattle.switch_core.specs.inner.Told.{handle_fact, controller_fact, kind_fact};
-ghost use Rattle.login_model.specs.Facts.{kind_in};
+ghost use Rattle.login_model.specs.Facts.{device_kind_in};
 ghost use Rattle.switch_core.specs.inner.Ahead.{Anything, Fits, marked_by};
 ghost use Rattle.switch_core.specs.Handles.{IsNumbered};
 ghost use Rattle.switch_core.specs.inner.Keeping.{Keeps, is_switching};
@@ -31,7 +32,7 @@ impl Task for Force {
         ahead.force_device(self.0, device);
     }
 
-    ghost adds = { λ x d t. force_handle-grows x.0 d (value t (Taken x.0 d)) t };
+    ghost adds = { λ x d t. force_handle-carried grows x.0 d (value t (Taken x.0 d)) t };
 }
 
 /// A device of a session comes back to it.
@@ -47,7 +48,7 @@ impl Task for Resume {
         ahead.resume_device(self.0, device);
     }
 
-    ghost adds = { λ x d t. resume_handle-grows x.0 d (value t (Taken x.0 d)) t };
+    ghost adds = { λ x d t. resume_handle-carried grows x.0 d (value t (Taken x.0 d)) t };
 }
 
 #[tactic(auto, using(crate::proofs::Growing::growing))]

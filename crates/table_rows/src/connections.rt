@@ -31,7 +31,7 @@ fn a_session_has_its_controller(rt: HostRuntime) -> Result<(), NoMemory> {
     controller.room(1)?;
     controller.apply(Key::Ctl(SessId(1)), Fact::Controller(ConnId(2)));
     match controller.look(&Key::Ctl(SessId(1))) {
-        Some(fact) => assert!(rt; fact.is_controlled_by(ConnId(2))),
+        Some(fact) => assert!(rt; fact.is_controller(ConnId(2))),
         None => assert!(rt; false),
     }
     assert!(rt; controller.next_conn(None).is_none());

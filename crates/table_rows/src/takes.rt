@@ -53,7 +53,7 @@ fn tell_handles(rt: &impl Abort, revoke: &mut DeviceRevoke) -> Result<(), NoMemo
     );
     revoke.apply(Key::Live(HandleNo(3)), Fact::Flag(true));
     match revoke.look(&Key::Owner(HandleNo(3))) {
-        Some(fact) => assert!(rt; fact.is_held()),
+        Some(fact) => assert!(rt; fact.is_owned()),
         None => assert!(rt; false),
     }
     match revoke.look(&Key::Live(HandleNo(3))) {

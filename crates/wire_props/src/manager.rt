@@ -1,7 +1,7 @@
 // The properties of the manager.
 
 ghost use Rattle.std.specs.Prelude.{◌≡◌, IfOk};
-ghost use Rattle.login_model.specs.Facts.{kind_under_way};
+ghost use Rattle.login_model.specs.Facts.{under_way_in};
 ghost use Rattle.login_model.specs.Properties.{inhibited_among, inhibited_by, is_preparing_for, manager_value};
 ghost use Rattle.login_model.specs.Trail.{value};
 ghost use Rattle.login_model.specs.Where.{locks};
@@ -48,7 +48,7 @@ fn is_of(is_shutdown: bool, kind: Option<OpKind>) -> bool
 
 /// Whether an operation waits or runs that is a shutdown, or is none.
 fn is_preparing_for<F: Look>(facts: &F, is_shutdown: bool) -> PropertyValue
-    ensures { result ≡ PropertyValue.Flag (is_preparing_for is_shutdown (kind_under_way (value (F.trail facts.now) Op))) }
+    ensures { result ≡ PropertyValue.Flag (is_preparing_for is_shutdown (under_way_in (value (F.trail facts.now) Op))) }
 {
     PropertyValue::Flag(is_of(is_shutdown, facts.fact(&Key::Op).under_way()))
 }

@@ -53,28 +53,28 @@ fn data_value<F: Look>(
     facts: &F,
     setup: &Setup,
     session: SessId,
-    data: &Session,
+    known: &Session,
     property: SessionProperty,
 ) -> Result<PropertyValue, NoMemory>
-    ensures { IfOk result (λ value. value ≡ data_value setup.now (F.trail facts.now) session data.now property) }
+    ensures { IfOk result (λ value. value ≡ data_value setup.now (F.trail facts.now) session known.now property) }
 {
     match property {
         SessionProperty::Id => Ok(PropertyValue::Text(session.text(alloc)?)),
-        SessionProperty::User => Ok(PropertyValue::User(data.uid)),
-        SessionProperty::Name => text(alloc, setup.user_name(data.uid.0)),
-        SessionProperty::Vt => Ok(PropertyValue::Number(data.vt)),
-        SessionProperty::Seat => seat(alloc, data.seat),
-        SessionProperty::Tty => text(alloc, data.texts.tty.as_slice()),
-        SessionProperty::Display => text(alloc, data.texts.display.as_slice()),
-        SessionProperty::Remote => Ok(PropertyValue::Flag(data.remote)),
-        SessionProperty::RemoteHost => text(alloc, data.texts.remote_host.as_slice()),
-        SessionProperty::RemoteUser => text(alloc, data.texts.remote_user.as_slice()),
-        SessionProperty::Service => text(alloc, data.texts.service.as_slice()),
-        SessionProperty::Desktop => text(alloc, data.texts.desktop.as_slice()),
+        SessionProperty::User => Ok(PropertyValue::User(known.uid)),
+        SessionProperty::Name => text(alloc, setup.user_name(known.uid.0)),
+        SessionProperty::Vt => Ok(PropertyValue::Number(known.vt)),
+        SessionProperty::Seat => seat(alloc, known.seat),
+        SessionProperty::Tty => text(alloc, known.texts.tty.as_slice()),
+        SessionProperty::Display => text(alloc, known.texts.display.as_slice()),
+        SessionProperty::Remote => Ok(PropertyValue::Flag(known.remote)),
+        SessionProperty::RemoteHost => text(alloc, known.texts.remote_host.as_slice()),
+        SessionProperty::RemoteUser => text(alloc, known.texts.remote_user.as_slice()),
+        SessionProperty::Service => text(alloc, known.texts.service.as_slice()),
+        SessionProperty::Desktop => text(alloc, known.texts.desktop.as_slice()),
         SessionProperty::Scope => scope(alloc, session),
-        SessionProperty::Leader => Ok(PropertyValue::Number(data.leader.0)),
-        SessionProperty::Type => text(alloc, data.session_type.name()),
-        SessionProperty::Class => text(alloc, data.class.name()),
+        SessionProperty::Leader => Ok(PropertyValue::Number(known.leader.0)),
+        SessionProperty::Type => text(alloc, known.session_type.name()),
+        SessionProperty::Class => text(alloc, known.class.name()),
         SessionProperty::Active => {
             let is_active = is_active_state(session_state(facts, session));
             Ok(PropertyValue::Flag(is_active))

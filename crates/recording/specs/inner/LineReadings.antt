@@ -16,7 +16,8 @@ use Rattle.recording.specs.declared.argument.UserName.{UserName}
 use Rattle.recording.specs.declared.argument.SessionName.{SessionName}
 use Rattle.recording.specs.declared.line.Line.{Line}
 use Rattle.recording.specs.declared.line.Line.TheVariants.{Header, Guid as GuidLine, User, Conf, Action, Go, Event as EventLine, Link, In, Hangup, End}
-use Rattle.recording.specs.Words.{positive_of, small_of, signed_of, moment_of, flag_of, seat_of, guid_of, hex_of}
+use Rattle.login_base.specs.Number.{whole_of}
+use Rattle.recording.specs.Words.{positive_of, small_of, signed_of, flag_of, seat_of, guid_of, hex_of}
 use Rattle.recording.specs.inner.Arguments.{single, pair_of, made, whole, alone, name_of, version_of, connection_id, numbers, users, devices}
 use Rattle.recording.specs.inner.CallReadings.{call_of}
 use Rattle.login_model.specs.Limits.{name_limit, text_limit}
@@ -72,7 +73,7 @@ unfoldable pub event_line_of : List ℕ → List (List ℕ) → Option Line
 event_line_of word words =
     if bytes_eq word (codes "connect") then option_map (λ x. EventLine (Connect x.0 x.1)) (whole (pair_of connections users words))
     else if bytes_eq word (codes "disconnect") then option_map (λ x. EventLine (Disconnect x)) (whole (connections words))
-    else if bytes_eq word (codes "tick") then option_map (λ x. EventLine (Tick x)) (whole (made millis (single moment_of) words))
+    else if bytes_eq word (codes "tick") then option_map (λ x. EventLine (Tick x)) (whole (made millis (single whole_of) words))
     else if bytes_eq word (codes "stop") then alone (EventLine Stop) words
     else hardware_line_of word words
 

@@ -1,16 +1,10 @@
 -- The pauses of a session's devices that are awaited.
 use Rattle.std.specs.Prelude.{Bool}
 use Rattle.std.specs.List.{list_any}
-use Rattle.login_base.specs.declared.ids.DevNo.{DevNo}
 use Rattle.login_base.specs.declared.ids.SessId.{SessId}
 use Rattle.login_model.specs.Devices.{taken_devices}
-use Rattle.login_model.specs.Trail.{Trail, value}
-use Rattle.login_model.specs.Where.{is_set}
-use Rattle.login_model.specs.declared.fact.Key.TheVariants as key
-
--- whether the pause of a device is awaited
-abbrev pub is_awaited : Trail → SessId → DevNo → Bool
-is_awaited t s d = is_set (value t (key.Awaited s d))
+use Rattle.login_model.specs.Trail.{Trail}
+use Rattle.login_laws.specs.Withdrawing.{is_awaited}
 
 -- whether that of one of the devices is that a session has taken
 abbrev pub has_awaited : Trail → SessId → Bool

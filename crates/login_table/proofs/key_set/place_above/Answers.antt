@@ -1,10 +1,10 @@
-use Rattle.login_table.proofs.NextKey.{front-above, front-kind}
+use Rattle.login_table.proofs.NextKey.{front-above, front-rank}
 use Rattle.login_table.proofs.key_set.place_above.Goals as goal
 
 pub returns-in-Some-clause-front : goal.returns-in-Some-clause-front
 returns-in-Some-clause-front g c =
-    front-above g.N.Name.key_of g.N.Name.kind c.args.above c.in-Some.name c.key.result c.place_behind.result c.args.keys.now c.in-Some.is c.key.ensures c.place_behind.ensures.front
+    front-above g.N.Name.key_of g.N.Name.rank c.args.above c.in-Some.name c.key.result c.place_behind.result c.args.keys.now c.in-Some.is c.key.ensures c.place_behind.ensures.front
 
 pub returns-in-None-clause-front : goal.returns-in-None-clause-front
 returns-in-None-clause-front g c =
-    front-kind g.N.Name.key_of g.N.Name.kind c.kind.result c.args.above c.place_of_kind.result c.args.keys.now c.in-None.is c.kind.ensures c.place_of_kind.ensures.front
+    front-rank g.N.Name.key_of g.N.Name.rank c.rank.result c.args.above c.place_of_rank.result c.args.keys.now c.in-None.is c.rank.ensures c.place_of_rank.ensures.front

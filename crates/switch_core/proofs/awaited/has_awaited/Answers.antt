@@ -1,7 +1,7 @@
 use Rattle.std.proofs.Common.{ap, sym, ◌∙◌}
 use Rattle.std.specs.List.{list_any}
 use Rattle.login_model.specs.Where.{is_set}
-use Rattle.switch_core.specs.inner.Awaited.{is_awaited}
+use Rattle.login_laws.specs.Withdrawing.{is_awaited}
 use Rattle.switch_core.proofs.Going.{left, left-all, left-less, left-next, left-none}
 use Rattle.switch_core.proofs.PausesLeft.{any-here, any-later}
 use Rattle.switch_core.proofs.awaited.has_awaited.Goals as goal

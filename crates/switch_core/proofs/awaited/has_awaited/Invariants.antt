@@ -1,6 +1,7 @@
 use Rattle.std.proofs.Common.{◌≡◌, length}
 use Rattle.std.specs.List.{list_any}
-use Rattle.switch_core.specs.inner.Awaited.{has_awaited, is_awaited}
+use Rattle.login_laws.specs.Withdrawing.{is_awaited}
+use Rattle.switch_core.specs.inner.Awaited.{has_awaited}
 use Rattle.switch_core.proofs.Going.{left}
 use Rattle.switch_core.proofs.awaited.has_awaited.Given as goal
 

@@ -11,7 +11,8 @@ use Rattle.switch_core.specs.inner.Ahead.{with_trail, marked_by}
 use Rattle.switch_core.proofs.Growing.{fits, stays-behind}
 use Rattle.switch_core.proofs.Staying.{stay-pending}
 use Rattle.login_model.specs.declared.fact.Fact.{Fact}
-use Rattle.login_laws.proofs.Grows.{if_some-grows, await_devices-grows}
+use Rattle.login_laws.proofs.Carried.{await_devices-carried}
+use Rattle.login_laws.proofs.Grows.{grows, grows-switched, if_some-grows}
 use Rattle.switch_core.proofs.ahead.Ahead.begin_switch.Goals as goal
 
 pub await_some-requires-clause-stays : goal.await_some-requires-clause-stays
@@ -38,5 +39,5 @@ returns g c =
 pub put_number-requires : goal.put_number-requires
 put_number-requires g c =
     let t = c.args.self.now.trail in
-    let g = if_some-grows await_devices await_devices-grows (active_on t seat0) (put Pending (Number c.args.vt) t) in
+    let g = if_some-grows await_devices (await_devices-carried grows grows-switched) (active_on t seat0) (put Pending (Number c.args.vt) t) in
     record { room = omega (arith, c.requires.room) }

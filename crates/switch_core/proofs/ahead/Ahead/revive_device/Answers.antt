@@ -4,7 +4,7 @@ use Rattle.login_model.specs.Trail.{value}
 use Rattle.login_model.specs.declared.hardware.DevKind.{DevKind}
 use Rattle.login_model.specs.Procedure.{revive}
 use Rattle.switch_core.specs.inner.Told.{kind_fact}
-use Rattle.login_model.specs.Facts.{kind_in}
+use Rattle.login_model.specs.Facts.{device_kind_in}
 use Rattle.switch_core.specs.inner.Ahead.{with_trail}
 use Rattle.switch_core.proofs.Told.{revived}
 use Rattle.switch_core.proofs.ahead.Ahead.revive_device.Goals as goal
@@ -17,6 +17,6 @@ returns g c =
     let t = c.args.self.now.trail in
     record {
       marked = c.revive.ensures.marked
-          ∙ ap (with_trail c.args.self.now) (ap (λ (o : Option DevKind). revive s d h (kind_fact o) t) (c.device_kind-kind.ensures ∙ ap kind_in c.fact.ensures)
+          ∙ ap (with_trail c.args.self.now) (ap (λ (o : Option DevKind). revive s d h (kind_fact o) t) (c.device_kind-kind.ensures ∙ ap device_kind_in c.fact.ensures)
           ∙ revived s d h (value t (key.Dev d)) t);
     }

@@ -10,7 +10,8 @@ use Rattle.login_model.specs.Switching.{unawait_devices}
 use Rattle.switch_core.specs.inner.Ahead.{with_trail, marked_by}
 use Rattle.switch_core.proofs.Growing.{fits, numbered-as, stays-behind, trails}
 use Rattle.switch_core.proofs.Staying.{stay-pending, stay-unawaited}
-use Rattle.login_laws.proofs.Grows.{if_some-grows, resume-grows, unawait_devices-grows}
+use Rattle.login_laws.proofs.Carried.{unawait_devices-carried}
+use Rattle.login_laws.proofs.Grows.{grows, if_some-grows, resume-grows}
 use Rattle.switch_core.proofs.ahead.Ahead.withdraw_switch.Goals as goal
 
 pub unawait_some-requires-clause-stays : goal.unawait_some-requires-clause-stays
@@ -64,6 +65,6 @@ put_absent-requires g c =
     let t = c.args.self.now.trail in
     let o = active_on t seat0 in
     let p = put Pending Absent t in
-    let a = if_some-grows unawait_devices unawait_devices-grows o p in
+    let a = if_some-grows unawait_devices (unawait_devices-carried grows) o p in
     let b = if_some-grows resume resume-grows o (if_some unawait_devices o p) in
     record { room = omega (arith, c.requires.room) }
