@@ -1,5 +1,5 @@
 -- The sessions that a connection controls, as they are released.
-use Rattle.std.proofs.Common.{◌≡◌, Bool, true, false, refl, ap, ◌∙◌}
+use Rattle.std.proofs.Common.{◌≡◌, filter, Bool, true, false, refl, ap, ◌∙◌}
 use Rattle.login_base.specs.declared.ids.SessId.{SessId}
 use Rattle.login_base.specs.declared.ids.ConnId.{ConnId}
 use Rattle.login_base.specs.declared.ids.DevNo.{DevNo}
@@ -7,10 +7,14 @@ use Rattle.login_model.specs.declared.fact.Key.{Key}
 use Rattle.login_model.specs.declared.fact.Key.TheVariants as key
 use Rattle.login_model.specs.declared.fact.Fact.TheVariants as fact
 use Rattle.login_model.specs.Trail.{Trail, value}
-use Rattle.login_model.specs.Names.{session_lt}
+use Rattle.login_model.specs.Names.{names, session_in, session_lt}
+use Rattle.login_model.specs.Where.{is_session, sessions}
+use Rattle.login_model.specs.Direct.{controlled_by}
 use Rattle.login_model.specs.Devices.{taken_devices}
-use Rattle.login_model.specs.Policy.{is_controller_fact}
+use Rattle.login_model.specs.Policy.{controls, is_controller_fact}
 use Rattle.login_model.specs.Procedure.{each, untake, release}
+use Rattle.login_core.specs.inner.Chosen.{is_chosen}
+use Rattle.login_core.proofs.Chosen.{filter-chosen}
 use Rattle.login_core.proofs.Frames.{Keeps, keeps-each, put-other}
 use Rattle.login_core.proofs.Going.{KeepsAbove}
 use Rattle.login_core.proofs.Devices.{of_device, keeps-untake}
@@ -48,3 +52,8 @@ pub release-above : (c : ConnId) → KeepsAbove (sessions_that (is_controlled_by
 release-above c =
     sessions-above (is_controlled_by c) release (leaves-sessions of_devices release (λ s. refl) keeps-release)
     (λ s r t l. ap (is_controller_fact c) (released-controller s r t l))
+
+-- the sessions that are there and that it controls
+pub controlled-chosen : (t : Trail) (c : ConnId) → filter (is_chosen (is_session t) (controls t c)) (names session_lt session_in t) ≡ controlled_by t c
+unfolding controlled_by sessions
+controlled-chosen t c = filter-chosen (is_session t) (controls t c) (names session_lt session_in t)

@@ -12,7 +12,7 @@ use Rattle.login_model.specs.declared.setup.Setup.{Setup}
 use Rattle.login_model.specs.Same.{same_key}
 use Rattle.login_model.specs.Names.{names, user_lt, user_in}
 use Rattle.login_model.specs.Trail.{Trail, value, put}
-use Rattle.login_model.specs.Where.{is_user, is_user_fact, is_user_in, users, sessions, sessions_of}
+use Rattle.login_model.specs.Where.{is_user, is_user_fact, is_session_of, users, sessions, sessions_of}
 use Rattle.login_model.specs.Procedure.{is_empty, forget, leave}
 use Rattle.login_model.specs.Direct.{leave_known, is_overdue_fact, overdue}
 use Rattle.login_laws.proofs.Grows.{Grows, grows-refl, leave-grows}
@@ -50,9 +50,9 @@ some-found : {A : Type 0} (p : A → Bool) (xs : List A) → is_some (find p xs)
 some-found p [] = refl
 some-found p (x ∷ xs) = found-some (p x) x (filter p xs) (find p xs) (some-found p xs)
 
-pub session-found : (t : Trail) (u : ℕ) → is_some (find (λ (s : SessId). is_user_in u (value t (key.Sess s))) (sessions t)) ≡ not (is_empty (sessions_of t u))
+pub session-found : (t : Trail) (u : ℕ) → is_some (find (λ (s : SessId). is_session_of u (value t (key.Sess s))) (sessions t)) ≡ not (is_empty (sessions_of t u))
 unfolding sessions_of
-session-found t u = some-found (λ (s : SessId). is_user_in u (value t (key.Sess s))) (sessions t)
+session-found t u = some-found (λ (s : SessId). is_session_of u (value t (key.Sess s))) (sessions t)
 
 -- a user whose delay is over is not absent
 overdue-user : (U : Setup) (m : ℕ) (f : Fact) → is_overdue_fact U m f ≡ true → is_user_fact f ≡ true

@@ -11,7 +11,7 @@ use Rattle.login_base.specs.declared.ids.SessId.{SessId}
 use Rattle.login_base.specs.declared.ids.Uid.{Uid}
 use Rattle.login_model.specs.Creating.{appear_on, create, created_session, seat_of}
 use Rattle.login_model.specs.Devices.{is_awaiting, is_live, taken_devices}
-use Rattle.login_model.specs.Direct.{activate, activate_on, close, close_handle, close_owned, control, control_from, controlled_by, direct, direct_call, disconnect, end_sessions, exit, happen, is_this_handle, kept_open_by, leave_known, linger, lock_session, locks_of, overdue, owner_of, press, tick, unlock, unlock_session}
+use Rattle.login_model.specs.Direct.{activate, activate_on, close, close_handle, close_owned, control, control_from, controlled_by, direct, direct_call, disconnect, end_sessions, exit, happen, is_this_handle, kept_open_by, leave_known, linger, lock_session, locks_of, overdue, user_or_root, press, tick, unlock, unlock_session}
 use Rattle.login_model.specs.Facts.{is_number_fact}
 use Rattle.login_model.specs.Fresh.{next_handle, next_lock, next_session}
 use Rattle.login_model.specs.Legal.{stepped}
@@ -386,7 +386,7 @@ disconnects c t =
 exits : (U : Setup) (s : SessId) (t : Trail) → Stays t (exit U s t)
 unfolding exit
 exits U s t =
-    let u = owner_of (value t (key.Sess s)) in
+    let u = user_or_root (value t (key.Sess s)) in
     let a = shut s t in
     leaves U u (says All (notice.SessionRemoved s) (sets (key.Sess s) _ (λ d. refl) (shuts s t)))
 

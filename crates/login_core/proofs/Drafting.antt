@@ -79,9 +79,9 @@ pub so_far-same : (es fs : List Entry) (ms : List Mark) → trail_of es ≡ trai
 unfolding so_far
 so_far-same es fs ms e = ap (λ (t : Trail). after t ms) e
 
-pub so_far-longer : (es : List Entry) (ms : List Mark) → length (trail_of es) ≤ length (so_far es ms)
+pub so_far-length : (es : List Entry) (ms : List Mark) → length (so_far es ms) ≡ length (trail_of es) + length ms
 unfolding so_far
-so_far-longer es ms = let n = length-after (trail_of es) ms in omega arith
+so_far-length es ms = length-after (trail_of es) ms
 
 -- what an entry's marks were is among the journal's now
 pub closed : (old new : List Entry) (e : Entry) (ms none : List Mark) → new ≡ old ++ e ∷ [] → none ≡ [] → e.marks ≡ ms → so_far new none ≡ so_far old ms
@@ -97,18 +97,17 @@ pub record ClosesBehind (before old new : List Entry) (e : Entry) (marks blank :
 pub closed-trail : (before old new : List Entry) (e : Entry) (marks blank : Room Mark) → ClosesBehind before old new e marks blank → so_far new blank.items ≡ so_far before marks.items
 closed-trail before old new e marks blank b = closed old new e marks.items blank.items b.entry b.blank_is b.marks_are ∙ sym (so_far-same before old marks.items b.behind)
 
-pub draft-closed : (before old new : List Entry) (e : Entry) (marks blank : Room Mark) (facts : Tables) (seating : Seating) (made reach room : ℕ) → IsDraft (so_far before marks.items) marks facts seating made reach → ClosesBehind before old new e marks blank
-    → reach ≤ length (trail_of before) + room → room ≤ blank.spare → IsDraft (so_far new blank.items) blank facts seating made reach
-draft-closed before old new e marks blank facts seating made reach room d b fit spare =
+pub draft-closed : (before old new : List Entry) (e : Entry) (marks blank : Room Mark) (facts : Tables) (seating : Seating) (made reach : ℕ) → IsDraft (so_far before marks.items) marks facts seating made reach → ClosesBehind before old new e marks blank
+    → reach ≤ made + blank.spare → IsDraft (so_far new blank.items) blank facts seating made reach
+draft-closed before old new e marks blank facts seating made reach d b fit =
     let t = closed-trail before old new e marks blank b in
     let n = ap length t in
-    let longer = so_far-longer before marks.items in
     let counted = d.counted in
     record {
       stands = subst (StandFor facts) (sym t) d.stands;
       seated = subst (AreSeated seating) (sym t) d.seated;
       counted = omega arith;
-      marks_fit = omega arith;
+      marks_fit = fit;
       facts_fit = d.facts_fit;
       within = d.within;
       numbered = d.numbered;

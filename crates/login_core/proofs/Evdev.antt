@@ -6,7 +6,7 @@ use Rattle.login_base.specs.declared.ids.DevNo.{DevNo}
 use Rattle.login_base.specs.declared.ids.HandleNo.{HandleNo}
 use Rattle.login_base.specs.declared.ids.SessId.{SessId}
 use Rattle.login_model.specs.Devices.{is_live}
-use Rattle.login_model.specs.Facts.{is_other_kind}
+use Rattle.login_model.specs.Facts.{handle_device, is_other_kind}
 use Rattle.login_model.specs.Legal.{IsLegal, stepped, trail_of}
 use Rattle.login_model.specs.Policy.{call_rules, handle_wrong, verdict}
 use Rattle.login_model.specs.Reading.{last_few}
@@ -173,5 +173,5 @@ read-listens U es r h l e g i =
     let mine = heard-of U es h p (sound-journal U es l).between i.heard in
     let P : Call → Type 0 = λ x. NoneBroken (call_rules U t r.who x) in
     let rules = subst P e (granted-rules U t (Calls r) g) in
-    let kind = not-broken (is_other_kind Evdev (value t (key.Dev i.device))) WrongKind (ap (handle_wrong Evdev t) (sym mine.owned) ∙ rules.1.1.0) in
+    let kind = not-broken (is_other_kind Evdev (value t (key.Dev i.device))) WrongKind (ap (λ (x : Fact). handle_wrong Evdev t (handle_device x)) (sym mine.owned) ∙ rules.1.1.0) in
     ap (of_evdev t) i.heard ∙ ap (λ (b : Bool). cond b (Some p) None) (is-input (value t (key.Dev i.device)) mine.there kind)

@@ -3,6 +3,9 @@ pub mod CountLaws
 pub mod PairLaws
 pub mod CountedLaws
 pub mod TallyLaws
+pub mod HeldOrder
+pub mod HeldRows
+pub mod HeldNext
 pub mod HomeLaws
 pub mod Standing
 pub mod Placed

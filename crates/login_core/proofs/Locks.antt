@@ -1,5 +1,5 @@
 -- The locks of a connection, and what is left of them.
-use Rattle.std.proofs.Common.{◌≡◌, Bool, true, None, ap}
+use Rattle.std.proofs.Common.{◌≡◌, filter, Bool, true, None, ap}
 use Rattle.login_base.specs.declared.ids.LockNo.{LockNo}
 use Rattle.login_base.specs.declared.ids.ConnId.{ConnId}
 use Rattle.login_model.specs.declared.fact.Key.TheVariants.{Lock}
@@ -7,11 +7,12 @@ use Rattle.login_model.specs.declared.fact.Fact.TheVariants.{Absent}
 use Rattle.login_model.specs.Trail.{Trail, value, put}
 use Rattle.login_model.specs.Names.{names, lock_lt, lock_in}
 use Rattle.login_model.specs.Where.{is_lock, is_lock_fact, locks}
-use Rattle.login_model.specs.Direct.{is_held_by, locks_of}
+use Rattle.login_model.specs.Direct.{is_lock_of, locks_of}
 use Rattle.login_model.proofs.InOrder.{locks-enumerated}
 use Rattle.login_core.proofs.Frames.{put-other}
 use Rattle.login_core.proofs.Going.{Tour, left, KeepsAbove}
-use Rattle.login_core.proofs.Chosen.{chosen, chosen-all, chosen-above}
+use Rattle.login_core.specs.inner.Chosen.{is_chosen}
+use Rattle.login_core.proofs.Chosen.{chosen, chosen-all, chosen-above, filter-chosen}
 use Rattle.login_core.proofs.Sessions.{apart}
 
 -- the locks that stand
@@ -23,16 +24,16 @@ all_locks = record {
   whole = λ t. locks-enumerated t;
 }
 
-abbrev pub is_lock_of : ConnId → Trail → LockNo → Bool
-is_lock_of c t l = is_held_by c (value t (Lock l))
+abbrev pub holds_lock : ConnId → Trail → LockNo → Bool
+holds_lock c t l = is_lock_of c (value t (Lock l))
 
 -- those of a connection
 abbrev pub locks_held : ConnId → Tour LockNo
-locks_held c = chosen all_locks (is_lock_of c)
+locks_held c = chosen all_locks (holds_lock c)
 
 pub locks-all : (c : ConnId) (t : Trail) → left (locks_held c) t None ≡ locks_of t c
 unfolding locks locks_of
-locks-all c t = chosen-all all_locks (is_lock_of c) t
+locks-all c t = chosen-all all_locks (holds_lock c) t
 
 -- a lock that is gone leaves those above alone
 abbrev pub drop_lock : LockNo → Trail → Trail
@@ -42,4 +43,9 @@ others : (d e : LockNo) (t : Trail) → lock_lt d e ≡ true → value (drop_loc
 others d e t l = put-other (Lock d) Absent t (Lock e) (apart d.0 e.0 l)
 
 pub drop-above : (c : ConnId) → KeepsAbove (locks_held c) drop_lock
-drop-above c = chosen-above all_locks (is_lock_of c) drop_lock (λ d e t l. ap is_lock_fact (others d e t l)) (λ d e t l. ap (is_held_by c) (others d e t l))
+drop-above c = chosen-above all_locks (holds_lock c) drop_lock (λ d e t l. ap is_lock_fact (others d e t l)) (λ d e t l. ap (is_lock_of c) (others d e t l))
+
+-- those of a connection, by the test
+pub locks-chosen : (t : Trail) (c : ConnId) → filter (is_chosen (is_lock t) (holds_lock c t)) (names lock_lt lock_in t) ≡ locks_of t c
+unfolding locks locks_of
+locks-chosen t c = filter-chosen (is_lock t) (holds_lock c t) (names lock_lt lock_in t)

@@ -14,7 +14,7 @@ use Rattle.login_model.specs.declared.mark.Notice.TheVariants.{Lock, Unlock}
 use Rattle.login_model.specs.Fresh.{is_open_fact}
 use Rattle.login_model.specs.Trail.{Trail, value, put, tell_all}
 use Rattle.login_model.specs.Names.{names, session_lt, session_in}
-use Rattle.login_model.specs.Where.{is_session, is_session_fact, is_open, is_user_in, sessions, open_sessions}
+use Rattle.login_model.specs.Where.{is_session, is_session_fact, is_open, is_session_of, sessions, open_sessions}
 use Rattle.login_model.specs.Policy.{controls}
 use Rattle.login_model.specs.Direct.{controlled_by, lock_session, unlock_session}
 use Rattle.login_model.proofs.InOrder.{sessions-enumerated}
@@ -70,7 +70,7 @@ open-all t = sessions-all is_open t
 
 -- the sessions of a user
 abbrev pub is_of : ℕ → Trail → SessId → Bool
-is_of uid t s = is_user_in uid (value t (Sess s))
+is_of uid t s = is_session_of uid (value t (Sess s))
 
 -- the sessions that a connection controls
 abbrev pub is_controlled_by : ConnId → Trail → SessId → Bool
@@ -99,4 +99,4 @@ abbrev pub kill_all : ℤ → SessId → Trail → Trail
 kill_all signal s t = put (Sig s) (Signal whom.All signal) t
 
 pub kill-above : (uid : ℕ) (signal : ℤ) → KeepsAbove (sessions_that (is_of uid)) (kill_all signal)
-kill-above uid signal = by_fact-above (is_user_in uid) (kill_all signal) (λ s r t l. put-other (Sig s) (Signal whom.All signal) t (Sess r) refl)
+kill-above uid signal = by_fact-above (is_session_of uid) (kill_all signal) (λ s r t l. put-other (Sig s) (Signal whom.All signal) t (Sess r) refl)

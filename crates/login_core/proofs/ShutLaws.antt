@@ -1,5 +1,5 @@
 -- What a session that is shut leaves alone.
-use Rattle.std.proofs.Common.{◌≡◌, ℕ, ◌==◌, ◌&&◌, Bool, true, false, cond, Option, Some, None, List, refl, ap, sym, ◌∙◌, subst, inl, inr, arith}
+use Rattle.std.proofs.Common.{◌≡◌, ℕ, ◌==◌, ◌&&◌, Bool, true, false, cond, Option, Some, None, List, [], ◌∷◌, refl, ap, sym, ◌∙◌, subst, inl, inr, arith}
 use Rattle.std.specs.Str.{bytes_eq}
 use Rattle.login_base.specs.declared.ids.SessId.{SessId}
 use Rattle.login_base.specs.declared.ids.ConnId.{ConnId}
@@ -17,13 +17,14 @@ use Rattle.login_model.specs.Start.{seat0}
 use Rattle.login_model.specs.Trail.{Trail, value, put}
 use Rattle.login_model.specs.Fresh.{is_open_fact}
 use Rattle.login_model.specs.Names.{session_lt}
-use Rattle.login_model.specs.Where.{is_session_fact, is_active, is_open, sessions, open_sessions, is_user_in, seat_in_fact, is_this_seat, is_on_seat, seat_of_session}
+use Rattle.login_model.specs.Where.{is_connected_fact, is_session_fact, is_active, is_open, sessions, open_sessions, is_session_of, seat_in_fact, is_this_seat, is_on_seat, seat_of_session}
 use Rattle.login_model.specs.Devices.{taken_devices}
 use Rattle.login_model.specs.Procedure.{each, if_some, no, kill, untake, release, in_phase, set_phase, vacate, leave_seat, shut}
-use Rattle.login_model.specs.Direct.{is_fifo_of, fifo_of, kept_open_by}
+use Rattle.login_model.specs.Direct.{is_fifo_of, fifo_in, kept_open_by}
 use Rattle.login_model.proofs.Keys.{test, same-number}
 use Rattle.login_model.proofs.Values.{upd-same, value-put}
 use Rattle.login_laws.proofs.SessionSteps.{closing-not-open}
+use Rattle.login_laws.specs.Sound.{Fifos}
 use Rattle.login_core.specs.declared.room.copies.Copies.{Copies}
 use Rattle.login_core.specs.declared.room.kept.KeptRow.{KeptRow}
 use Rattle.login_core.specs.Texts.{AreSome}
@@ -32,6 +33,7 @@ use Rattle.login_core.specs.inner.Ending.{StaysAbove, sessions_such, is_kept_ope
 use Rattle.login_core.proofs.Frames.{Keeps, Covers, keeps-all, keeps-then, keeps-say, keeps-put, keeps-if, keeps-each}
 use Rattle.login_core.proofs.Going.{KeepsAbove}
 use Rattle.login_core.proofs.Chosen.{filter-chosen}
+use Rattle.login_core.proofs.Released as released
 use Rattle.login_core.proofs.Sessions.{sessions_that}
 
 -- what is touched where a session is shut
@@ -127,8 +129,8 @@ shut-above s r t l = shut-other s r t (above-other s r l)
 pub shut-keeps-above : (meets : Trail → SessId → Bool) → StaysAbove meets → KeepsAbove (sessions_that meets) shut
 shut-keeps-above meets stays s r t l = ap (λ (b : Bool). b && meets (shut s t) r) (ap is_session_fact (shut-above s r t l)) ∙ ap (λ (b : Bool). is_session_fact (value t (key.Sess r)) && b) (stays s r t l)
 
-pub user-stays : (n : ℕ) → StaysAbove (λ t s. is_user_in n (value t (key.Sess s)))
-user-stays n s r t l = ap (is_user_in n) (shut-above s r t l)
+pub user-stays : (n : ℕ) → StaysAbove (λ t s. is_session_of n (value t (key.Sess s)))
+user-stays n s r t l = ap (is_session_of n) (shut-above s r t l)
 
 pub seat-stays : (seat : List ℕ) → StaysAbove (λ t s. is_on_seat t seat s)
 seat-stays seat s r t l = ap (λ (f : Fact). is_this_seat seat (seat_in_fact f)) (shut-above s r t l)
@@ -136,13 +138,13 @@ seat-stays seat s r t l = ap (λ (f : Fact). is_this_seat seat (seat_in_fact f))
 pub fifo-stays : (c : ConnId) → StaysAbove (is_kept_open_by c)
 fifo-stays c s r t l =
     let u = shut s t in
-    ap (λ (f : Fact). is_open_fact f && is_fifo_of c (value u (key.Owner (fifo_of f)))) (shut-above s r t l)
-    ∙ ap (λ (g : Fact). is_open t r && is_fifo_of c g) ((keeps-shut s t).facts (key.Owner (fifo_of (value t (key.Sess r)))) refl)
+    ap (λ (f : Fact). is_open_fact f && is_fifo_of c (value u (key.Owner (fifo_in f)))) (shut-above s r t l)
+    ∙ ap (λ (g : Fact). is_open t r && is_fifo_of c g) ((keeps-shut s t).facts (key.Owner (fifo_in (value t (key.Sess r)))) refl)
 
 -- the sessions that a connection keeps open
 pub kept-list : (c : ConnId) (t : Trail) → sessions_such (is_kept_open_by c) t ≡ kept_open_by t c
 unfolding kept_open_by open_sessions
-kept-list c t = filter-chosen (is_open t) (λ s. is_fifo_of c (value t (key.Owner (fifo_of (value t (key.Sess s)))))) (sessions t)
+kept-list c t = filter-chosen (is_open t) (λ s. is_fifo_of c (value t (key.Owner (fifo_in (value t (key.Sess s)))))) (sessions t)
 
 -- nothing but active sessions
 abbrev pub of_active : Key → Bool
@@ -194,3 +196,35 @@ kept-shut s t u rows left e others kept =
           let R : Option Copies → Type 0 = λ c. AreSome (value t (key.Sess r)) c in
           subst Q (sym f) (subst R (sym (others r n)) (kept r (sym (ap is_open_fact f) ∙ o))))
     ])
+
+-- ---- the fifos of open sessions
+
+-- where they, the connections and the sessions that are still open stay, each of these has its own
+keeps-fifos : (t u : Trail) → ((s : SessId) → is_open u s ≡ true → value u (key.Sess s) ≡ value t (key.Sess s)) → ((h : HandleNo) → value u (key.Owner h) ≡ value t (key.Owner h))
+    → ((c : ConnId) → value u (key.Conn c) ≡ value t (key.Conn c)) → Fifos t → Fifos u
+keeps-fifos t u f g h a s o =
+    let e = f s o in
+    let k = a s (sym (ap is_open_fact e) ∙ o) in
+    record {
+      by_whom = k.by_whom;
+      owned = g (fifo_in (value u (key.Sess s))) ∙ ap (λ (x : Fact). value t (key.Owner (fifo_in x))) e ∙ k.owned;
+      connected = ap is_connected_fact (h k.by_whom) ∙ k.connected;
+    }
+
+-- a session that is shut leaves them so
+pub fifos-shut : (s : SessId) (t : Trail) → Fifos t → Fifos (shut s t)
+fifos-shut s t =
+    keeps-fifos t (shut s t)
+    (λ r o. elim (test (r.0 == s.0)) [ inl y ↦ absurd (same-open s r t y o) | inr n ↦ shut-other s r t (other-way s r n) ])
+    (λ h. (keeps-shut s t).facts (key.Owner h) refl) (λ c. (keeps-shut s t).facts (key.Conn c) refl)
+
+fifos-release : (s : SessId) (t : Trail) → Fifos t → Fifos (release s t)
+fifos-release s t =
+    keeps-fifos t (release s t) (λ r o. (released.keeps-release s t).facts (key.Sess r) refl)
+    (λ h. (keeps-release s t).facts (key.Owner h) refl) (λ c. (keeps-release s t).facts (key.Conn c) refl)
+
+-- and so do sessions that are given back
+pub fifos-released : (ss : List SessId) (t : Trail) → Fifos t → Fifos (each release ss t)
+unfolding each
+fifos-released [] t a = a
+fifos-released (s ∷ ss) t a = fifos-released ss (release s t) (fifos-release s t a)

@@ -14,6 +14,7 @@ use Rattle.login_core.specs.inner.Facts.{Tables, TablesStand, StandFor}
 use Rattle.login_core.specs.inner.UnderWay.{so_far}
 use Rattle.login_core.proofs.CountedLaws.{counted-say}
 use Rattle.login_core.proofs.Counting.{sessions-say, handles-say, locks-say}
+use Rattle.login_core.proofs.HeldRows.{held-say}
 
 value-say : (k : Key) (w : Whom) (n : Notice) (t : Trail) → value (Say w n ∷ t) k ≡ value t k
 unfolding value
@@ -35,6 +36,7 @@ stand-say f t w n stands = let s = opened f t stands in closed f (Say w n ∷ t)
   session = s.session ∙ sym (sessions-say w n t);
   handle = s.handle ∙ sym (handles-say w n t);
   lock = s.lock ∙ sym (locks-say w n t);
+  held = held-say f.held w n t s.held;
 })
 
 -- the marks so far

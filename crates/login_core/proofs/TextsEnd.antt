@@ -2,7 +2,7 @@
 use Rattle.std.proofs.Common.{◌≡◌, ◌==◌, Bool, true, false, cond, Option, None, List, refl, sym, ap, ◌∙◌, subst}
 use Rattle.login_base.specs.declared.ids.ConnId.{ConnId}
 use Rattle.login_base.specs.declared.ids.SessId.{SessId}
-use Rattle.login_model.specs.Direct.{controlled_by, disconnect, end_sessions, exit, owner_of, unlock}
+use Rattle.login_model.specs.Direct.{controlled_by, disconnect, end_sessions, exit, user_or_root, unlock}
 use Rattle.login_model.specs.MadeWith.{texts_in}
 use Rattle.login_model.specs.Procedure.{each, in_phase, release, set_phase, shut}
 use Rattle.login_model.specs.Trail.{Trail, value, put, tell_all}
@@ -36,7 +36,7 @@ exit-gone U s t e =
     let a = shut s t in
     let b = set_phase s Gone a in
     let d = tell_all (SessionRemoved s) b in
-    let p = leave-carried tame U (owner_of (value t (Sess s))) d in
+    let p = leave-carried tame U (user_or_root (value t (Sess s))) d in
     let y = in_phase Gone (value a (Sess s)) in
     let same : value d (Sess s) ≡ y =
     ap (λ (f : Facts). f (Sess s)) (values-say All (SessionRemoved s) b) ∙ value-put (Sess s) (Sess s) y a ∙ ap (λ (q : Bool). cond q y (value a (Sess s))) (same-refl s.0) in

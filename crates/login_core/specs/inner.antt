@@ -1,6 +1,7 @@
 pub mod Chosen
 pub mod Rounds
 pub mod Counts
+pub mod Holding
 pub mod Ears
 pub mod Facts
 pub mod Told

@@ -252,7 +252,7 @@ fn call_answer<F: Look>(
 {
     match call {
         Call::Create(creation) => {
-            let created = created(facts, session, creation);
+            let created = created(facts, session, creation.get());
             Ok(Answer::Created(Boxed::new(alloc, created)?))
         }
         Call::GetSession(_) => Ok(session_answer(call.session())),

@@ -3,6 +3,7 @@
 pub mod choosing;
 pub mod facts;
 pub mod hearing;
+pub mod holding;
 pub mod rounds;
 pub mod seating;
 pub mod setting;
@@ -28,12 +29,11 @@ use crate::room::counts::Counts;
 use crate::room::ledger::Ledger;
 use login_base::{ConnId, DevNo, HandleNo, LockNo, NoMemory, Reserved, SeatName, SessId, Uid};
 use login_model::{
-    Answer, Entry, Event, Fact, Input, Inputs, Journal, Key, Look, Mark, Notice, Verdict, Whom,
+    Answer, Event, Fact, Input, Inputs, Journal, Key, Look, Mark, Notice, Verdict, Whom,
     is_same_fact,
 };
 use std::alloc::Global;
 use std::marker::Model;
-use std::mem;
 use std::snapshot::Snapshot;
 
 /// The marks of the entry under way, and the facts that they leave with those before them. The journal is
@@ -266,6 +266,16 @@ impl Look for Draft {
     }
 }
 
+/// An eighth more than so many marks. All lists are gone over when room for more marks is made, so they get room
+/// for some entries to come.
+fn with_more(marks: u32) -> u32
+    requires { marks < 2 ^ 31 }
+    ensures more { marks ≤ result }
+    ensures few { result ≤ marks + 2 ^ 28 }
+{
+    marks + marks / 8
+}
+
 /// The journal, and the entry under way.
 #[derive(Drop)]
 pub struct Board {
@@ -313,7 +323,7 @@ impl Board {
     /// Makes room for so many more entries, and for so many marks in all, each of which may be a
     /// setting. What there is room for already stays.
     pub fn reserve(&mut self, entries: u32, reach: u32) -> Result<(), NoMemory>
-        requires numbered { reach + 2 < 2 ^ 32 }
+        requires numbered { reach + 2 < 2 ^ 31 }
         requires begun { IsBegun self.old }
         requires no_marks { self.old.draft.trail ≡ self.old.draft.before }
         ensures entries { OnOk result (entries ≤ self.new.journal.entries) }
@@ -329,8 +339,9 @@ impl Board {
         if reach <= self.draft.reach() {
             return self.journal.reserve(entries, 0);
         }
-        self.journal.reserve(entries, reach - self.draft.made())?;
-        self.draft.reserve(reach)
+        let more = with_more(reach - self.draft.made());
+        self.journal.reserve(entries, more)?;
+        self.draft.reserve(self.draft.made() + more)
     }
 
     /// The marks of the entry under way become the journal's last entry. It takes no memory.
@@ -346,13 +357,7 @@ impl Board {
         ensures begun { IsBegun self.new }
     {
         let draft = &mut self.draft;
-        let marks = mem::replace(&mut draft.marks, Reserved::new(self.alloc)).into_items();
-        draft.marks = self.journal.close(Entry {
-            event,
-            verdict,
-            answer,
-            marks,
-        });
+        self.journal.close(event, verdict, answer, &mut draft.marks);
         draft.journal = Snapshot::of(self.journal.journal());
     }
 }

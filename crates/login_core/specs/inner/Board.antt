@@ -8,7 +8,7 @@ use Rattle.login_model.specs.Legal.{trail_of}
 use Rattle.login_core.specs.declared.board.Board.{Board}
 use Rattle.login_core.specs.inner.UnderWay.{so_far, entry_of}
 
--- the draft goes on behind the journal, and each empty list for marks has room for all that there may be
+-- the draft goes on behind the journal, and the lists for its marks and those of later entries have room for all that there may be
 pub record IsBegun (m : Board) : Type 0 where
   pub before : m.draft.before ≡ trail_of m.journal.items
   pub blanks_fit : m.draft.reach ≤ length m.draft.before + m.journal.marks

@@ -1,12 +1,10 @@
 -- What a draft is seen as, and what it does to be marked.
-use Rattle.std.specs.Prelude.{ℕ, ◌≡◌, ◌+◌, ◌<◌, ◌≤◌, ◌^◌, ◌∷◌, List, length}
+use Rattle.std.specs.Prelude.{ℕ, ◌≡◌, ◌+◌, ◌<◌, ◌≤◌, ◌^◌, List, length}
 use Rattle.login_base.specs.Room.{Room}
 use Rattle.login_model.specs.declared.mark.Mark.{Mark}
-use Rattle.login_model.specs.declared.mark.Mark.TheVariants.{Say}
-use Rattle.login_model.specs.declared.mark.Whom.{Whom}
-use Rattle.login_model.specs.declared.mark.Notice.{Notice}
 use Rattle.login_model.specs.Trail.{Trail}
 use Rattle.device_model.specs.declared.ears.Ear.{Ear}
+pub use Rattle.switch_core.specs.inner.Ahead.{tell}
 use Rattle.login_core.specs.declared.board.seating.Seating.{Seating}
 use Rattle.login_core.specs.inner.Facts.{Tables, StandFor}
 use Rattle.login_core.specs.inner.Seating.{AreSeated}
@@ -43,10 +41,6 @@ with_rings n d = record d { rings = n }
 -- these handles listen, and so many rings are spare
 abbrev pub with_ears : List Ear → ℕ → DraftState → DraftState
 with_ears es n d = record d { ears = es; rings = n }
-
--- a notice to these
-abbrev pub tell : Whom → Notice → Trail → Trail
-tell w n t = Say w n ∷ t
 
 -- the facts, and where sessions sit, are as the marks so far leave them; these are counted; and there is room for as
 -- many as there may be, which can be numbered

@@ -1,20 +1,22 @@
 -- The facts in their tables.
-use Rattle.std.specs.Prelude.{ℕ, ◌≡◌, ◌+◌, ◌<◌, ◌^◌, if◌then◌else◌, List, length}
+use Rattle.std.specs.Prelude.{ℕ, ◌≡◌, ◌+◌, ◌<◌, ◌^◌, List, length}
 use Rattle.login_model.specs.declared.fact.Key.{Key}
-use Rattle.login_model.specs.declared.fact.Key.TheVariants.{Owner}
 use Rattle.login_model.specs.declared.fact.Fact.{Fact}
 use Rattle.login_model.specs.Trail.{Trail, value}
-use Rattle.login_model.specs.Fresh.{fresh_session, fresh_handle, fresh_lock, is_owned_fact}
+use Rattle.login_model.specs.Fresh.{fresh_session, fresh_handle, fresh_lock}
 use Rattle.device_model.specs.declared.ears.Ear.{Ear}
 use Rattle.login_table.specs.declared.home.Home.{Home}
 use Rattle.login_table.specs.declared.home.Home.TheVariants.{Users, Sessions, Seats, Devices, Controls, Takes, Locks, Power}
+pub use Rattle.switch_core.specs.inner.Ahead.{gives}
 use Rattle.login_core.specs.declared.room.counts.Counts.{Counts}
+use Rattle.login_core.specs.declared.board.holding.Holding.{Holding}
 use Rattle.login_core.specs.inner.Counts.{AreCounted, counts_of}
+use Rattle.login_core.specs.inner.Holding.{AreHeld}
 use Rattle.login_table.specs.Home.{home}
 
 -- what facts are seen as: what each table has, as settings; the handles that listen to devices, and how many rings
 -- are spare; how many there are of what needs room; the numbers of the next session, the next handle and the next
--- lock; and how many more settings go in without memory
+-- lock; what connections have; and how many more settings go in without memory
 pub record Tables : Type 0 where
   pub users : Trail
   pub sessions : Trail
@@ -30,6 +32,7 @@ pub record Tables : Type 0 where
   pub session : ℕ
   pub handle : ℕ
   pub lock : ℕ
+  pub held : List Holding
   pub spare : ℕ
 
 -- the settings of one table
@@ -44,13 +47,14 @@ table f Locks = f.locks
 table f Power = f.power
 
 -- each fact is the one that the marks leave, in the table where it has its home; the counts are those of what is
--- there, and the numbers are those that the marks leave
+-- there, the numbers are those that the marks leave, and connections have what they leave them
 pub record TablesStand (f : Tables) (t : Trail) : Type 0 where
   pub facts : (k : Key) → value (table f (home k)) k ≡ value t k
   pub counts : AreCounted f.counts t
   pub session : f.session ≡ fresh_session t
   pub handle : f.handle ≡ fresh_handle t
   pub lock : f.lock ≡ fresh_lock t
+  pub held : AreHeld f.held t
 
 -- the facts are those that the marks leave
 unfoldable pub StandFor : Tables → Trail → Type 0
@@ -69,8 +73,3 @@ opens k x = (counts_of k x).opened
 -- how many locks a setting makes stand
 abbrev pub inhibits : Key → Fact → ℕ
 inhibits k x = (counts_of k x).locks
-
--- how many handles a setting gives out
-abbrev pub gives : Key → Fact → ℕ
-gives (Owner h) x = if is_owned_fact x then 1 else 0
-gives _ x = 0

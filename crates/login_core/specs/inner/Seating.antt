@@ -5,7 +5,7 @@ use Rattle.login_base.specs.declared.ids.SessId.{SessId}
 use Rattle.login_model.specs.declared.fact.Key.{Key}
 use Rattle.login_model.specs.declared.fact.Key.TheVariants as key
 use Rattle.login_model.specs.declared.fact.Fact.{Fact}
-use Rattle.login_model.specs.Facts.{is_open_fact, is_seat0, owner_of, seat_in_fact, vt_in}
+use Rattle.login_model.specs.Facts.{is_open_fact, is_seat0, user_or_root, seat_in_fact, vt_in}
 use Rattle.login_model.specs.Names.{names, session_in, session_lt}
 use Rattle.login_model.specs.Trail.{Trail, value}
 use Rattle.login_core.specs.declared.board.seating.Tally.{Tally}
@@ -26,7 +26,7 @@ high_in x = if is_open_fact x && is_seat0 (seat_in_fact x) && nat_le buckets (vt
 
 -- the user of an open session that has a seat
 abbrev pub user_in : Fact → Option ℕ
-user_in x = if is_open_fact x && is_some (seat_in_fact x) then Some (owner_of x).0 else None
+user_in x = if is_open_fact x && is_some (seat_in_fact x) then Some (user_or_root x).0 else None
 
 -- the bucket of a number
 abbrev pub bucket_of : ℕ → ℕ

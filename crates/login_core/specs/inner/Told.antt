@@ -1,13 +1,9 @@
 -- What is read of a fact and handed on by value, and the fact that it stands for.
 use Rattle.std.specs.Prelude.{ℕ, Bool, true, false, Option, Some, None, List}
-use Rattle.login_base.specs.declared.ids.ConnId.{ConnId}
 use Rattle.login_model.specs.declared.fact.Fact.{Fact}
-use Rattle.login_model.specs.declared.fact.Fact.TheVariants.{Absent, Controller, Device, Known}
+use Rattle.login_model.specs.declared.fact.Fact.TheVariants.{Absent, Device, Known}
 use Rattle.login_model.specs.declared.hardware.DevKind.TheVariants.{Drm}
-
-abbrev pub controller_fact : Option ConnId → Fact
-controller_fact (Some c) = Controller c
-controller_fact None = Absent
+pub use Rattle.switch_core.specs.inner.Told.{controller_fact}
 
 -- the seat of a graphics device
 abbrev pub graphics_seat : Fact → Option (List ℕ)

@@ -1,44 +1,16 @@
 // The names of a kind that meet a test, in order.
 
 ghost use Rattle.std.specs.Prelude.{◌≡◌};
-ghost use Rattle.login_model.specs.declared.fact.Key.TheVariants.{Lock};
-ghost use Rattle.login_model.specs.Trail.{value};
 ghost use Rattle.login_model.specs.Names.{IsNext, session_lt};
-ghost use Rattle.login_model.specs.Policy.{controls};
 ghost use Rattle.login_model.specs.Devices.{is_taken};
-ghost use Rattle.login_model.specs.Direct.{is_held_by};
 ghost use Rattle.login_model.specs.Where.{is_session};
 ghost use Rattle.login_table.specs.Listed.{is_there};
 ghost use Rattle.login_core.specs.inner.Chosen.{is_chosen};
 
 use crate::board::Draft;
-use login_base::{ConnId, DevNo, LockNo, SessId};
+use login_base::{DevNo, SessId};
 use login_model::{Key, Look};
 use login_table::{Listed, Test};
-
-/// The session is controlled by this connection.
-#[derive(Drop)]
-pub struct ControlledBy(pub ConnId);
-
-impl Test<SessId> for ControlledBy {
-    ghost meets = { λ test t s. controls t test.0 s };
-
-    fn is_met<F: Look>(&self, facts: &F, session: SessId) -> bool {
-        facts.fact(&Key::Ctl(session)).is_controlled_by(self.0)
-    }
-}
-
-/// The lock is this connection's.
-#[derive(Drop)]
-pub struct HeldBy(pub ConnId);
-
-impl Test<LockNo> for HeldBy {
-    ghost meets = { λ test t l. is_held_by test.0 (value t (Lock l)) };
-
-    fn is_met<F: Look>(&self, facts: &F, lock: LockNo) -> bool {
-        facts.fact(&Key::Lock(lock)).is_lock_of(self.0)
-    }
-}
 
 impl Draft {
     /// The least name of a kind above that one that is there.

@@ -14,8 +14,10 @@ ghost use Rattle.login_base.specs.declared.ids.HandleNo.{HandleNo as AnyHandle};
 ghost use Rattle.login_model.specs.declared.answer.Input.{Input as AnyInput};
 ghost use Rattle.login_core.specs.inner.Ears.{AreEnough, ListenOn, ring_count, settled};
 ghost use Rattle.login_core.specs.inner.Facts.{StandFor, StandForFew, table, gives};
+ghost use Rattle.login_core.specs.inner.Holding.{AreSuch};
 
 use crate::board::hearing::settle;
+use crate::board::holding::{Holding, Holdings, holding_in};
 use crate::room::counts::Counts;
 use controller::Controller;
 use device_model::DeviceModel;
@@ -31,8 +33,9 @@ use std::alloc::Global;
 use std::marker::Model;
 use users_linger::UsersLinger;
 
-/// The facts, how many there are of what needs room, and the numbers of the next session, the next handle and the
-/// next lock. They stand for the marks whose settings were put in. With the devices stands what handles hear of them.
+/// The facts, how many there are of what needs room, the numbers of the next session, the next handle and the next
+/// lock, and what each connection has. They stand for the marks whose settings were put in. With the devices stands
+/// what handles hear of them.
 #[derive(Drop)]
 pub struct Facts {
     users: UsersLinger,
@@ -47,6 +50,7 @@ pub struct Facts {
     session: u32,
     handle: u32,
     lock: u32,
+    holdings: Holdings,
     spare: usize,
 }
 
@@ -71,10 +75,11 @@ impl Model for Facts {
       session = f.session;
       handle = f.handle;
       lock = f.lock;
+      held = f.holdings.list;
       spare = f.spare;
     } };
 
-    ghost invariant = { λ f. (f.spare ≤ f.users.spare) × (f.spare ≤ f.sessions.spare) × (f.spare ≤ f.seats.spare) × (f.spare ≤ f.devices.spare) × (f.spare ≤ f.controls.spare) × (f.spare ≤ f.takes.spare) × (f.spare ≤ f.locks.spare) × (f.spare ≤ f.power.spare) };
+    ghost invariant = { λ f. (f.spare ≤ f.users.spare) × (f.spare ≤ f.sessions.spare) × (f.spare ≤ f.seats.spare) × (f.spare ≤ f.devices.spare) × (f.spare ≤ f.controls.spare) × (f.spare ≤ f.takes.spare) × (f.spare ≤ f.locks.spare) × (f.spare ≤ f.power.spare) × (f.spare ≤ f.holdings.spare) };
 }
 
 /// How many handles a setting gives out.
@@ -82,7 +87,7 @@ fn given(key: &Key, fact: &Fact) -> u32
     ensures { result ≡ gives key.now fact.now }
 {
     match key {
-        Key::Owner(_) => { if fact.is_held() { 1 } else { 0 } }
+        Key::Owner(_) => { if fact.is_owned() { 1 } else { 0 } }
         _ => 0,
     }
 }
@@ -107,6 +112,7 @@ impl Facts {
             session: 1,
             handle: 1,
             lock: 1,
+            holdings: Holdings::new(alloc),
             spare: 0,
         }
     }
@@ -130,6 +136,7 @@ impl Facts {
         self.takes.room(more)?;
         self.locks.room(more)?;
         self.power.room(more)?;
+        self.holdings.reserve(more)?;
         self.spare = more;
         Ok(())
     }
@@ -178,9 +185,12 @@ impl Facts {
         ensures ears { self.new.ears ≡ self.old.ears }
         ensures rings { self.new.rings ≡ self.old.rings }
     {
-        let lost = Counts::of(&key, self.fact(&key));
+        let before = self.fact(&key);
+        let lost = Counts::of(&key, before);
+        let lost_thing = holding_in(&key, before);
         let gained = Counts::of(&key, &fact);
         self.counts = self.counts.moved(lost, gained);
+        self.holdings.shift(lost_thing, holding_in(&key, &fact));
         self.session += gained.opened;
         self.handle += given(&key, &fact);
         self.lock += gained.locks;
@@ -279,6 +289,13 @@ impl Facts {
         ensures { (t : Trail) → StandFor self.now t → IsNext session_lt (λ s. is_taken t s device) above result }
     {
         self.takes.next_taker(device, above)
+    }
+
+    /// What a connection has of a kind above a number, in order.
+    pub fn things(&self, who: ConnId, rank: u8, above: Option<u32>) -> &[Holding]
+        ensures { (t : Trail) → StandFor self.now t → AreSuch t who rank above result.now }
+    {
+        self.holdings.such(who, rank, above)
     }
 
     /// What a handle that listens has heard, the oldest first.

@@ -1,13 +1,16 @@
 // Doing the same with each of some names, in order.
 
 ghost use Rattle.std.specs.Prelude.{◌≡◌, Bool, List, filter};
-ghost use Rattle.login_model.specs.Trail.{Trail};
-ghost use Rattle.login_model.specs.Names.{IsNext, device_lt, session_in, session_lt, names, insert_some};
+ghost use Rattle.login_model.specs.Trail.{Trail, value};
+ghost use Rattle.login_model.specs.Names.{IsNext, device_lt, lock_in, lock_lt, session_in, session_lt, names, insert_some};
 ghost use Rattle.login_model.specs.Devices.{taken_in, is_taken};
 ghost use Rattle.login_model.specs.Procedure.{each};
-ghost use Rattle.login_model.specs.Where.{is_session};
+ghost use Rattle.login_model.specs.Where.{is_lock, is_session};
+ghost use Rattle.login_model.specs.Direct.{is_lock_of};
+ghost use Rattle.login_model.specs.Policy.{controls};
+ghost use Rattle.login_model.specs.declared.fact.Key.TheVariants.{Lock};
 ghost use Rattle.login_model.proofs.Keys.{both};
-ghost use Rattle.login_model.proofs.InOrder.{Enumerates, enumerated, sessions-enumerated, taken-enumerated};
+ghost use Rattle.login_model.proofs.InOrder.{Enumerates, enumerated, locks-enumerated, sessions-enumerated, taken-enumerated};
 ghost use Rattle.login_laws.proofs.Grows.{Grows};
 ghost use Rattle.login_table.specs.Listed.{is_there, listed};
 ghost use Rattle.login_core.specs.inner.Chosen.{is_chosen};
@@ -15,7 +18,7 @@ ghost use Rattle.login_core.specs.inner.Rounds.{SparesAbove};
 ghost use Rattle.login_core.specs.inner.Draft.{marked_by, Fits};
 
 use crate::board::Draft;
-use login_base::{DevNo, SessId};
+use login_base::{ConnId, DevNo, LockNo, SessId};
 use login_model::Look;
 use login_table::{Listed, Test};
 
@@ -92,6 +95,60 @@ impl Choice<SessId> for TakersOf {
         ensures { IsNext session_lt (is_chosen (is_session draft.now.trail) (λ s. is_taken draft.now.trail s self.now.0)) above result }
     {
         draft.next_taker_there(self.0, above)
+    }
+}
+
+/// The sessions that are there and that a connection controls.
+#[derive(Drop)]
+pub struct ControlledBy(pub ConnId);
+
+impl Choice<SessId> for ControlledBy {
+    ghost lt = { session_lt };
+
+    ghost is_in = { λ c t s. is_chosen (is_session t) (controls t c.0) s };
+
+    ghost among = { λ c t. names session_lt session_in t };
+
+    ghost whole = { λ c t. (
+        let all = sessions-enumerated t in
+        record {
+          order = all.order;
+          ascending = all.ascending;
+          complete = λ s e. all.complete s (both (is_session t s) (controls t c.0 s) e).0;
+        }
+        ) };
+
+    fn next(&self, draft: &Draft, above: Option<SessId>) -> Option<SessId>
+        ensures { IsNext session_lt (is_chosen (is_session draft.now.trail) (controls draft.now.trail self.now.0)) above result }
+    {
+        draft.next_controlled(self.0, above)
+    }
+}
+
+/// The locks of a connection.
+#[derive(Drop)]
+pub struct HeldBy(pub ConnId);
+
+impl Choice<LockNo> for HeldBy {
+    ghost lt = { lock_lt };
+
+    ghost is_in = { λ c t l. is_chosen (is_lock t) (λ k. is_lock_of c.0 (value t (Lock k))) l };
+
+    ghost among = { λ c t. names lock_lt lock_in t };
+
+    ghost whole = { λ c t. (
+        let all = locks-enumerated t in
+        record {
+          order = all.order;
+          ascending = all.ascending;
+          complete = λ l e. all.complete l (both (is_lock t l) (is_lock_of c.0 (value t (Lock l))) e).0;
+        }
+        ) };
+
+    fn next(&self, draft: &Draft, above: Option<LockNo>) -> Option<LockNo>
+        ensures { IsNext lock_lt (is_chosen (is_lock draft.now.trail) (λ l. is_lock_of self.now.0 (value draft.now.trail (Lock l)))) above result }
+    {
+        draft.next_held(self.0, above)
     }
 }
 

@@ -171,7 +171,7 @@ impl Draft {
         ensures texts { HaveTexts texts.new self.new.trail }
     {
         match call {
-            Call::Create(creation) => self.create_session(who, creation, texts),
+            Call::Create(creation) => self.create_session(who, creation.get(), texts),
             Call::Terminate(_) => self.terminate_some(call.session(), &mut texts.closing),
             Call::TerminateUser(user) => self.terminate_user(*user, &mut texts.closing),
             Call::TerminateSeat(seat) => self.terminate_on(seat, &mut texts.closing),

@@ -7,12 +7,12 @@ ghost use Rattle.login_model.specs.Trail.{put};
 ghost use Rattle.login_model.specs.declared.fact.Key.TheVariants.{Lock};
 ghost use Rattle.login_model.specs.declared.fact.Fact.TheVariants.{Absent};
 ghost use Rattle.login_laws.proofs.Grows.{put-grows, release-grows};
+ghost use Rattle.login_laws.specs.Sound.{Fifos};
 ghost use Rattle.login_core.specs.Kept.{AreClosing};
 ghost use Rattle.login_core.specs.inner.Draft.{marked_by, Fits};
 
 use crate::board::Draft;
-use crate::board::choosing::{ControlledBy, HeldBy};
-use crate::board::rounds::Task;
+use crate::board::rounds::{ControlledBy, HeldBy, Task};
 use crate::room::kept::Spares;
 use login_base::{ConnId, LockNo, SessId};
 use login_model::Key;
@@ -48,26 +48,25 @@ impl Task<LockNo> for DropLock {
 #[tactic(auto, using(crate::proofs::Growing::growing))]
 impl Draft {
     /// A connection gives back the sessions that it controls.
-    #[tactic(auto, using(crate::proofs::Growing::growing), unfolding(login_model::specs::Direct::controlled_by, login_model::specs::Where::sessions))]
     fn release_controlled(&mut self, who: ConnId)
         requires room { Fits (λ t. each release (controlled_by t who) t) self.old }
         ensures marked { self.new ≡ marked_by (λ t. each release (controlled_by t who) t) self.old }
     {
-        self.for_each_that(ControlledBy(who), &Release);
+        self.for_each(&ControlledBy(who), &Release);
     }
 
     /// The locks of a connection are gone.
-    #[tactic(auto, using(crate::proofs::Growing::growing), unfolding(login_model::specs::Direct::locks_of, login_model::specs::Where::locks))]
     fn drop_locks(&mut self, who: ConnId)
         requires room { Fits (unlock who) self.old }
         ensures marked { self.new ≡ marked_by (unlock who) self.old }
     {
-        self.for_each_that(HeldBy(who), &DropLock);
+        self.for_each(&HeldBy(who), &DropLock);
     }
 
     /// A connection ends: it gives back what it controls, the sessions that it keeps open are shut, and
     /// its locks are gone.
     pub fn disconnect(&mut self, who: ConnId, closing: &mut Spares)
+        requires fifos { Fifos self.old.trail }
         requires copies { AreClosing closing.old.items self.old.trail }
         requires room { Fits (disconnect who) self.old }
         ensures marked { self.new ≡ marked_by (disconnect who) self.old }

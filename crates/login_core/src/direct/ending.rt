@@ -1,29 +1,68 @@
 // How the sessions of a user, of a seat and of a connection end.
 
-ghost use Rattle.std.specs.Prelude.{◌≡◌};
-ghost use Rattle.login_model.specs.Where.{is_open, sessions_of, sessions_on};
+ghost use Rattle.std.specs.Prelude.{◌≡◌, Bool};
+ghost use Rattle.login_base.specs.declared.ids.SessId.{SessId as AnySession};
+ghost use Rattle.login_model.specs.Names.{IsNext, session_lt};
+ghost use Rattle.login_model.specs.Trail.{Trail};
+ghost use Rattle.login_model.specs.Where.{is_session, sessions_of, sessions_on};
 ghost use Rattle.login_model.specs.Procedure.{each, shut};
-ghost use Rattle.login_model.specs.Direct.{is_fifo_of, fifo_of, end_sessions};
+ghost use Rattle.login_model.specs.Direct.{end_sessions};
+ghost use Rattle.login_laws.specs.Sound.{Fifos};
+ghost use Rattle.login_core.specs.inner.Chosen.{is_chosen};
 ghost use Rattle.login_core.specs.Kept.{AreClosing};
-ghost use Rattle.login_core.specs.inner.Ending.{sessions_such, StaysAbove, is_kept_open_by};
+ghost use Rattle.login_core.specs.inner.Ending.{StaysAbove, StaysShut, is_kept_open_by, sessions_such};
 ghost use Rattle.login_core.specs.inner.Draft.{marked_by, Fits};
 
 use crate::board::Draft;
 use crate::room::kept::Spares;
-use login_base::{ConnId, HandleNo, SeatName, SessId, Uid};
-use login_model::{Fact, Key, Look, Owner};
+use login_base::{ConnId, SeatName, SessId, Uid};
 use login_table::{OfUser, OnSeat, Test};
 
-/// It is open, and a connection owns its fifo.
+/// Sessions that are shut one after the other.
+trait Ending {
+    /// Whether a session is one of them, after these marks.
+    ghost meets: { Self → Trail → AnySession → Bool };
+
+    /// What has to hold of the marks so far, now and after each that is shut.
+    ghost suits: { Self → Trail → Type 0 };
+
+    /// The least of them above that one.
+    fn next(&self, draft: &Draft, above: Option<SessId>) -> Option<SessId>
+        requires { suits self.now draft.now.trail }
+        ensures { IsNext session_lt (is_chosen (is_session draft.now.trail) (meets self.now draft.now.trail)) above result };
+}
+
+/// Those that meet a test.
 #[derive(Drop)]
-struct KeptOpenBy(pub ConnId);
+struct Meeting<T>(T);
 
-impl Test<SessId> for KeptOpenBy {
-    ghost meets = { λ test t s. is_kept_open_by test.0 t s };
+impl<T: Test<SessId> + Drop> Ending for Meeting<T> {
+    ghost meets = { λ these t s. T.meets these.0 t s };
 
-    fn is_met<F: Look>(&self, facts: &F, session: SessId) -> bool {
-        let fact = facts.fact(&Key::Sess(session));
-        fact.is_open() && facts.fact(&Key::Owner(fact.fifo())).is_fifo_of(self.0)
+    ghost suits = { λ these t. Unit {0} };
+
+    fn next(&self, draft: &Draft, above: Option<SessId>) -> Option<SessId>
+        requires { Unit {0} }
+        ensures { IsNext session_lt (is_chosen (is_session draft.now.trail) (T.meets self.now.0 draft.now.trail)) above result }
+    {
+        draft.next_that(&self.0, above)
+    }
+}
+
+/// Those that a connection keeps open by their fifos.
+#[derive(Drop)]
+struct KeptOpenBy(ConnId);
+
+impl Ending for KeptOpenBy {
+    ghost meets = { λ these t s. is_kept_open_by these.0 t s };
+
+    ghost suits = { λ these t. Fifos t };
+
+    fn next(&self, draft: &Draft, above: Option<SessId>) -> Option<SessId>
+        requires { Fifos draft.now.trail }
+        ensures { IsNext session_lt (is_chosen (is_session draft.now.trail) (is_kept_open_by self.now.0 draft.now.trail)) above result }
+    {
+        draft.next_kept_open(self.0, above)
     }
 }
 
@@ -39,16 +78,18 @@ impl Draft {
         self.shut(session, copies);
     }
 
-    /// The sessions that meet a test close, in order.
-    fn shut_such<T: Test<SessId>>(&mut self, test: &T, closing: &mut Spares)
-        requires stays { StaysAbove (T.meets test.now) }
+    /// Such sessions close, in order.
+    fn shut_such<E: Ending>(&mut self, these: &E, closing: &mut Spares)
+        requires stays { StaysAbove (E.meets these.now) }
+        requires suited { StaysShut (E.suits these.now) }
+        requires suits { E.suits these.now self.old.trail }
         requires copies { AreClosing closing.old.items self.old.trail }
-        requires room { Fits (λ t. each shut (sessions_such (T.meets test.now) t) t) self.old }
-        ensures marked { self.new ≡ marked_by (λ t. each shut (sessions_such (T.meets test.now) t) t) self.old }
+        requires room { Fits (λ t. each shut (sessions_such (E.meets these.now) t) t) self.old }
+        ensures marked { self.new ≡ marked_by (λ t. each shut (sessions_such (E.meets these.now) t) t) self.old }
         ensures copies { AreClosing closing.new.items self.new.trail }
     {
         let mut above = None;
-        while let Some(session) = self.next_that(test, above) {
+        while let Some(session) = these.next(self, above) {
             self.shut_kept(session, closing);
             above = Some(session);
         }
@@ -61,7 +102,7 @@ impl Draft {
         ensures marked { self.new ≡ marked_by (λ t. each shut (sessions_of t user.0) t) self.old }
         ensures copies { AreClosing closing.new.items self.new.trail }
     {
-        self.shut_such(&OfUser(user), closing);
+        self.shut_such(&Meeting(OfUser(user)), closing);
     }
 
     /// The sessions on a seat close.
@@ -71,11 +112,12 @@ impl Draft {
         ensures marked { self.new ≡ marked_by (λ t. each shut (sessions_on t seat) t) self.old }
         ensures copies { AreClosing closing.new.items self.new.trail }
     {
-        self.shut_such(&OnSeat(seat), closing);
+        self.shut_such(&Meeting(OnSeat(seat)), closing);
     }
 
     /// The sessions that a connection keeps open close.
     pub fn end_sessions(&mut self, who: ConnId, closing: &mut Spares)
+        requires fifos { Fifos self.old.trail }
         requires copies { AreClosing closing.old.items self.old.trail }
         requires room { Fits (end_sessions who) self.old }
         ensures marked { self.new ≡ marked_by (end_sessions who) self.old }

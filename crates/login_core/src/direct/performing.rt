@@ -114,7 +114,7 @@ impl Draft {
         ensures texts { HaveTexts texts.new self.new.trail }
     {
         match hardware {
-            Hardware::Add(device, kind, seat) => self.add_kept(*device, *kind, *seat, texts),
+            Hardware::Add(device, kind, seat) => self.add_kept(*device, *kind, *seat.get(), texts),
             Hardware::Remove(device) => self.remove_device(*device, &mut texts.closing),
             Hardware::Exit(id) => self.exit_id(setup, id, texts),
             _ => self.happen_plain(setup, hardware),

@@ -116,7 +116,7 @@ impl Texts {
         ensures gone { self.new.gone.items ≡ self.old.gone.items }
     {
         match call {
-            Call::Create(creation) => self.prepare_session(alloc, creation),
+            Call::Create(creation) => self.prepare_session(alloc, creation.get()),
             Call::Inhibit(inhibition) => self.prepare_lock(alloc, inhibition),
             _ => Ok(()),
         }

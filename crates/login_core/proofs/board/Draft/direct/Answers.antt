@@ -23,6 +23,9 @@ direct_call-requires-clause-named c =
     let P : Event → Type 0 = λ e. verdict c.args.setup.now t e ≡ Granted in
     named c.args.setup.now t c.in-Call.request (subst P c.in-Call.is c.requires.granted)
 
+pub disconnect-requires-clause-fifos : goal.disconnect-requires-clause-fifos
+disconnect-requires-clause-fifos c = c.requires.sound.between.fifos
+
 pub happen-requires-clause-here : goal.happen-requires-clause-here
 happen-requires-clause-here c =
     let t = c.args.self.now.trail in

@@ -4,12 +4,14 @@ use Rattle.login_model.specs.declared.fact.Fact.TheVariants.{Absent}
 use Rattle.login_model.specs.Trail.{Trail, value, put}
 use Rattle.login_model.specs.Procedure.{each, release, shut}
 use Rattle.login_model.specs.Direct.{controlled_by, kept_open_by, locks_of, end_sessions, unlock, disconnect}
+use Rattle.login_laws.specs.Sound.{Fifos}
 use Rattle.login_laws.proofs.Grows.{Grows, each-grows, shut-grows, put-grows, grows-trans}
 use Rattle.login_laws.proofs.Carried.{each-carried, release-carried}
 use Rattle.login_laws.proofs.Tame.{Tame, tame, later-along, other, tame-unlocks}
 use Rattle.login_base.specs.declared.ids.ConnId.{ConnId}
 use Rattle.login_core.specs.inner.Draft.{DraftState, marked_by, with_trail}
 use Rattle.login_core.proofs.Growing.{fits, trails}
+use Rattle.login_core.proofs.ShutLaws.{fifos-released}
 use Rattle.login_core.proofs.TextsKept.{AllLater, closing-later}
 use Rattle.login_core.proofs.board.Draft.disconnect.Goals as goal
 
@@ -76,6 +78,11 @@ end_sessions-requires-clause-copies c =
     let P : Trail → Type 0 = Tame t in
     let p = subst P (sym (trails c.release_controlled.ensures.marked)) (each-carried tame release (release-carried tame) (controlled_by t c.args.who) t) in
     closing-later c.args.closing.now.items t c.release_controlled.new.self.trail p.sessions c.requires.copies
+
+pub end_sessions-requires-clause-fifos : goal.end_sessions-requires-clause-fifos
+end_sessions-requires-clause-fifos c =
+    let t = c.args.self.now.trail in
+    subst Fifos (sym (trails c.release_controlled.ensures.marked)) (fifos-released (controlled_by t c.args.who) t c.requires.fifos)
 
 pub returns-clause-copies : goal.returns-clause-copies
 returns-clause-copies c =

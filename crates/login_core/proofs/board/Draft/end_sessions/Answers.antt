@@ -2,11 +2,14 @@ use Rattle.std.proofs.Common.{◌∙◌, List, length, ap, arith}
 use Rattle.login_base.specs.declared.ids.SessId.{SessId}
 use Rattle.login_model.specs.Procedure.{each, shut}
 use Rattle.login_core.specs.inner.Draft.{with_trail}
-use Rattle.login_core.proofs.ShutLaws.{fifo-stays, kept-list}
+use Rattle.login_core.proofs.ShutLaws.{fifo-stays, fifos-shut, kept-list}
 use Rattle.login_core.proofs.board.Draft.end_sessions.Goals as goal
 
 pub shut_such-requires-clause-stays : goal.shut_such-requires-clause-stays
 shut_such-requires-clause-stays c = fifo-stays c.args.who
+
+pub shut_such-requires-clause-suited : goal.shut_such-requires-clause-suited
+shut_such-requires-clause-suited c = fifos-shut
 
 pub shut_such-requires-clause-room : goal.shut_such-requires-clause-room
 shut_such-requires-clause-room c =

@@ -5,7 +5,7 @@ use Rattle.login_model.specs.declared.session.Phase.TheVariants.{Gone}
 use Rattle.login_model.specs.declared.fact.Key.TheVariants.{Sess}
 use Rattle.login_model.specs.Trail.{value, tell_all}
 use Rattle.login_model.specs.Procedure.{leave, set_phase, shut}
-use Rattle.login_model.specs.Direct.{exit, owner_of}
+use Rattle.login_model.specs.Direct.{exit, user_or_root}
 use Rattle.login_laws.proofs.Grows.{leave-grows}
 use Rattle.login_core.specs.inner.Draft.{with_trail, marked_by}
 use Rattle.login_core.proofs.Growing.{fits}
@@ -16,7 +16,7 @@ unfolding exit
 remove_session-requires c =
     let s = c.args.session in
     let t = c.args.self.now.trail in
-    let g = leave-grows c.args.setup.now (owner_of (value t (Sess s))) (tell_all (SessionRemoved s) (set_phase s Gone (shut s t))) in
+    let g = leave-grows c.args.setup.now (user_or_root (value t (Sess s))) (tell_all (SessionRemoved s) (set_phase s Gone (shut s t))) in
     record { closing = c.requires.closing; gone = c.requires.gone; room = omega (arith, c.requires.room) }
 
 left : (c : goal.After-leave-arg-1) → marked_by (leave c.args.setup.now c.user_or_root-owner.result) c.remove_session.new.self ≡ marked_by (exit c.args.setup.now c.args.session) c.args.self.now
@@ -26,7 +26,7 @@ left c =
     let s = c.args.session in
     let t = c.args.self.now.trail in
     ap (marked_by (leave U c.user_or_root-owner.result)) c.remove_session.ensures.marked
-    ∙ ap (with_trail c.args.self.now) (ap (λ (u : Uid). leave U u (tell_all (SessionRemoved s) (set_phase s Gone (shut s t)))) (c.user_or_root-owner.ensures ∙ ap owner_of c.fact.ensures))
+    ∙ ap (with_trail c.args.self.now) (ap (λ (u : Uid). leave U u (tell_all (SessionRemoved s) (set_phase s Gone (shut s t)))) (c.user_or_root-owner.ensures ∙ ap user_or_root c.fact.ensures))
 
 pub leave-requires : goal.leave-requires
 leave-requires c = record { room = fits _ _ c.args.self.now c.remove_session.new.self (left c) c.requires.room }

@@ -2,7 +2,7 @@ use Rattle.std.proofs.Common.{sym, subst, arith}
 use Rattle.login_model.specs.Direct.{direct}
 use Rattle.login_model.specs.Trail.{Trail}
 use Rattle.login_laws.proofs.Carried.{settle-carried}
-use Rattle.login_laws.proofs.Grows.{settle-grows}
+use Rattle.login_laws.proofs.Grows.{grows, grows-operated, grows-switched}
 use Rattle.login_laws.proofs.Tame.{Tame, tame, tame-operated, tame-switched}
 use Rattle.login_laws.specs.Sound.{Awaits}
 use Rattle.login_core.proofs.TextsKept.{texts-later}
@@ -12,7 +12,7 @@ use Rattle.login_core.proofs.board.Draft.grant.Goals as goal
 pub direct-requires-clause-room : goal.direct-requires-clause-room
 direct-requires-clause-room c =
     let U = c.args.setup.now in
-    let g = settle-grows U (direct U c.args.event.now c.args.self.now.trail) in
+    let g = settle-carried grows grows-switched grows-operated U (direct U c.args.event.now c.args.self.now.trail) in
     let h = c.requires.room in
     omega arith
 

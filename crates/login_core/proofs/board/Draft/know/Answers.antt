@@ -8,7 +8,8 @@ use Rattle.login_model.specs.Facts.{is_absent}
 use Rattle.login_core.specs.inner.Draft.{with_trail, marked_by}
 use Rattle.login_core.proofs.Told.{greeted}
 use Rattle.login_core.proofs.Growing.{fits}
-use Rattle.login_laws.proofs.Grows.{tell_new_user-grows}
+use Rattle.login_laws.proofs.Carried.{tell_new_user-carried}
+use Rattle.login_laws.proofs.Grows.{grows}
 use Rattle.login_core.proofs.board.Draft.know.Goals as goal
 
 pub returns : goal.returns
@@ -28,7 +29,7 @@ unfolding know
 put_known-requires c =
     let u = c.args.user in
     let t = c.args.self.now.trail in
-    let g = tell_new_user-grows u (value t (User u)) (put (User u) Known t) in
+    let g = tell_new_user-carried grows u (value t (User u)) (put (User u) Known t) in
     record { room = omega (arith, c.requires.room) }
 
 pub tell_new_user-requires : goal.tell_new_user-requires

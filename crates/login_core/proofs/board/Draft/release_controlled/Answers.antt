@@ -1,5 +1,20 @@
-use Rattle.login_core.proofs.Controlled.{release-above}
+use Rattle.std.proofs.Common.{◌∙◌, length, ap, arith}
+use Rattle.login_model.specs.Procedure.{each, release}
+use Rattle.login_core.specs.inner.Draft.{marked_by}
+use Rattle.login_core.proofs.Controlled.{controlled-chosen, release-above}
 use Rattle.login_core.proofs.board.Draft.release_controlled.Goals as goal
 
-pub for_each_that-requires-clause-spares : goal.for_each_that-requires-clause-spares
-for_each_that-requires-clause-spares c = release-above c.args.who
+pub for_each-requires-clause-spares : goal.for_each-requires-clause-spares
+for_each-requires-clause-spares c = release-above c.args.who
+
+pub for_each-requires-clause-room : goal.for_each-requires-clause-room
+for_each-requires-clause-room c =
+    let t = c.args.self.now.trail in
+    let l = ap (λ xs. length (each release xs t)) (controlled-chosen t c.args.who) in
+    let r = c.requires in
+    omega arith
+
+pub returns : goal.returns
+returns c =
+    let t = c.args.self.now.trail in
+    record { marked = c.for_each.ensures.marked ∙ ap (λ xs. marked_by (each release xs) c.args.self.now) (controlled-chosen t c.args.who) }

@@ -1,13 +1,16 @@
-use Rattle.std.proofs.Common.{◌≡◌, ℕ, ◌+◌, ◌-◌, ◌∙◌, ap, sym, subst, arith}
+use Rattle.std.proofs.Common.{◌≡◌, ℕ, ◌+◌, ◌-◌, ◌∙◌, List, Option, ap, sym, subst, arith}
 use Rattle.login_model.specs.declared.fact.Key.{Key}
 use Rattle.login_model.specs.declared.fact.Fact.{Fact}
 use Rattle.login_model.specs.Fresh.{fresh_session, fresh_handle, fresh_lock}
+use Rattle.login_model.specs.Names.{insert_some}
 use Rattle.login_model.specs.Trail.{value}
 use Rattle.login_table.specs.declared.home.Home.TheVariants.{Users, Sessions, Seats, Devices, Controls, Takes, Locks, Power}
 use Rattle.login_core.specs.declared.board.facts.Facts.TheInside.{Inside}
 use Rattle.login_core.specs.declared.room.counts.Counts.{Counts}
 use Rattle.login_core.specs.inner.Counts.{CanAllMove, Follow, counts_of}
+use Rattle.login_core.specs.declared.board.holding.Holding.{Holding}
 use Rattle.login_core.specs.inner.Facts.{Tables, StandFor, opens, inhibits}
+use Rattle.login_core.specs.inner.Holding.{holding_in, holding_lt, noted, without}
 use Rattle.login_core.proofs.CountedLaws.{counted-fit}
 use Rattle.login_core.proofs.Counting.{opens-bound, gives-bound, inhibits-bound, sessions-bound, handles-bound, locks-bound}
 use Rattle.login_core.proofs.Placed.{Moves, Places, stands-placed, but-users, but-sessions, but-seats, but-devices, but-controls, but-takes, but-locks, but-power}
@@ -26,6 +29,11 @@ follow n lost gained m k x y v l e g h =
     let Q : Counts → Type 0 = λ a. Follow n (counts_of k v) a m in
     subst Q g (subst P (l ∙ ap (counts_of k) e) h)
 
+noted-by : (xs ys : List Holding) (lost gained : Option Holding) (k : Key) (x y v : Fact) → ys ≡ insert_some holding_lt gained (without lost xs) → lost ≡ holding_in k y → y ≡ v → gained ≡ holding_in k x → ys ≡ noted k v x xs
+noted-by xs ys lost gained k x y v e l f g =
+    e ∙ ap (λ (o : Option Holding). insert_some holding_lt o (without lost xs)) g
+    ∙ ap (λ (o : Option Holding). insert_some holding_lt (holding_in k x) (without o xs)) (l ∙ ap (holding_in k) f)
+
 -- what facts of these parts are seen as
 abbrev tables_of : Inside → Tables
 tables_of f = record {
@@ -43,6 +51,7 @@ tables_of f = record {
   session = f.session;
   handle = f.handle;
   lock = f.lock;
+  held = f.holdings.list;
   spare = f.spare;
 }
 
@@ -52,7 +61,7 @@ moved-self-inside-requires c =
     let now = c.args.self.now in
     let counted = counted-fit now.counts c.args.key c.args.fact few.marks (opened now few.marks few.stand).counts few.few in
     let P : Counts → Type 0 = λ n. CanAllMove n (counts_of c.args.key (value few.marks c.args.key)) (counts_of c.args.key c.args.fact) in
-    fit c.self.inside.counts c.of-lost.result c.of-gained.result c.args.key c.args.fact c.fact.result.now (value few.marks c.args.key) c.of-lost.ensures (c.fact.ensures few.marks few.stand) c.of-gained.ensures
+    fit c.self.inside.counts c.of-lost.result c.of-gained.result c.args.key c.args.fact c.fact-before.result.now (value few.marks c.args.key) c.of-lost.ensures (c.fact-before.ensures few.marks few.stand) c.of-gained.ensures
     (subst P (sym (ap (λ (f : Tables). f.counts) c.self.view_is)) counted)
 
 pub overflow_add-self : goal.overflow_add-self
@@ -102,14 +111,16 @@ returns-in-Users-clause-stands c = λ t s.
     let session = c.self.inside.session + c.of-gained.result.opened in
     let handle = c.self.inside.handle + c.given.result in
     let lock = c.self.inside.lock + c.of-gained.result.locks in
+    let held = c.shift.new.self.list in
     let spare = c.self.inside.spare - 1 in
-    let g : Tables = record f { users = rows; counts = counts; session = session; handle = handle; lock = lock; spare = spare } in
-    let places : Places f g k x Users = record { at_home = sym c.of.ensures ∙ c.in-Users.is; set = c.set.ensures.facts; stays = but-users f rows counts session handle lock spare } in
+    let g : Tables = record f { users = rows; counts = counts; session = session; handle = handle; lock = lock; held = held; spare = spare } in
+    let places : Places f g k x Users = record { at_home = sym c.of.ensures ∙ c.in-Users.is; set = c.set.ensures.facts; stays = but-users f rows counts session handle lock held spare } in
     let moves : Moves f g k x t = record {
-      counts = follow c.self.inside.counts c.of-lost.result c.of-gained.result counts k x c.fact.result.now (value t k) c.of-lost.ensures (c.fact.ensures t s) c.of-gained.ensures c.moved-self-inside.ensures;
+      counts = follow c.self.inside.counts c.of-lost.result c.of-gained.result counts k x c.fact-before.result.now (value t k) c.of-lost.ensures (c.fact-before.ensures t s) c.of-gained.ensures c.moved-self-inside.ensures;
       session = ap (λ (n : Counts). c.self.inside.session + n.opened) c.of-gained.ensures;
       handle = ap (λ (n : ℕ). c.self.inside.handle + n) c.given.ensures;
       lock = ap (λ (n : Counts). c.self.inside.lock + n.locks) c.of-gained.ensures;
+      held = noted-by c.self.inside.holdings.list held c.holding_in-lost_thing.result c.holding_in.result k x c.fact-before.result.now (value t k) c.shift.ensures.list c.holding_in-lost_thing.ensures (c.fact-before.ensures t s) c.holding_in.ensures;
     } in
     stands-placed f g k x Users t places moves (subst P (sym c.self.view_is) s)
 
@@ -124,14 +135,16 @@ returns-in-Sessions-clause-stands c = λ t s.
     let session = c.self.inside.session + c.of-gained.result.opened in
     let handle = c.self.inside.handle + c.given.result in
     let lock = c.self.inside.lock + c.of-gained.result.locks in
+    let held = c.shift.new.self.list in
     let spare = c.self.inside.spare - 1 in
-    let g : Tables = record f { sessions = rows; counts = counts; session = session; handle = handle; lock = lock; spare = spare } in
-    let places : Places f g k x Sessions = record { at_home = sym c.of.ensures ∙ c.in-Sessions.is; set = c.set-in-Sessions.ensures.facts; stays = but-sessions f rows counts session handle lock spare } in
+    let g : Tables = record f { sessions = rows; counts = counts; session = session; handle = handle; lock = lock; held = held; spare = spare } in
+    let places : Places f g k x Sessions = record { at_home = sym c.of.ensures ∙ c.in-Sessions.is; set = c.set-in-Sessions.ensures.facts; stays = but-sessions f rows counts session handle lock held spare } in
     let moves : Moves f g k x t = record {
-      counts = follow c.self.inside.counts c.of-lost.result c.of-gained.result counts k x c.fact.result.now (value t k) c.of-lost.ensures (c.fact.ensures t s) c.of-gained.ensures c.moved-self-inside.ensures;
+      counts = follow c.self.inside.counts c.of-lost.result c.of-gained.result counts k x c.fact-before.result.now (value t k) c.of-lost.ensures (c.fact-before.ensures t s) c.of-gained.ensures c.moved-self-inside.ensures;
       session = ap (λ (n : Counts). c.self.inside.session + n.opened) c.of-gained.ensures;
       handle = ap (λ (n : ℕ). c.self.inside.handle + n) c.given.ensures;
       lock = ap (λ (n : Counts). c.self.inside.lock + n.locks) c.of-gained.ensures;
+      held = noted-by c.self.inside.holdings.list held c.holding_in-lost_thing.result c.holding_in.result k x c.fact-before.result.now (value t k) c.shift.ensures.list c.holding_in-lost_thing.ensures (c.fact-before.ensures t s) c.holding_in.ensures;
     } in
     stands-placed f g k x Sessions t places moves (subst P (sym c.self.view_is) s)
 
@@ -146,14 +159,16 @@ returns-in-Seats-clause-stands c = λ t s.
     let session = c.self.inside.session + c.of-gained.result.opened in
     let handle = c.self.inside.handle + c.given.result in
     let lock = c.self.inside.lock + c.of-gained.result.locks in
+    let held = c.shift.new.self.list in
     let spare = c.self.inside.spare - 1 in
-    let g : Tables = record f { seats = rows; counts = counts; session = session; handle = handle; lock = lock; spare = spare } in
-    let places : Places f g k x Seats = record { at_home = sym c.of.ensures ∙ c.in-Seats.is; set = c.set-in-Seats.ensures.facts; stays = but-seats f rows counts session handle lock spare } in
+    let g : Tables = record f { seats = rows; counts = counts; session = session; handle = handle; lock = lock; held = held; spare = spare } in
+    let places : Places f g k x Seats = record { at_home = sym c.of.ensures ∙ c.in-Seats.is; set = c.set-in-Seats.ensures.facts; stays = but-seats f rows counts session handle lock held spare } in
     let moves : Moves f g k x t = record {
-      counts = follow c.self.inside.counts c.of-lost.result c.of-gained.result counts k x c.fact.result.now (value t k) c.of-lost.ensures (c.fact.ensures t s) c.of-gained.ensures c.moved-self-inside.ensures;
+      counts = follow c.self.inside.counts c.of-lost.result c.of-gained.result counts k x c.fact-before.result.now (value t k) c.of-lost.ensures (c.fact-before.ensures t s) c.of-gained.ensures c.moved-self-inside.ensures;
       session = ap (λ (n : Counts). c.self.inside.session + n.opened) c.of-gained.ensures;
       handle = ap (λ (n : ℕ). c.self.inside.handle + n) c.given.ensures;
       lock = ap (λ (n : Counts). c.self.inside.lock + n.locks) c.of-gained.ensures;
+      held = noted-by c.self.inside.holdings.list held c.holding_in-lost_thing.result c.holding_in.result k x c.fact-before.result.now (value t k) c.shift.ensures.list c.holding_in-lost_thing.ensures (c.fact-before.ensures t s) c.holding_in.ensures;
     } in
     stands-placed f g k x Seats t places moves (subst P (sym c.self.view_is) s)
 
@@ -170,14 +185,16 @@ returns-in-Devices-clause-stands c = λ t s.
     let session = c.self.inside.session + c.of-gained.result.opened in
     let handle = c.self.inside.handle + c.given.result in
     let lock = c.self.inside.lock + c.of-gained.result.locks in
+    let held = c.shift.new.self.list in
     let spare = c.self.inside.spare - 1 in
-    let g : Tables = record f { devices = rows; ears = ears; rings = rings; counts = counts; session = session; handle = handle; lock = lock; spare = spare } in
-    let places : Places f g k x Devices = record { at_home = sym c.of.ensures ∙ c.in-Devices.is; set = c.set-in-Devices.ensures.facts; stays = but-devices f rows ears rings counts session handle lock spare } in
+    let g : Tables = record f { devices = rows; ears = ears; rings = rings; counts = counts; session = session; handle = handle; lock = lock; held = held; spare = spare } in
+    let places : Places f g k x Devices = record { at_home = sym c.of.ensures ∙ c.in-Devices.is; set = c.set-in-Devices.ensures.facts; stays = but-devices f rows ears rings counts session handle lock held spare } in
     let moves : Moves f g k x t = record {
-      counts = follow c.self.inside.counts c.of-lost.result c.of-gained.result counts k x c.fact.result.now (value t k) c.of-lost.ensures (c.fact.ensures t s) c.of-gained.ensures c.moved-self-inside.ensures;
+      counts = follow c.self.inside.counts c.of-lost.result c.of-gained.result counts k x c.fact-before.result.now (value t k) c.of-lost.ensures (c.fact-before.ensures t s) c.of-gained.ensures c.moved-self-inside.ensures;
       session = ap (λ (n : Counts). c.self.inside.session + n.opened) c.of-gained.ensures;
       handle = ap (λ (n : ℕ). c.self.inside.handle + n) c.given.ensures;
       lock = ap (λ (n : Counts). c.self.inside.lock + n.locks) c.of-gained.ensures;
+      held = noted-by c.self.inside.holdings.list held c.holding_in-lost_thing.result c.holding_in.result k x c.fact-before.result.now (value t k) c.shift.ensures.list c.holding_in-lost_thing.ensures (c.fact-before.ensures t s) c.holding_in.ensures;
     } in
     stands-placed f g k x Devices t places moves (subst P (sym c.self.view_is) s)
 
@@ -192,14 +209,16 @@ returns-in-Controls-clause-stands c = λ t s.
     let session = c.self.inside.session + c.of-gained.result.opened in
     let handle = c.self.inside.handle + c.given.result in
     let lock = c.self.inside.lock + c.of-gained.result.locks in
+    let held = c.shift.new.self.list in
     let spare = c.self.inside.spare - 1 in
-    let g : Tables = record f { controls = rows; counts = counts; session = session; handle = handle; lock = lock; spare = spare } in
-    let places : Places f g k x Controls = record { at_home = sym c.of.ensures ∙ c.in-Controls.is; set = c.set-in-Controls.ensures.facts; stays = but-controls f rows counts session handle lock spare } in
+    let g : Tables = record f { controls = rows; counts = counts; session = session; handle = handle; lock = lock; held = held; spare = spare } in
+    let places : Places f g k x Controls = record { at_home = sym c.of.ensures ∙ c.in-Controls.is; set = c.set-in-Controls.ensures.facts; stays = but-controls f rows counts session handle lock held spare } in
     let moves : Moves f g k x t = record {
-      counts = follow c.self.inside.counts c.of-lost.result c.of-gained.result counts k x c.fact.result.now (value t k) c.of-lost.ensures (c.fact.ensures t s) c.of-gained.ensures c.moved-self-inside.ensures;
+      counts = follow c.self.inside.counts c.of-lost.result c.of-gained.result counts k x c.fact-before.result.now (value t k) c.of-lost.ensures (c.fact-before.ensures t s) c.of-gained.ensures c.moved-self-inside.ensures;
       session = ap (λ (n : Counts). c.self.inside.session + n.opened) c.of-gained.ensures;
       handle = ap (λ (n : ℕ). c.self.inside.handle + n) c.given.ensures;
       lock = ap (λ (n : Counts). c.self.inside.lock + n.locks) c.of-gained.ensures;
+      held = noted-by c.self.inside.holdings.list held c.holding_in-lost_thing.result c.holding_in.result k x c.fact-before.result.now (value t k) c.shift.ensures.list c.holding_in-lost_thing.ensures (c.fact-before.ensures t s) c.holding_in.ensures;
     } in
     stands-placed f g k x Controls t places moves (subst P (sym c.self.view_is) s)
 
@@ -214,14 +233,16 @@ returns-in-Takes-clause-stands c = λ t s.
     let session = c.self.inside.session + c.of-gained.result.opened in
     let handle = c.self.inside.handle + c.given.result in
     let lock = c.self.inside.lock + c.of-gained.result.locks in
+    let held = c.shift.new.self.list in
     let spare = c.self.inside.spare - 1 in
-    let g : Tables = record f { takes = rows; counts = counts; session = session; handle = handle; lock = lock; spare = spare } in
-    let places : Places f g k x Takes = record { at_home = sym c.of.ensures ∙ c.in-Takes.is; set = c.set-in-Takes.ensures.facts; stays = but-takes f rows counts session handle lock spare } in
+    let g : Tables = record f { takes = rows; counts = counts; session = session; handle = handle; lock = lock; held = held; spare = spare } in
+    let places : Places f g k x Takes = record { at_home = sym c.of.ensures ∙ c.in-Takes.is; set = c.set-in-Takes.ensures.facts; stays = but-takes f rows counts session handle lock held spare } in
     let moves : Moves f g k x t = record {
-      counts = follow c.self.inside.counts c.of-lost.result c.of-gained.result counts k x c.fact.result.now (value t k) c.of-lost.ensures (c.fact.ensures t s) c.of-gained.ensures c.moved-self-inside.ensures;
+      counts = follow c.self.inside.counts c.of-lost.result c.of-gained.result counts k x c.fact-before.result.now (value t k) c.of-lost.ensures (c.fact-before.ensures t s) c.of-gained.ensures c.moved-self-inside.ensures;
       session = ap (λ (n : Counts). c.self.inside.session + n.opened) c.of-gained.ensures;
       handle = ap (λ (n : ℕ). c.self.inside.handle + n) c.given.ensures;
       lock = ap (λ (n : Counts). c.self.inside.lock + n.locks) c.of-gained.ensures;
+      held = noted-by c.self.inside.holdings.list held c.holding_in-lost_thing.result c.holding_in.result k x c.fact-before.result.now (value t k) c.shift.ensures.list c.holding_in-lost_thing.ensures (c.fact-before.ensures t s) c.holding_in.ensures;
     } in
     stands-placed f g k x Takes t places moves (subst P (sym c.self.view_is) s)
 
@@ -236,14 +257,16 @@ returns-in-Locks-clause-stands c = λ t s.
     let session = c.self.inside.session + c.of-gained.result.opened in
     let handle = c.self.inside.handle + c.given.result in
     let lock = c.self.inside.lock + c.of-gained.result.locks in
+    let held = c.shift.new.self.list in
     let spare = c.self.inside.spare - 1 in
-    let g : Tables = record f { locks = rows; counts = counts; session = session; handle = handle; lock = lock; spare = spare } in
-    let places : Places f g k x Locks = record { at_home = sym c.of.ensures ∙ c.in-Locks.is; set = c.set-in-Locks.ensures.facts; stays = but-locks f rows counts session handle lock spare } in
+    let g : Tables = record f { locks = rows; counts = counts; session = session; handle = handle; lock = lock; held = held; spare = spare } in
+    let places : Places f g k x Locks = record { at_home = sym c.of.ensures ∙ c.in-Locks.is; set = c.set-in-Locks.ensures.facts; stays = but-locks f rows counts session handle lock held spare } in
     let moves : Moves f g k x t = record {
-      counts = follow c.self.inside.counts c.of-lost.result c.of-gained.result counts k x c.fact.result.now (value t k) c.of-lost.ensures (c.fact.ensures t s) c.of-gained.ensures c.moved-self-inside.ensures;
+      counts = follow c.self.inside.counts c.of-lost.result c.of-gained.result counts k x c.fact-before.result.now (value t k) c.of-lost.ensures (c.fact-before.ensures t s) c.of-gained.ensures c.moved-self-inside.ensures;
       session = ap (λ (n : Counts). c.self.inside.session + n.opened) c.of-gained.ensures;
       handle = ap (λ (n : ℕ). c.self.inside.handle + n) c.given.ensures;
       lock = ap (λ (n : Counts). c.self.inside.lock + n.locks) c.of-gained.ensures;
+      held = noted-by c.self.inside.holdings.list held c.holding_in-lost_thing.result c.holding_in.result k x c.fact-before.result.now (value t k) c.shift.ensures.list c.holding_in-lost_thing.ensures (c.fact-before.ensures t s) c.holding_in.ensures;
     } in
     stands-placed f g k x Locks t places moves (subst P (sym c.self.view_is) s)
 
@@ -258,13 +281,15 @@ returns-in-Power-clause-stands c = λ t s.
     let session = c.self.inside.session + c.of-gained.result.opened in
     let handle = c.self.inside.handle + c.given.result in
     let lock = c.self.inside.lock + c.of-gained.result.locks in
+    let held = c.shift.new.self.list in
     let spare = c.self.inside.spare - 1 in
-    let g : Tables = record f { power = rows; counts = counts; session = session; handle = handle; lock = lock; spare = spare } in
-    let places : Places f g k x Power = record { at_home = sym c.of.ensures ∙ c.in-Power.is; set = c.set-in-Power.ensures.facts; stays = but-power f rows counts session handle lock spare } in
+    let g : Tables = record f { power = rows; counts = counts; session = session; handle = handle; lock = lock; held = held; spare = spare } in
+    let places : Places f g k x Power = record { at_home = sym c.of.ensures ∙ c.in-Power.is; set = c.set-in-Power.ensures.facts; stays = but-power f rows counts session handle lock held spare } in
     let moves : Moves f g k x t = record {
-      counts = follow c.self.inside.counts c.of-lost.result c.of-gained.result counts k x c.fact.result.now (value t k) c.of-lost.ensures (c.fact.ensures t s) c.of-gained.ensures c.moved-self-inside.ensures;
+      counts = follow c.self.inside.counts c.of-lost.result c.of-gained.result counts k x c.fact-before.result.now (value t k) c.of-lost.ensures (c.fact-before.ensures t s) c.of-gained.ensures c.moved-self-inside.ensures;
       session = ap (λ (n : Counts). c.self.inside.session + n.opened) c.of-gained.ensures;
       handle = ap (λ (n : ℕ). c.self.inside.handle + n) c.given.ensures;
       lock = ap (λ (n : Counts). c.self.inside.lock + n.locks) c.of-gained.ensures;
+      held = noted-by c.self.inside.holdings.list held c.holding_in-lost_thing.result c.holding_in.result k x c.fact-before.result.now (value t k) c.shift.ensures.list c.holding_in-lost_thing.ensures (c.fact-before.ensures t s) c.holding_in.ensures;
     } in
     stands-placed f g k x Power t places moves (subst P (sym c.self.view_is) s)
