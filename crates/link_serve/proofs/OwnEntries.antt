@@ -89,11 +89,6 @@ pub open-append : (c : ConnId) (was : Bool) (xs ys : List Entry) → is_open_aft
 open-append c was [] ys = refl
 open-append c was (e ∷ es) ys = open-append c ((is_connect c e.event && is_granted e.verdict) || (not (is_disconnect c e.event) && was)) es ys
 
--- a call leaves it so
-pub open-call : (c : ConnId) (mine : List Entry) (e : Entry) (r : _) → e.event ≡ Calls r → is_open c (mine ++ e ∷ []) ≡ is_open c mine
-open-call c mine e r is =
-    open-append c false mine (e ∷ []) ∙ ap (λ (x : Event). (is_connect c x && is_granted e.verdict) || (not (is_disconnect c x) && is_open c mine)) is
-
 -- calls leave it so, however many there are
 calls-leave : (c : ConnId) (was : Bool) (es : List Entry) (rs : List Request) → events_of es ≡ map Calls rs → is_open_after c was es ≡ was
 calls-leave c was [] rs is = refl

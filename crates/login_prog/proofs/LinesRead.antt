@@ -19,7 +19,7 @@ use Rattle.replay.specs.declared.early.Early.{Early}
 use Rattle.replay.specs.declared.early.Early.TheVariants as early
 use Rattle.replay.proofs.Written.{first_is_read, joined_more, read_append, told_split}
 use Rattle.login_prog.specs.Script.{Begins, BrokenOff, CutAt, IsCause, IsRefused, MayStand, ReadSome, ReadToStop, RefusedAt, hardware_line, hardware_lines}
-use Rattle.login_prog.specs.inner.Input.{FaultsBy, FaultsOf, LineSays, MayEnd, NextIs, ReadUpTo, early_end}
+use Rattle.login_prog.specs.inner.Input.{FaultsOf, LineSays, MayEnd, NextIs, ReadUpTo, early_end}
 use Rattle.login_prog.specs.declared.serve.reader_job.ReaderEnd.{ReaderEnd}
 use Rattle.login_prog.specs.declared.serve.reader_job.ReaderEnd.TheVariants as end
 
@@ -151,15 +151,6 @@ next_said number before after left l (Err (end.Full count)) w s r = s
 next_said number before after left l (Err end.Stopped) w s r = s
 next_said number before after left l (Err end.ReadFault) w s r = absurd s
 next_said number before after left l (Err end.NoMemory) w s r = absurd s
-
-pub said_faults : (number : ℕ) (l : Line) (r : Result Hardware ReaderEnd) (before now : ℕ) → LineSays number l r → now ≡ before → FaultsBy r before now
-said_faults number l (Ok x) before now s e = e
-said_faults number l (Err end.Stop) before now s e = e
-said_faults number l (Err (end.Script n cause)) before now s e = e
-said_faults number l (Err (end.Full count)) before now s e = e
-said_faults number l (Err end.Stopped) before now s e = e
-said_faults number l (Err end.ReadFault) before now s e = absurd s
-said_faults number l (Err end.NoMemory) before now s e = e
 
 -- ---- an end
 

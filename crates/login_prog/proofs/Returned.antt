@@ -103,8 +103,3 @@ module _ {L N P : Type 0} (number : L → ℕ) (talk : L → Option (List Exchan
   -- ---- what is kept
 
   module _ (desk : TableId) (hands : List (Held L)) (house : House L N P) (k : HasKept number talk left faults spawner_faults told given listener_faults desk hands house) where
-    pub kept-desk : house.pass.desk ≡ desk
-    kept-desk = k.3.pass.desk_is ∙ k.2
-
-    pub kept-who : house.pass.view.who ≡ 0
-    kept-who = k.3.pass.who_is

@@ -96,10 +96,6 @@ module _ (t : Troubles) where
   full end.WriteFault s h = absurd (omega (arith, h))
   full end.Done s h = absurd (omega (arith, h))
 
-  -- the statuses behind that of a refused line
-  abbrev pub IsBehindRefused : ℕ → Type 0
-  IsBehindRefused n = (n ≡ 0) ⊎ ((n ≡ 4) ⊎ ((n ≡ 6) ⊎ ((n ≡ 7) ⊎ (n ≡ 8))))
-
   pub unrefused : (e : ServeEnd) → EndsSo t e → (status_of e ≡ 2 → ⊥) → (status_of e ≡ 3 → ⊥) → (status_of e ≡ 5 → ⊥) → t.refused_line ≡ None
   unrefused end.NoMemory s l r m = absurd (m refl)
   unrefused end.ReadFault s l r m = absurd (r refl)

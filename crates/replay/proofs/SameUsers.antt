@@ -41,7 +41,7 @@ use Rattle.login_model.specs.declared.session.Session.{Session as Data}
 use Rattle.login_model.specs.declared.setup.Setup.{Setup}
 use Rattle.login_model.specs.declared.setup.UserRow.{UserRow}
 use Rattle.login_model.specs.Answers.{answer, call_answer, can, get_all_answer, get_answer, known_user, marks_answer, property_answer, session_row}
-use Rattle.login_model.specs.Direct.{at_session, direct, direct_call, exit, happen, is_overdue_fact, leave_known, linger, overdue, owner_of, tick}
+use Rattle.login_model.specs.Direct.{at_session, direct, direct_call, exit, happen, is_overdue_fact, leave_known, linger, overdue, user_or_root, tick}
 use Rattle.login_model.specs.Full.{full}
 use Rattle.login_model.specs.Legal.{IsLegal, IsLegalAfter, IsLegalEntry, answered, stepped, trail_of}
 use Rattle.login_model.specs.Objects.{is_own_interface, named_object}
@@ -158,7 +158,7 @@ module _ (U : Setup) (rows : List UserRow) (same : SayTheSame rows U.users) wher
   rows-same : (t : Trail) (ss : List SessId) → map (session_row V t) ss ≡ map (session_row U t) ss
   rows-same t [] = refl
   rows-same t (s ∷ ss) =
-      let uid = owner_of (value t (key.Sess s)) in
+      let uid = user_or_root (value t (key.Sess s)) in
       let one : session_row V t s ≡ session_row U t s
       = ap (λ (name : List ℕ). let row : SessionRow = record { session = s; uid = uid; name = name; seat = seat_of_session t s } in row) (name_same uid.0) in
       λ i. one i ∷ rows-same t ss i

@@ -11,7 +11,7 @@ use link_serve::{CoreAtDesk, DeskOfCore, PassOfCore, serve_link, step_event, sto
 use login_base::{ConnId, DevNo, Items, SeatName, Uid};
 use login_conf::confs_are_allowed;
 use login_edge::{Heard, Link, MemSource, OpenGate, Took};
-use login_model::{DevKind, Event, Hardware};
+use login_model::{Boxed, DevKind, Event, Hardware};
 use login_office::LinkEnd;
 use recording::LineReader;
 use replay::{SetupEnd, read_setup};
@@ -275,7 +275,12 @@ fn core(alloc: Global) -> Result<CoreAtDesk, Fail>
 }
 
 /// A graphics card and a keyboard of the first seat appear.
-fn add_devices<R: Wait>(rt: &R, desk: &DeskOfCore, house: &mut PassOfCore)
+fn add_devices<R: Wait>(
+    rt: &R,
+    alloc: Global,
+    desk: &DeskOfCore,
+    house: &mut PassOfCore,
+) -> Result<(), Fail>
     requires desk { house.old.desk ≡ desk.now }
     requires who { house.old.view.who ≡ 0 }
     ensures desk { house.new.desk ≡ house.old.desk }
@@ -289,19 +294,29 @@ fn add_devices<R: Wait>(rt: &R, desk: &DeskOfCore, house: &mut PassOfCore)
         major: 13,
         minor: 64,
     };
-    add(rt, desk, house, drm, DevKind::Drm);
-    add(rt, desk, house, evdev, DevKind::Evdev);
+    let seat = Boxed::new(alloc, SeatName::SEAT0)?;
+    let same = Boxed::new(alloc, SeatName::SEAT0)?;
+    add(rt, desk, house, drm, DevKind::Drm, seat);
+    add(rt, desk, house, evdev, DevKind::Evdev, same);
+    Ok(())
 }
 
-/// A device of the first seat appears.
-fn add<R: Wait>(rt: &R, desk: &DeskOfCore, house: &mut PassOfCore, device: DevNo, kind: DevKind)
+/// A device of a seat appears.
+fn add<R: Wait>(
+    rt: &R,
+    desk: &DeskOfCore,
+    house: &mut PassOfCore,
+    device: DevNo,
+    kind: DevKind,
+    seat: Boxed<SeatName>,
+)
     requires desk { house.old.desk ≡ desk.now }
     requires who { house.old.view.who ≡ 0 }
     ensures desk { house.new.desk ≡ house.old.desk }
     ensures who { house.new.view.who ≡ 0 }
 {
-    SeatName::SEAT0.tell_name();
-    let event = Event::Hardware(Hardware::Add(device, kind, SeatName::SEAT0));
+    seat.get().tell_name();
+    let event = Event::Hardware(Hardware::Add(device, kind, seat));
     let _ = step_event(rt, desk, &OpenGate, house, event);
 }
 
@@ -339,7 +354,7 @@ fn idle_link_is_told_before_its_next_read(rt: HostRuntime) -> Result<(), Fail> {
     let second = desk.split(&mut house, ConnId(2));
     let third = desk.split(&mut house, ConnId(3));
     let fourth = desk.split(&mut house, ConnId(4));
-    add_devices(&rt, &desk, &mut house);
+    add_devices(&rt, alloc, &desk, &mut house)?;
     let site = Site {
         rt: &rt,
         alloc,

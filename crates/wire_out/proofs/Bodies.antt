@@ -5,7 +5,7 @@ use Rattle.std.proofs.Math.Nat.{mul-le-mul_right}
 use Rattle.std.specs.Fmt.{decimal}
 use Rattle.login_base.specs.declared.ids.ConnId.{ConnId}
 use Rattle.login_base.specs.declared.ids.Uid.{Uid}
-use Rattle.login_model.specs.Paths.{runtime_path, seat_path, session_path, user_path}
+use Rattle.login_model.specs.Paths.{runtime_path, seat_path, session_path, unique_name, user_path}
 use Rattle.login_model.specs.Words.{mode_word, say_word}
 use Rattle.login_model.specs.Texts.{IsText}
 use Rattle.login_model.specs.declared.answer.Answer.{Answer}
@@ -24,7 +24,7 @@ use Rattle.bus_names.specs.declared.basic.Basic.TheVariants as kinds
 use Rattle.bus_names.specs.Types.{Shape, basic, struct_of}
 use Rattle.bus_value.specs.Values.{Val, shape}
 use Rattle.wire_out.specs.Messages.{flag, number, path, structure, text}
-use Rattle.wire_out.specs.Replies.{answer_values, created_values, input_type, input_values, lock_type, lock_values, reference_type, rows, session_type, session_values, unique_name, user_type, user_values}
+use Rattle.wire_out.specs.Replies.{answer_values, created_values, input_type, input_values, lock_type, lock_values, reference_type, rows, session_type, session_values, user_type, user_values}
 use Rattle.wire_out.specs.References.{seat_reference}
 use Rattle.wire_out.specs.inner.Parts.{AreParts, AreRows, IsBody, IsPart, most_body}
 use Rattle.wire_out.specs.inner.Sendable.{CanBeAnswered, IsLockRow, IsSeat, IsSeatIf, IsSessionRow}

@@ -5,6 +5,7 @@ use Rattle.std.specs.List.{AllByRecursion}
 use Rattle.std.specs.Str.{bytes_eq}
 use Rattle.login_base.specs.SessionId.{session_of}
 use Rattle.login_base.specs.declared.ids.ConnId.{ConnId}
+use Rattle.login_base.specs.declared.ids.DevNo.{DevNo}
 use Rattle.login_base.specs.declared.ids.HandleNo.{HandleNo}
 use Rattle.login_base.specs.declared.ids.LockNo.{LockNo}
 use Rattle.login_base.specs.declared.ids.SessId.{SessId}
@@ -27,10 +28,10 @@ use Rattle.login_model.specs.declared.call.Call.{Call}
 use Rattle.login_model.specs.declared.call.Call.TheVariants as call
 use Rattle.login_model.specs.declared.event.Event.{Event}
 use Rattle.login_model.specs.declared.event.Event.TheVariants.{Connect, Disconnect, Call as Calls, Hardware, Tick, Stop}
+use Rattle.login_model.specs.Facts.{handle_device}
 use Rattle.login_model.specs.declared.fact.Fact.{Fact}
 use Rattle.login_model.specs.declared.fact.Fact.TheVariants as fact
 use Rattle.login_model.specs.declared.fact.Key.TheVariants as key
-use Rattle.login_model.specs.declared.fact.Owner.TheVariants as owner
 use Rattle.login_model.specs.declared.lock.Lock.{Lock}
 use Rattle.login_model.specs.declared.mark.Entry.{Entry}
 use Rattle.login_model.specs.declared.mark.Mark.{Mark}
@@ -150,13 +151,13 @@ seats-are U t w h = all-in (λ z. IsSeat z) (seats t) (λ z i. seat-is U t z w h
 few-inputs : (xs : List Input) → length (last_few xs) ≤ inputs_limit
 few-inputs xs = (let n = length-drop (length xs - inputs_limit) xs in omega (arith, n))
 
-read-few : (x : Fact) (g : HandleNo) (before : List Entry) → length (read_by x g before) ≤ inputs_limit
-read-few (fact.Owned (owner.Device c s d)) g before = few-inputs (heard_by g d [] before)
-read-few _ g before = omega arith
+read-few : (o : Option DevNo) (g : HandleNo) (before : List Entry) → length (read_by o g before) ≤ inputs_limit
+read-few (Some d) g before = few-inputs (heard_by g d [] before)
+read-few None g before = omega arith
 
 -- `marks-answered`, and what is read
 call-answered : (U : Setup) (before : List Entry) (c : ConnId) (x : Call) → IsSetup U → IsAllowed U.conf → IsNamed U (trail_of before) → SeatsAre (trail_of before) → CanBeAnswered (call_answer U before c x)
-call-answered U before c (call.ReadInput g) u a n s = read-few (value (trail_of before) (key.Owner g)) g before
+call-answered U before c (call.ReadInput g) u a n s = read-few (handle_device (value (trail_of before) (key.Owner g))) g before
 call-answered U before c x u a n s = marks-answered U (trail_of before) c x u a n s
 
 event-answered : (U : Setup) (before : List Entry) (ev : Event) → IsSetup U → IsAllowed U.conf → IsNamed U (trail_of before) → SeatsAre (trail_of before) → CanBeAnswered (answer U before ev)

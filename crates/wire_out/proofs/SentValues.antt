@@ -24,7 +24,7 @@ use Rattle.login_model.specs.Setups.{IsSetup, IsUserRow}
 use Rattle.login_model.specs.Texts.{IsText}
 use Rattle.login_model.specs.Trail.{Trail, value}
 use Rattle.login_model.specs.Users.{name_among, user_name}
-use Rattle.login_model.specs.Where.{is_on_seat, is_user_in, sessions, sessions_of, sessions_on}
+use Rattle.login_model.specs.Where.{is_on_seat, is_session_of, sessions, sessions_of, sessions_on}
 use Rattle.login_model.specs.Words.{class_word, state_word, type_word}
 use Rattle.login_model.specs.declared.fact.Fact.{Fact}
 use Rattle.login_model.specs.declared.fact.Fact.TheVariants as fact
@@ -240,7 +240,7 @@ session-sent U t s u h n p = fact-sent U t s (value t (key.Sess s)) u n (value-n
 
 of-user-few : (t : Trail) (uid : ℕ) → length (sessions_of t uid) ≤ length (sessions t)
 unfolding sessions_of
-of-user-few t uid = filter-length (λ s. is_user_in uid (value t (key.Sess s))) (sessions t)
+of-user-few t uid = filter-length (λ s. is_session_of uid (value t (key.Sess s))) (sessions t)
 
 on-seat-few : (t : Trail) (name : List ℕ) → length (sessions_on t name) ≤ length (sessions t)
 unfolding sessions_on

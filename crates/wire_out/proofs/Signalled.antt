@@ -5,6 +5,7 @@ use Rattle.login_base.specs.declared.ids.SessId.{SessId}
 use Rattle.login_base.specs.declared.ids.Uid.{Uid}
 use Rattle.login_base.specs.declared.ids.DevNo.{DevNo}
 use Rattle.login_model.specs.Paths.{seat_path, session_path, user_path}
+use Rattle.login_model.specs.Words.{pause_word}
 use Rattle.login_model.specs.declared.mark.Notice.{Notice}
 use Rattle.login_model.specs.declared.mark.Notice.TheVariants as notice
 use Rattle.login_model.specs.declared.mark.PauseKind.{PauseKind}
@@ -24,7 +25,7 @@ use Rattle.bus_value.specs.Typed as typed
 use Rattle.bus_value.specs.Values.{Val, array, dict, entry, no_entries, none, shape, shapes, vals, variant}
 use Rattle.bus_message.specs.declared.message.Message.{Message}
 use Rattle.wire_out.specs.Messages.{flag, number, path, text}
-use Rattle.wire_out.specs.Signals.{active_changed, changed, manager_signal, pause_word, seat_changed, session_signal, signals}
+use Rattle.wire_out.specs.Signals.{active_changed, changed, manager_signal, seat_changed, session_signal, signals}
 use Rattle.wire_out.specs.References.{session_reference}
 use Rattle.wire_out.specs.inner.Parts.{IsBody, IsPart, IsWritable, most_body}
 use Rattle.wire_out.specs.inner.Sendable.{CanBeTold, IsSeat}

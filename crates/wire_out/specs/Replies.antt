@@ -1,10 +1,8 @@
 -- What calls are answered, as values (org.freedesktop.login1(5)).
-use Rattle.std.specs.Prelude.{ℕ, ◌*◌, false, Option, List, [], ◌∷◌, ◌++◌, map, codes}
-use Rattle.std.specs.Fmt.{decimal}
+use Rattle.std.specs.Prelude.{ℕ, ◌*◌, false, Option, List, [], ◌∷◌, map}
 use Rattle.std.specs.Option.{unwrap_or}
-use Rattle.login_base.specs.declared.ids.ConnId.{ConnId}
 use Rattle.login_base.specs.SessionId.{session_text}
-use Rattle.login_model.specs.Paths.{session_path, seat_path, user_path, runtime_path}
+use Rattle.login_model.specs.Paths.{session_path, seat_path, unique_name, user_path, runtime_path}
 use Rattle.login_model.specs.PropertyNames.{property_name}
 use Rattle.login_model.specs.Words.{mode_word, say_word, what_text}
 use Rattle.login_model.specs.declared.answer.Created.{Created}
@@ -96,10 +94,6 @@ property_value (property.Sessions ss) = rows reference_type session_reference ss
 -- a property's name and its value
 abbrev pub property_entry : PropertyRow → BasicValue × Val
 property_entry r = (Str (property_name r.property), variant (property_value r.value))
-
--- the unique name of a connection
-abbrev pub unique_name : ConnId → List ℕ
-unique_name c = codes ":1." ++ decimal c.0
 
 -- the values of a reply
 unfoldable pub answer_values : Answer → List Val

@@ -5,8 +5,7 @@ use Rattle.login_base.specs.declared.ids.SessId.{SessId}
 pub use Rattle.login_model.specs.Objects.{manager_interface, session_interface, seat_interface}
 pub use Rattle.login_model.specs.Paths.{manager_path}
 use Rattle.login_model.specs.Paths.{session_path, seat_path}
-use Rattle.login_model.specs.declared.mark.PauseKind.{PauseKind}
-use Rattle.login_model.specs.declared.mark.PauseKind.TheVariants as pause
+use Rattle.login_model.specs.Words.{pause_word}
 use Rattle.login_model.specs.declared.mark.Notice.{Notice}
 use Rattle.login_model.specs.declared.mark.Notice.TheVariants as notice
 use Rattle.bus_names.specs.declared.basic.Basic.TheVariants as types
@@ -23,11 +22,6 @@ session_signal s member vs = signal_message (session_path s) session_interface m
 
 abbrev pub manager_signal : List ℕ → List Val → Message
 manager_signal member vs = signal_message manager_path manager_interface member vs
-
-abbrev pub pause_word : PauseKind → List ℕ
-pause_word pause.Pause = codes "pause"
-pause_word pause.Force = codes "force"
-pause_word pause.Gone = codes "gone"
 
 -- a property of an object has changed to this value, and no other has
 abbrev pub changed : List ℕ → List ℕ → List ℕ → Val → Message

@@ -10,7 +10,8 @@ ghost use Rattle.bus_value.specs.declared.basic_value.BasicValue.TheVariants.{U6
 ghost use Rattle.login_model.specs.declared.property.PropertyRow.{PropertyRow as AnyRow};
 ghost use Rattle.wire_out.specs.Messages.{flag, number, path, structure, text};
 ghost use Rattle.login_model.specs.Words.{mode_word, what_text};
-ghost use Rattle.wire_out.specs.Replies.{answer_values, created_values, input_values, lock_values, property_entry, property_value, rows, seat_text, session_values, unique_name, user_values};
+ghost use Rattle.wire_out.specs.Replies.{answer_values, created_values, input_values, lock_values, property_entry, property_value, rows, seat_text, session_values, user_values};
+ghost use Rattle.login_model.specs.Paths.{unique_name};
 ghost use Rattle.wire_out.specs.References.{seat_reference, session_reference};
 ghost use Rattle.wire_out.specs.inner.Sendable.{CanBeAnswered, CanBeValue, IsLockRow, IsSeat, IsSessionRow};
 ghost use Rattle.wire_out.specs.inner.Numbers.{HasAnswerNumbers, HasCreatedNumbers, HasInputNumbers, HasLockNumbers, HasSessionNumbers, HasValueNumbers, IsNumber};

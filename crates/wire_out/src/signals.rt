@@ -7,7 +7,7 @@ ghost use Rattle.bus_names.specs.Types.{variant as variant_type};
 ghost use Rattle.bus_names.specs.declared.basic.Basic.TheVariants.{Str};
 ghost use Rattle.bus_value.specs.Values.{dict, entry, no_entries, variant};
 ghost use Rattle.bus_value.specs.declared.basic_value.BasicValue.TheVariants.{Str as StrValue};
-ghost use Rattle.wire_out.specs.Signals.{active_changed, changed, manager_signal, pause_word, seat_changed, session_signal, signals};
+ghost use Rattle.wire_out.specs.Signals.{active_changed, changed, manager_signal, seat_changed, session_signal, signals};
 ghost use Rattle.wire_out.specs.Messages.{number};
 ghost use Rattle.wire_out.specs.inner.Sendable.{CanBeTold};
 ghost use Rattle.wire_out.specs.inner.Numbers.{HasNoticeNumbers, IsNumber, IsNumberIf};
@@ -22,7 +22,7 @@ use bus_message::{Message, made_path};
 use bus_names::{Basic, ObjectPath, Type};
 use bus_value::{BasicValue, Value};
 use login_base::{DevNo, NoMemory, SeatName, SessId, Word};
-use login_model::{Notice, PauseKind};
+use login_model::Notice;
 use std::alloc::Global;
 
 const SESSION: &[u8] = b"org.freedesktop.login1.Session";
@@ -52,16 +52,6 @@ fn manager_signal(alloc: Global, member: &[u8], values: Vec<Value>) -> Result<Me
     let object = made_path(alloc, b"/org/freedesktop/login1")?;
     let interface = b"org.freedesktop.login1.Manager";
     signal_message(alloc, object, interface, member, values)
-}
-
-fn pause_word(kind: PauseKind) -> &'static [u8]
-    ensures { result.now ≡ pause_word kind }
-{
-    match kind {
-        PauseKind::Pause => b"pause",
-        PauseKind::Force => b"force",
-        PauseKind::Gone => b"gone",
-    }
 }
 
 /// A device's numbers, and a value behind them.
@@ -199,7 +189,7 @@ pub(crate) fn signals(alloc: Global, notice: &Notice) -> Result<Vec<Message>, No
 {
     match notice {
         Notice::Pause(s, device, kind) => {
-            let word = text(alloc, pause_word(*kind))?;
+            let word = text(alloc, kind.name())?;
             of_session(
                 alloc,
                 *s,

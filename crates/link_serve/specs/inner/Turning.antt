@@ -25,10 +25,6 @@ use Rattle.link_serve.specs.declared.serving.Received.TheVariants.{Nothing, Piec
 abbrev pub moment : View Setup Entry → Option (List Exchange) → Option (List ℕ) → ℕ → Moment
 moment view talk left faults = record { view = view; talk = talk; left = left; faults = faults }
 
--- a link has stood so since some moment
-abbrev pub HasStood : Uid → Moment → TellerState → List Event → List Event → Type 0
-HasStood u now teller made told = (start : Moment) × (text : List ℕ) × Stands u start now teller text made told
-
 -- a link has rested since some moment
 abbrev pub HasRested : Uid → Moment → Progress → Type 0
 HasRested u now p = (start : Moment) × Rests u start now p
