@@ -99,7 +99,3 @@ module _ {L N P : Type 0} (number : L → ℕ) (talk : L → Option (List Exchan
 
     pub come-out : IfSome (told house.listener) (λ r. IsOut house.came r.links)
     come-out = came-out number talk left faults spawner_faults told given listener_faults c.0 c.1 c.2 link uid house c.4
-
-  -- ---- what is kept
-
-  module _ (desk : TableId) (hands : List (Held L)) (house : House L N P) (k : HasKept number talk left faults spawner_faults told given listener_faults desk hands house) where
