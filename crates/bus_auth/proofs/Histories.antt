@@ -8,7 +8,7 @@ use Rattle.bus_auth.specs.declared.step.AuthState.{AuthState}
 use Rattle.bus_auth.specs.declared.step.AuthStep.{AuthStep}
 use Rattle.bus_auth.specs.Greeting.{Greeting, State, Begun, Ended, behind_replies, greet, resume}
 use Rattle.bus_auth.specs.Standing.{Handshake}
-use Rattle.bus_auth.specs.Hearing.{HasHeard, Gives, Hears, WasFed, new, fed, greeting, told}
+use Rattle.bus_auth.specs.Hearing.{HasHeard, Gives, Hears, WasFed, new, fed, greeting, shown}
 use Rattle.bus_auth.specs.Laws.{InAnyPieces, EndedForGood}
 use Rattle.bus_auth.proofs.GreetingLaws.{greet-append}
 use Rattle.bus_auth.proofs.Pieces.{heard_next, replies_next, state_next}
@@ -28,11 +28,11 @@ hears old now piece (Err e) going g = tt
 record IsFed (auth : Handshake) (text replies : List ℕ) (state : AuthState) : Type 0 where
   heard : HasHeard auth text
   replied : replies ≡ (greeting auth text).replies
-  told_as : state ≡ told (greeting auth text).state
+  shown_as : state ≡ shown (greeting auth text).state
 
-fed_nothing : (auth : Handshake) → HasHeard auth [] → IsFed auth [] [] (told (greeting auth []).state)
+fed_nothing : (auth : Handshake) → HasHeard auth [] → IsFed auth [] [] (shown (greeting auth []).state)
 unfolding greet
-fed_nothing auth h = record { heard = h; replied = refl; told_as = refl }
+fed_nothing auth h = record { heard = h; replied = refl; shown_as = refl }
 
 one_more : (pieces : List (List ℕ)) (piece : List ℕ) → concat (pieces ++ piece ∷ []) ≡ concat pieces ++ piece
 one_more pieces piece = concat-append pieces (piece ∷ []) ∙ ap (λ (x : List ℕ). concat pieces ++ x) (append-nil piece)
@@ -47,7 +47,7 @@ fed_more old now text piece replies state step is h uid guid =
     record {
       heard = h.heard text is.heard;
       replied = ap (λ (x : List ℕ). x ++ step.replies) is.replied ∙ sym (h.replies text is.heard) ∙ ap (λ (g : Greeting). g.replies) same;
-      told_as = h.state text is.heard ∙ ap (λ (g : Greeting). told g.state) same;
+      shown_as = h.state text is.heard ∙ ap (λ (g : Greeting). shown g.state) same;
     }
 
 was_fed : (auth : Handshake) (pieces : List (List ℕ)) (replies : List ℕ) (state : AuthState) → WasFed auth pieces replies state
@@ -58,7 +58,7 @@ was_fed auth pieces replies state (fed {old = old} {pieces = before} {piece = pi
     rw (one_more before piece) (fed_more old auth (concat before) piece first was step (was_fed old before first was w) h uid guid)
 
 pub in_any_pieces : InAnyPieces
-in_any_pieces auth pieces replies state w = let is = was_fed auth pieces replies state w in (is.replied, is.told_as)
+in_any_pieces auth pieces replies state w = let is = was_fed auth pieces replies state w in (is.replied, is.shown_as)
 
 pub ended_for_good : EndedForGood
 ended_for_good uid guid text more ending e =

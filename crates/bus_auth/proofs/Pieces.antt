@@ -10,7 +10,7 @@ use Rattle.bus_auth.specs.declared.step.AuthState.TheVariants.{Going, Ended as e
 use Rattle.bus_auth.specs.Cutting.{cut}
 use Rattle.bus_auth.specs.Greeting.{Greeting, State, WaitingForNul, Talking, Begun, Ended, behind_replies, run, first_talk, greet, resume}
 use Rattle.bus_auth.specs.Standing.{Handshake, kept, open_line}
-use Rattle.bus_auth.specs.Hearing.{HasHeard, Gives, Tells, greeting, told}
+use Rattle.bus_auth.specs.Hearing.{HasHeard, Gives, Tells, greeting, shown}
 use Rattle.bus_auth.proofs.GreetingLaws.{greet-append}
 
 -- before the NUL nothing changes
@@ -77,19 +77,19 @@ replies_next old new piece (Err e) going g = tt
 
 pub state_next : (old new : Handshake) (piece : List ℕ) (r : Result AuthStep NoMemory) → (old.state ≡ Begun [] → ⊥)
     → IfOk r (λ step. Gives (resume old.uid old.guid old.state piece) old new step)
-    → IfOk r (λ step. (text : List ℕ) → HasHeard old text → step.state ≡ told (greeting old (text ++ piece)).state)
+    → IfOk r (λ step. (text : List ℕ) → HasHeard old text → step.state ≡ shown (greeting old (text ++ piece)).state)
 state_next old new piece (Ok step) going g = λ text h.
-    g.state ∙ ap (λ (w : Greeting). told w.state) (sym (next old text piece h going))
+    g.state ∙ ap (λ (w : Greeting). shown w.state) (sym (next old text piece h going))
 state_next old new piece (Err e) going g = tt
 
-told_is : (told_state : AuthState) (w now : State) → told_state ≡ told w → now ≡ kept w → Tells told_state now
-told_is s WaitingForNul now is e = rw (is, e) tt
-told_is s (Talking talk line) now is e = rw (is, e) tt
-told_is s (Begun rest) now is e = rw is e
-told_is s (Ended ending) now is e = rw is e
+shown_is : (shown_state : AuthState) (w now : State) → shown_state ≡ shown w → now ≡ kept w → Tells shown_state now
+shown_is s WaitingForNul now is e = rw (is, e) tt
+shown_is s (Talking talk line) now is e = rw (is, e) tt
+shown_is s (Begun rest) now is e = rw is e
+shown_is s (Ended ending) now is e = rw is e
 
 -- the state that a step tells is that of the handshake
-pub told_next : (old new : Handshake) (greeting : Greeting) (r : Result AuthStep NoMemory)
+pub shown_next : (old new : Handshake) (greeting : Greeting) (r : Result AuthStep NoMemory)
     → IfOk r (λ step. Gives greeting old new step) → IfOk r (λ step. Tells step.state new.state)
-told_next old new w (Ok step) g = told_is step.state w.state new.state g.state (ap (λ (a : Handshake). a.state) g.kept)
-told_next old new w (Err e) g = tt
+shown_next old new w (Ok step) g = shown_is step.state w.state new.state g.state (ap (λ (a : Handshake). a.state) g.kept)
+shown_next old new w (Err e) g = tt

@@ -16,12 +16,12 @@ greeting auth text = greet auth.uid auth.guid text
 pub record HasHeard (auth : Handshake) (text : List ℕ) : Type 0 where
   pub state : auth.state ≡ kept (greeting auth text).state
 
--- what the caller is told
-abbrev pub told : State → AuthState
-told WaitingForNul = Going
-told (Talking talk line) = Going
-told (Begun rest) = begun rest
-told (Ended ending) = ended ending
+-- the state as the caller is shown it
+abbrev pub shown : State → AuthState
+shown WaitingForNul = Going
+shown (Talking talk line) = Going
+shown (Begun rest) = begun rest
+shown (Ended ending) = ended ending
 
 -- a handshake goes on
 abbrev pub IsGoing : State → Type 0
@@ -30,7 +30,7 @@ IsGoing (Talking talk line) = ⊤
 IsGoing (Begun rest) = ⊥
 IsGoing (Ended ending) = ⊥
 
--- what the caller is told is how far the handshake is
+-- what the caller is shown is how far the handshake is
 abbrev pub Tells : AuthState → State → Type 0
 Tells Going state = IsGoing state
 Tells (begun rest) state = state ≡ Begun []
@@ -39,7 +39,7 @@ Tells (ended ending) state = state ≡ Ended ending
 -- a step that gives what a greeting is, and keeps its state
 pub record Gives (greeting : Greeting) (old new : Handshake) (step : AuthStep) : Type 0 where
   pub replies : step.replies ≡ greeting.replies
-  pub state : step.state ≡ told greeting.state
+  pub state : step.state ≡ shown greeting.state
   pub kept : new ≡ record old { state = kept greeting.state }
 
 -- the answer of a handshake that has ended
@@ -51,7 +51,7 @@ IsEnded (Err e) ending = ⊥
 pub record Hears (old : Handshake) (piece : List ℕ) (new : Handshake) (step : AuthStep) : Type 0 where
   pub heard : (text : List ℕ) → HasHeard old text → HasHeard new (text ++ piece)
   pub replies : (text : List ℕ) → HasHeard old text → (greeting old (text ++ piece)).replies ≡ (greeting old text).replies ++ step.replies
-  pub state : (text : List ℕ) → HasHeard old text → step.state ≡ told (greeting old (text ++ piece)).state
+  pub state : (text : List ℕ) → HasHeard old text → step.state ≡ shown (greeting old (text ++ piece)).state
 
 -- a handshake that is new or was fed these pieces, all that it replied, and how far the last step said it was
 pub data WasFed : Handshake → List (List ℕ) → List ℕ → AuthState → Type 0 where

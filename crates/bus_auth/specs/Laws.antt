@@ -7,13 +7,13 @@ use Rattle.bus_auth.specs.declared.step.AuthState.{AuthState}
 use Rattle.bus_auth.specs.Cutting.{Lines, Whole, Open, cut, without_cr, IsLeastLength}
 use Rattle.bus_auth.specs.Greeting.{Ended, greet}
 use Rattle.bus_auth.specs.Standing.{Handshake}
-use Rattle.bus_auth.specs.Hearing.{WasFed, told}
+use Rattle.bus_auth.specs.Hearing.{WasFed, shown}
 
 -- whatever the pieces are, the replies and the state are those of the table run over the lines of all their bytes
 abbrev pub InAnyPieces : Type 0
 InAnyPieces =
     (auth : Handshake) (pieces : List (List ℕ)) (replies : List ℕ) (state : AuthState) → WasFed auth pieces replies state
-    → (replies ≡ (greet auth.uid auth.guid (concat pieces)).replies) × (state ≡ told (greet auth.uid auth.guid (concat pieces)).state)
+    → (replies ≡ (greet auth.uid auth.guid (concat pieces)).replies) × (state ≡ shown (greet auth.uid auth.guid (concat pieces)).state)
 
 -- behind its end a handshake replies nothing and stays as it is
 abbrev pub EndedForGood : Type 0

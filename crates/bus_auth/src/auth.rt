@@ -3,7 +3,7 @@
 ghost use Rattle.std.specs.Prelude.{◌≡◌, ◌≢◌, ◌↔◌, ◌++◌, List, ℕ, [], IsTrue, IsOk, IfOk, OnOk, OnErr, ◌<◌};
 ghost use Rattle.bus_auth.specs.Greeting.{WaitingForNul, Begun, Ended, greet, run, resume};
 ghost use Rattle.bus_auth.specs.Standing.{ending_of, kept, state_of, open_line, IsKept};
-ghost use Rattle.bus_auth.specs.Hearing.{HasHeard, Hears, told, Tells, Gives, IsEnded};
+ghost use Rattle.bus_auth.specs.Hearing.{HasHeard, Hears, shown, Tells, Gives, IsEnded};
 ghost use Rattle.bus_auth.specs.Cutting.{cut};
 ghost use Rattle.bus_auth.specs.inner.Outcomes.{state_in, IsOpenIn};
 
@@ -49,7 +49,7 @@ fn quiet(alloc: Global, state: AuthState) -> AuthStep
 fn settle(alloc: Global, progress: &mut Progress, line: &mut Vec<u8>, heard: Heard) -> AuthStep
     requires { IsOpenIn line.old.items heard.outcome }
     ensures replies { result.replies ≡ heard.replies }
-    ensures state { result.state ≡ told (state_in line.old.items heard.outcome) }
+    ensures state { result.state ≡ shown (state_in line.old.items heard.outcome) }
     ensures kept { state_of progress.new line.new.items ≡ kept (state_in line.old.items heard.outcome) }
     ensures line { IsKept progress.new line.new.items }
 {

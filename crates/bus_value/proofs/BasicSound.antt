@@ -29,7 +29,7 @@ use Rattle.bus_value.specs.BasicReading.{size, text_size, signature_size, whole,
 use Rattle.bus_value.specs.Texts.{is_text}
 use Rattle.bus_value.specs.Reading.{Reading, Answer, made, padded, read_body, read_basic}
 use Rattle.bus_value.proofs.Typing.{IsLegal}
-use Rattle.bus_value.specs.Faults.{told, cut_off, and_then, zeros, check_padding, short_padding}
+use Rattle.bus_value.specs.Faults.{reported, cut_off, and_then, zeros, check_padding, short_padding}
 use Rattle.bus_value.proofs.Padding.{zeros-cons}
 use Rattle.bus_value.proofs.NumberSound.{AreBytes, back_2, back_4, back_8, bound_2, bound_4, bound_8, same_front}
 
@@ -118,7 +118,7 @@ text_sound : (o : Order) (at : ℕ) (body : List ℕ) (a : BasicValue) → text_
 unfolding text_at
 text_sound o at body a s e h = by (ends_with_zero body) (is_text (text_in 4 body)) refl refl e
   where
-    by : (z t : Bool) → ends_with_zero body ≡ z → is_text (text_in 4 body) ≡ t → cond (z && t) (Ok (Str (text_in 4 body))) (Err (BadText (told at))) ≡ Ok a → IsOf o kinds.Str body a
+    by : (z t : Bool) → ends_with_zero body ≡ z → is_text (text_in 4 body) ≡ t → cond (z && t) (Ok (Str (text_in 4 body))) (Err (BadText (reported at))) ≡ Ok a → IsOf o kinds.Str body a
     by true true z t e = let f = text_found o body s z h in this o kinds.Str body (Str (text_in 4 body)) a e (refl, ((t, f.small), f.same))
     by true false z t e = cc
     by false t z is e = cc
@@ -127,7 +127,7 @@ path_sound : (o : Order) (at : ℕ) (body : List ℕ) (a : BasicValue) → text_
 unfolding path_at
 path_sound o at body a s e h = by (ends_with_zero body) (path_fault (text_in 4 body)) refl refl e
   where
-    by : (z : Bool) (p : Option ℕ) → ends_with_zero body ≡ z → path_fault (text_in 4 body) ≡ p → cond z (path_by at (text_in 4 body) p) (Err (BadText (told at))) ≡ Ok a → IsOf o kinds.Path body a
+    by : (z : Bool) (p : Option ℕ) → ends_with_zero body ≡ z → path_fault (text_in 4 body) ≡ p → cond z (path_by at (text_in 4 body) p) (Err (BadText (reported at))) ≡ Ok a → IsOf o kinds.Path body a
     by true None z p e = let f = text_found o body s z h in this o kinds.Path body (Path (text_in 4 body)) a e (refl, ((p, f.small), f.same))
     by true (Some n) z p e = cc
     by false p z is e = cc
@@ -141,7 +141,7 @@ types_sound at (l ∷ more) ts s e = by (ends_with_zero (l ∷ more)) (signature
     text : List ℕ
     text = text_in 1 (l ∷ more)
 
-    by : (z : Bool) (r : Result (List Shape) NameFault) → ends_with_zero (l ∷ more) ≡ z → signature_of text ≡ r → cond z (types_by at r) (Err (BadText (told at))) ≡ Ok ts → (l ∷ more ≡ signature_bytes ts) × IsWithin ts
+    by : (z : Bool) (r : Result (List Shape) NameFault) → ends_with_zero (l ∷ more) ≡ z → signature_of text ≡ r → cond z (types_by at r) (Err (BadText (reported at))) ≡ Ok ts → (l ∷ more ≡ signature_bytes ts) × IsWithin ts
     by true (Ok us) z r e =
         let same : us ≡ ts = ok_same us ts e in
         let law : Explains text (Ok us) = subst (λ (q : Result (List Shape) NameFault). Explains text q) r (signature_law text) in
@@ -164,7 +164,7 @@ bool_sound o at body n a back e = by (eqb n 0) (eqb n 1) refl refl e
     one : (n : ℕ) → eqb n 1 ≡ true → n ≡ 1
     one n h = grind (arith, nat_tests)
 
-    by : (c d : Bool) → eqb n 0 ≡ c → eqb n 1 ≡ d → cond c (Ok (Boolean false)) (cond d (Ok (Boolean true)) (Err (BadBool (told at)))) ≡ Ok a → IsOf o kinds.Bool body a
+    by : (c d : Bool) → eqb n 0 ≡ c → eqb n 1 ≡ d → cond c (Ok (Boolean false)) (cond d (Ok (Boolean true)) (Err (BadBool (reported at)))) ≡ Ok a → IsOf o kinds.Bool body a
     by true d c is e = this o kinds.Bool body (Boolean false) a e (refl, (tt, sym back ∙ ap (λ (m : ℕ). number_bytes o 4 m) (is_zero n c)))
     by false true c is e = this o kinds.Bool body (Boolean true) a e (refl, (tt, sym back ∙ ap (λ (m : ℕ). number_bytes o 4 m) (one n is)))
     by false false c is e = cc
@@ -217,7 +217,7 @@ zeros_are : (at : ℕ) (xs : List ℕ) → zeros at xs ≡ Ok tt → xs ≡ repl
 zeros_are at [] e = refl
 zeros_are at (b ∷ bs) e = by (zeros_are (at + 1) bs) (eqb b 0) refl (sym (zeros-cons at b bs) ∙ e)
   where
-    by : (zeros (at + 1) bs ≡ Ok tt → bs ≡ replicate (length bs) 0) → (c : Bool) → eqb b 0 ≡ c → cond c (zeros (at + 1) bs) (Err (Padding (told at))) ≡ Ok tt → b ∷ bs ≡ 0 ∷ replicate (length bs) 0
+    by : (zeros (at + 1) bs ≡ Ok tt → bs ≡ replicate (length bs) 0) → (c : Bool) → eqb b 0 ≡ c → cond c (zeros (at + 1) bs) (Err (Padding (reported at))) ≡ Ok tt → b ∷ bs ≡ 0 ∷ replicate (length bs) 0
     by again true c e = ap (λ (m : ℕ). m ∷ bs) (is_zero b c) ∙ ap (λ (x : List ℕ). 0 ∷ x) (again e)
     by again false c e = cc
 
@@ -230,7 +230,7 @@ padding_sound : (around : Option ℕ) (at align : ℕ) (bytes : List ℕ) → ch
 unfolding check_padding
 padding_sound around at align bytes e = by (ltb (length bytes) (pad_size at align)) refl e
   where
-    no_short : (r : Result (Unit {0}) ValueFault) → and_then r (λ u. Err (Short (told (at + pad_size at align)))) ≡ Ok (tt {0}) → ⊥
+    no_short : (r : Result (Unit {0}) ValueFault) → and_then r (λ u. Err (Short (reported (at + pad_size at align)))) ≡ Ok (tt {0}) → ⊥
     no_short (Ok u) e = cc
     no_short (Err x) e = cc
 

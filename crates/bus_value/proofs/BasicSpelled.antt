@@ -26,7 +26,7 @@ use Rattle.bus_value.specs.BasicReading.{size, text_size, whole, body_size, ends
 use Rattle.bus_value.specs.Texts.{is_text}
 use Rattle.bus_value.specs.Reading.{Reading, padded, read_body, read_basic}
 use Rattle.bus_value.proofs.Typing.{IsLegal}
-use Rattle.bus_value.specs.Faults.{told, cut_off, and_then, zeros, check_padding, short_padding}
+use Rattle.bus_value.specs.Faults.{reported, cut_off, and_then, zeros, check_padding, short_padding}
 use Rattle.bus_value.proofs.Padding.{zeros-cons, zeros-nil}
 use Rattle.bus_value.proofs.Chains.{and_then_ok}
 use Rattle.bus_value.proofs.NumberLaws.{spelled_2, spelled_4, spelled_8, width_2, width_4, width_8}
@@ -134,7 +134,7 @@ unfolding types_in
 types_spelled at ts h =
     let text : List ℕ = signature_text ts in
     let front : List ℕ = length text ∷ [] in
-    ap (λ (k : Bool). cond k (types_by at (signature_of (text_in 1 (signature_bytes ts)))) (Err (BadText (told at)))) (zero_behind front text)
+    ap (λ (k : Bool). cond k (types_by at (signature_of (text_in 1 (signature_bytes ts)))) (Err (BadText (reported at)))) (zero_behind front text)
     ∙ ap (λ (x : List ℕ). types_by at (signature_of x)) (text_between front text 1 refl) ∙ ap (λ (r : Result (List Shape) NameFault). types_by at r) h
 
 text_spelled : (o : Order) (at : ℕ) (text : List ℕ) → is_text text ≡ true → text_at at (text_bytes o text) ≡ Ok (Str text)
@@ -143,16 +143,16 @@ text_spelled o at text h =
     let front : List ℕ = number_bytes o 4 (length text) in
     let body : List ℕ = text_bytes o text in
     let inside : text_in 4 body ≡ text = text_between front text 4 (width_4 o (length text)) in
-    ap (λ (x : List ℕ). cond (ends_with_zero body && is_text x) (Ok (Str x)) (Err (BadText (told at)))) inside
-    ∙ ap (λ (k : Bool). cond (k && is_text text) (Ok (Str text)) (Err (BadText (told at)))) (zero_behind front text)
-    ∙ ap (λ (k : Bool). cond k (Ok (Str text)) (Err (BadText (told at)))) h
+    ap (λ (x : List ℕ). cond (ends_with_zero body && is_text x) (Ok (Str x)) (Err (BadText (reported at)))) inside
+    ∙ ap (λ (k : Bool). cond (k && is_text text) (Ok (Str text)) (Err (BadText (reported at)))) (zero_behind front text)
+    ∙ ap (λ (k : Bool). cond k (Ok (Str text)) (Err (BadText (reported at)))) h
 
 path_spelled : (o : Order) (at : ℕ) (text : List ℕ) → path_fault text ≡ None → path_at at (text_bytes o text) ≡ Ok (Path text)
 unfolding path_at
 path_spelled o at text h =
     let front : List ℕ = number_bytes o 4 (length text) in
     let body : List ℕ = text_bytes o text in
-    ap (λ (k : Bool). cond k (path_by at (text_in 4 body) (path_fault (text_in 4 body))) (Err (BadText (told at)))) (zero_behind front text)
+    ap (λ (k : Bool). cond k (path_by at (text_in 4 body) (path_fault (text_in 4 body))) (Err (BadText (reported at)))) (zero_behind front text)
     ∙ ap (λ (x : List ℕ). path_by at x (path_fault x)) (text_between front text 4 (width_4 o (length text))) ∙ ap (λ (r : Option ℕ). path_by at text r) h
 
 pub decoded_spelled : (o : Order) (a : BasicValue) (at : ℕ) → IsLegal a → decoded o (kind_of a) at (basic_bytes o a) ≡ Ok a

@@ -15,7 +15,7 @@ use Rattle.bus_value.specs.BasicReading.{body_size, types_in}
 use Rattle.bus_value.specs.Reading.{Reading, Answer, made, read_basic, read_variant, read_array, read_elements, read_pair, element_bytes, read, read_entry, to_end, in_turn, levels, variant_type}
 use Rattle.bus_value.specs.Values.{Val, vals, entries}
 use Rattle.bus_value.specs.Values as values
-use Rattle.bus_value.specs.Faults.{told, and_then, check_padding}
+use Rattle.bus_value.specs.Faults.{reported, and_then, check_padding}
 use Rattle.bus_value.specs.inner.Opening.{Opens, OpensAt}
 use Rattle.bus_value.proofs.Chains.{and_then_ok, padded_at}
 use Rattle.bus_value.proofs.Levels.{variant_level, array_level, dict_level, entry_level, struct_level}
@@ -43,12 +43,12 @@ array_refused r bytes at align f e h =
     let pad : ℕ = pad_size (r.start + at) 4 in
     let front : ℕ = 4 + pad_size (r.start + at + pad + 4) align in
     fails_first (check_padding r.array (r.start + at) 4 (drop at bytes)) (element_bytes r.order r.array align (r.start + at + pad) (drop pad (drop at bytes)))
-    (λ n. and_then (f (Some (told (r.start + at + pad))) (r.start + at + pad + front) (take n (drop front (drop pad (drop at bytes))))) (λ xs. Ok (xs, (r.start + at + pad + front + n, drop (front + n) (drop pad (drop at bytes)))))) e h
+    (λ n. and_then (f (Some (reported (r.start + at + pad))) (r.start + at + pad + front) (take n (drop front (drop pad (drop at bytes))))) (λ xs. Ok (xs, (r.start + at + pad + front + n, drop (front + n) (drop pad (drop at bytes)))))) e h
 
 -- the elements of an array that is opened
 pub array_opened : {A : Type 0} (r : Reader) (bytes : List ℕ) (at align place : ℕ) (a : Elements) (f : Option ℕ → ℕ → List ℕ → Result (List A) ValueFault) → OpensAt a r bytes at align place →
     read_array r.order r.array align f (r.start + at) (drop at bytes)
-    ≡ and_then (f (Some (told (r.start + place))) (r.start + a.first) (drop a.first (take a.end bytes))) (λ xs. Ok (xs, (r.start + a.end, drop a.end bytes)))
+    ≡ and_then (f (Some (reported (r.start + place))) (r.start + a.first) (drop a.first (take a.end bytes))) (λ xs. Ok (xs, (r.start + a.end, drop a.end bytes)))
 unfolding read_array
 array_opened {A = A} r bytes at align place a f h =
     let n : ℕ = a.end - a.first in
@@ -62,7 +62,7 @@ array_opened {A = A} r bytes at align place a f h =
     let inside : take n (drop front (drop place bytes)) ≡ drop a.first (take a.end bytes) =
     ap (λ (x : List ℕ). take n x) (drop-drop front place bytes ∙ ap (λ (m : ℕ). drop m bytes) (sym first)) ∙ sym (drop-take a.first n bytes) ∙ ap (λ (m : ℕ). drop a.first (take m bytes)) (sym end) in
     let rest : drop (front + n) (drop place bytes) ≡ drop a.end bytes = drop-drop (front + n) place bytes ∙ ap (λ (m : ℕ). drop m bytes) last in
-    let outer : Option ℕ = Some (told (r.start + place)) in
+    let outer : Option ℕ = Some (reported (r.start + place)) in
     padded_at r.array r.start at 4 place bytes (read_elements r.order r.array align f) h.passed h.place_is
     ∙ and_then_ok (element_bytes r.order r.array align (r.start + place) (drop place bytes)) n
     (λ n. and_then (f outer (r.start + place + front) (take n (drop front (drop place bytes)))) (λ xs. Ok (xs, (r.start + place + front + n, drop (front + n) (drop place bytes))))) h.read
@@ -84,7 +84,7 @@ pub array_value : (r : Reader) (bytes : List ℕ) (at align : ℕ) (t : Shape) (
 array_value r bytes at align t a h is d q e =
     let place : ℕ = h.0 in
     let o : OpensAt a r bytes at (boundary t) place = subst (λ (m : ℕ). OpensAt a r bytes at m place) is h.1 in
-    let e2 : to_end (read (levels (r.depth + 1)) r.order (r.depth + 1) (Some (told (r.start + place))) t) (r.start + a.first) (drop a.first (take a.end bytes)) ≡ q =
+    let e2 : to_end (read (levels (r.depth + 1)) r.order (r.depth + 1) (Some (reported (r.start + place))) t) (r.start + a.first) (drop a.first (take a.end bytes)) ≡ q =
     subst (λ (x : Reader). to_end (read (levels x.depth) x.order x.depth x.array t) (x.start + a.first) (drop a.first (take a.end bytes)) ≡ q) o.inner e in
     array_level r.order r.depth r.array t (r.start + at) (drop at bytes) d
     ∙ ap (λ x. made (λ vs. values.array t (vals vs)) x)
@@ -102,7 +102,7 @@ pub dict_value : (r : Reader) (bytes : List ℕ) (at : ℕ) (b : Basic) (t : Sha
 dict_value r bytes at b t a h d q e =
     let place : ℕ = h.0 in
     let o : OpensAt a r bytes at 8 place = h.1 in
-    let e2 : to_end (read_entry (levels (r.depth + 1)) r.order (r.depth + 1) (Some (told (r.start + place))) b t) (r.start + a.first) (drop a.first (take a.end bytes)) ≡ q =
+    let e2 : to_end (read_entry (levels (r.depth + 1)) r.order (r.depth + 1) (Some (reported (r.start + place))) b t) (r.start + a.first) (drop a.first (take a.end bytes)) ≡ q =
     subst (λ (x : Reader). to_end (read_entry (levels x.depth) x.order x.depth x.array b t) (x.start + a.first) (drop a.first (take a.end bytes)) ≡ q) o.inner e in
     dict_level r.order r.depth r.array b t (r.start + at) (drop at bytes) d
     ∙ ap (λ x. made (λ es. values.dict b t (entries es)) x)

@@ -1,5 +1,5 @@
 -- What is kept of numbered variants.
-use Rattle.std.proofs.Common.{◌≡◌, ℕ, ◌+◌, ◌<◌, ◌≤◌, List, [], ◌∷◌, ◌++◌, length, length-append, drop, take, refl, ap, sym, ◌∙◌, subst, Option, None, Result, Ok, Err, ltb, leb, Bool, true, false, cond, arith, append_assoc, append-nil, ◌⊎◌}
+use Rattle.std.proofs.Common.{◌≡◌, ℕ, ◌+◌, ◌<◌, ◌≤◌, List, [], ◌∷◌, ◌++◌, length, length-append, drop, take, refl, ap, sym, ◌∙◌, subst, Option, None, Result, Ok, Err, leb, Bool, true, false, cond, arith, append_assoc, append-nil}
 use Rattle.std.specs.Prelude.{nat_le}
 use Rattle.bus_names.specs.declared.basic.Basic.{Basic}
 use Rattle.bus_names.specs.declared.basic.Basic.TheVariants as kinds
@@ -16,9 +16,9 @@ use Rattle.bus_value.specs.declared.order.Order.{Order}
 use Rattle.bus_value.specs.declared.reader.Reader.{Reader}
 use Rattle.bus_value.specs.declared.reader.containers.Elements.{Elements}
 use Rattle.bus_value.specs.BasicValues.{kind_of}
-use Rattle.bus_value.specs.Faults.{told, and_then, check_padding}
+use Rattle.bus_value.specs.Faults.{reported, and_then, check_padding}
 use Rattle.bus_value.specs.Fields.{basic_in, field_at, field_type, list_type, listed, kept_if, kept_of, kept_by, kept_in, IsSeen}
-use Rattle.bus_value.specs.Reading.{Reading, Answer, made, read, read_basic, in_turn, to_end, levels, ended, read_all}
+use Rattle.bus_value.specs.Reading.{Reading, Answer, made, read, read_basic, in_turn, to_end, levels, read_all}
 use Rattle.bus_value.specs.inner.Opening.{Opens, OpensAt}
 use Rattle.bus_value.specs.Spelling.{pad_size, spelling, spellings, behind_length, first_element}
 use Rattle.bus_value.specs.Values.{Val, basic, array, struct, dict, variant, shape, vals}
@@ -261,10 +261,10 @@ fields_listed most r bytes a fields d w h e over =
 
 pub fields_left : (most : ℕ) (r : Reader) (bytes : List ℕ) (a : Elements) (fields : List Field) → r.depth ≡ 0 → r.array ≡ None → Opens (Ok a) r bytes 0 8 →
     kept_by most a.reader.order (a.reader.start + a.first) (to_end (read (levels a.reader.depth) a.reader.order a.reader.depth a.reader.array field_type) (a.reader.start + a.first) (drop a.first (take a.end bytes))) ≡ Ok fields →
-    a.end < length bytes → kept_in most r.order r.start (read_all r.order r.start (list_type ∷ []) bytes) ≡ Err (BadLength (told (r.start + a.end)))
+    a.end < length bytes → kept_in most r.order r.start (read_all r.order r.start (list_type ∷ []) bytes) ≡ Err (BadLength (reported (r.start + a.end)))
 fields_left most r bytes a fields d w h e less =
     let k = kept_from most a.reader.order (a.reader.start + a.first) (to_end (read (levels a.reader.depth) a.reader.order a.reader.depth a.reader.array field_type) (a.reader.start + a.first) (drop a.first (take a.end bytes))) fields e in
-    none_kept most r.order r.start (BadLength (told (r.start + a.end))) (read_all r.order r.start (list_type ∷ []) bytes)
+    none_kept most r.order r.start (BadLength (reported (r.start + a.end))) (read_all r.order r.start (list_type ∷ []) bytes)
     (all_left r.order r.start (list_type ∷ []) bytes (array field_type (vals k.0) ∷ []) a.end (list_read r bytes a k.0 d w h k.1) less)
 
 pub fields_fail : (most : ℕ) (r : Reader) (bytes : List ℕ) (a : Elements) (e : ValueFault) → r.depth ≡ 0 → r.array ≡ None → Opens (Ok a) r bytes 0 8 →

@@ -1,5 +1,5 @@
 -- The first of the values that bytes spell.
-use Rattle.std.proofs.Common.{◌≡◌, ◌∙◌, ℕ, zero, suc, ◌+◌, ◌≤◌, List, [], ◌∷◌, take, drop, length, min, refl, ap, sym, Result, Ok, Err, None, arith, max}
+use Rattle.std.proofs.Common.{◌≡◌, ◌∙◌, ℕ, zero, suc, ◌+◌, ◌≤◌, List, [], ◌∷◌, take, drop, length, min, refl, ap, sym, Ok, Err, None, arith}
 use Rattle.std.specs.Prelude.{IsOk}
 use Rattle.std.proofs.lemmas.List.{take_min}
 use Rattle.bus_names.specs.Types.{Shape}
@@ -8,7 +8,7 @@ use Rattle.bus_value.specs.declared.order.Order.{Order}
 use Rattle.bus_value.specs.declared.values.Spelled.{Spelled}
 use Rattle.bus_value.specs.Faults.{and_then}
 use Rattle.bus_value.specs.Held.{read_in, values_in}
-use Rattle.bus_value.specs.Nesting.{nesting, nesting_all}
+use Rattle.bus_value.specs.Nesting.{nesting_all}
 use Rattle.bus_value.specs.Reading.{Answer, Reading, made, in_turn, read, levels, read_all}
 use Rattle.bus_value.specs.Values.{Val}
 use Rattle.bus_value.proofs.HeldLaws.{are_in}

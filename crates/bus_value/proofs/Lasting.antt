@@ -23,7 +23,7 @@ use Rattle.bus_value.specs.Alignment.{alignment, boundary}
 use Rattle.bus_value.specs.BasicReading.{size, whole, body_size, text_in, ends_with_zero, text_at, path_by, path_at, types_by, types_in, bool_by, decoded}
 use Rattle.bus_value.specs.Reading.{Reading, Answer, made, padded, read_body, read_basic, read_variant, read_array, read_elements, read_pair, element_bytes, read, read_entry, all_of, to_end, in_turn, variant_type, levels, ended, read_all}
 use Rattle.bus_value.specs.Nesting.{nesting, nesting_in, nesting_all}
-use Rattle.bus_value.specs.Faults.{told, cut_off, and_then, zeros, short_padding, check_padding}
+use Rattle.bus_value.specs.Faults.{reported, cut_off, and_then, zeros, short_padding, check_padding}
 use Rattle.bus_value.proofs.Padding.{zeros-cons, zeros-nil}
 use Rattle.bus_value.proofs.NumberSound.{AreBytes}
 use Rattle.bus_value.proofs.Nesting.{nesting_within}
@@ -77,14 +77,14 @@ made_lasts f (Err x) h e = let same : x ≡ NoMemory = cc in h (ap (λ (y : Valu
 zeros_last : (at : ℕ) (bytes : List ℕ) → Lasts (zeros at bytes)
 zeros_last at [] e = ok_lasts tt (sym (zeros-nil at) ∙ e)
 zeros_last at (b ∷ bs) e =
-    cond_lasts (eqb b 0) (zeros (at + 1) bs) (Err (Padding (told at))) (zeros_last (at + 1) bs) (padding_lasts (told at)) (sym (zeros-cons at b bs) ∙ e)
+    cond_lasts (eqb b 0) (zeros (at + 1) bs) (Err (Padding (reported at))) (zeros_last (at + 1) bs) (padding_lasts (reported at)) (sym (zeros-cons at b bs) ∙ e)
 
 check_lasts : (around : Option ℕ) (at align : ℕ) (bytes : List ℕ) → Lasts (check_padding around at align bytes)
 unfolding check_padding
 check_lasts around at align bytes =
     cond_lasts (ltb (length bytes) (pad_size at align)) (short_padding around at (pad_size at align) bytes) (zeros at (take (pad_size at align) bytes))
-    (cond_lasts (is_some around) (Err (cut_off around at)) (and_then (zeros at bytes) (λ u. Err (Short (told (at + pad_size at align)))))
-    (cut_lasts around at) (then_lasts (zeros at bytes) (λ u. Err (Short (told (at + pad_size at align)))) (zeros_last at bytes) (λ u h. short_lasts (told (at + pad_size at align)))))
+    (cond_lasts (is_some around) (Err (cut_off around at)) (and_then (zeros at bytes) (λ u. Err (Short (reported (at + pad_size at align)))))
+    (cut_lasts around at) (then_lasts (zeros at bytes) (λ u. Err (Short (reported (at + pad_size at align)))) (zeros_last at bytes) (λ u h. short_lasts (reported (at + pad_size at align)))))
     (zeros_last at (take (pad_size at align) bytes))
 
 padded_lasts : {A : Type 0} (around : Option ℕ) (align at : ℕ) (bytes : List ℕ) (f : Reading A) → Lasts (f (at + pad_size at align) (drop (pad_size at align) bytes)) → Lasts (padded around align f at bytes)
@@ -102,29 +102,29 @@ body_lasts o around b at bytes = whole_lasts around at bytes (size o b bytes)
 
 types_by_lasts : (at : ℕ) (r : Result (List Shape) NameFault) → Lasts (types_by at r)
 types_by_lasts at (Ok ts) = ok_lasts ts
-types_by_lasts at (Err e) = text_lasts (told at)
+types_by_lasts at (Err e) = text_lasts (reported at)
 
 types_last : (at : ℕ) (body : List ℕ) → Lasts (types_in at body)
 unfolding types_in
-types_last at body = cond_lasts (ends_with_zero body) (types_by at (signature_of (text_in 1 body))) (Err (BadText (told at))) (types_by_lasts at (signature_of (text_in 1 body))) (text_lasts (told at))
+types_last at body = cond_lasts (ends_with_zero body) (types_by at (signature_of (text_in 1 body))) (Err (BadText (reported at))) (types_by_lasts at (signature_of (text_in 1 body))) (text_lasts (reported at))
 
 path_by_lasts : (at : ℕ) (text : List ℕ) (n : Option ℕ) → Lasts (path_by at text n)
 path_by_lasts at text None = ok_lasts (Path text)
-path_by_lasts at text (Some n) = text_lasts (told at)
+path_by_lasts at text (Some n) = text_lasts (reported at)
 
 path_lasts : (at : ℕ) (body : List ℕ) → Lasts (path_at at body)
 unfolding path_at
 path_lasts at body =
-    cond_lasts (ends_with_zero body) (path_by at (text_in 4 body) (path_fault (text_in 4 body))) (Err (BadText (told at))) (path_by_lasts at (text_in 4 body) (path_fault (text_in 4 body))) (text_lasts (told at))
+    cond_lasts (ends_with_zero body) (path_by at (text_in 4 body) (path_fault (text_in 4 body))) (Err (BadText (reported at))) (path_by_lasts at (text_in 4 body) (path_fault (text_in 4 body))) (text_lasts (reported at))
 
 string_lasts : (at : ℕ) (body : List ℕ) → Lasts (text_at at body)
 unfolding text_at
-string_lasts at body = cond_lasts (ends_with_zero body && is_text (text_in 4 body)) (Ok (Str (text_in 4 body))) (Err (BadText (told at))) (ok_lasts (Str (text_in 4 body))) (text_lasts (told at))
+string_lasts at body = cond_lasts (ends_with_zero body && is_text (text_in 4 body)) (Ok (Str (text_in 4 body))) (Err (BadText (reported at))) (ok_lasts (Str (text_in 4 body))) (text_lasts (reported at))
 
 boolean_lasts : (at n : ℕ) → Lasts (bool_by at n)
 boolean_lasts at n =
-    cond_lasts (eqb n 0) (Ok (Boolean false)) (cond (eqb n 1) (Ok (Boolean true)) (Err (BadBool (told at)))) (ok_lasts (Boolean false))
-    (cond_lasts (eqb n 1) (Ok (Boolean true)) (Err (BadBool (told at))) (ok_lasts (Boolean true)) (bool_lasts (told at)))
+    cond_lasts (eqb n 0) (Ok (Boolean false)) (cond (eqb n 1) (Ok (Boolean true)) (Err (BadBool (reported at)))) (ok_lasts (Boolean false))
+    (cond_lasts (eqb n 1) (Ok (Boolean true)) (Err (BadBool (reported at))) (ok_lasts (Boolean true)) (bool_lasts (reported at)))
 
 decoded_lasts : (o : Order) (b : Basic) (at : ℕ) (body : List ℕ) → Lasts (decoded o b at body)
 unfolding decoded
@@ -183,8 +183,8 @@ elements_last o around align at bytes =
     let pad : ℕ = pad_size (at + 4) align in
     let short : Bool = ltb (length bytes) (4 + pad + n) in
     let last : Result ℕ ValueFault = and_then (zeros (at + 4) (take pad (drop 4 bytes))) (λ u. Ok n) in
-    cond_lasts (ltb (length bytes) 4 || (is_some around && short)) (Err (cut_off around at)) (cond (ltb (2 ^ 26) n) (Err (BadLength (told at))) (cond short (Err (cut_off around at)) last)) (cut_lasts around at)
-    (cond_lasts (ltb (2 ^ 26) n) (Err (BadLength (told at))) (cond short (Err (cut_off around at)) last) (length_lasts (told at))
+    cond_lasts (ltb (length bytes) 4 || (is_some around && short)) (Err (cut_off around at)) (cond (ltb (2 ^ 26) n) (Err (BadLength (reported at))) (cond short (Err (cut_off around at)) last)) (cut_lasts around at)
+    (cond_lasts (ltb (2 ^ 26) n) (Err (BadLength (reported at))) (cond short (Err (cut_off around at)) last) (length_lasts (reported at))
     (cond_lasts short (Err (cut_off around at)) last (cut_lasts around at) (then_lasts (zeros (at + 4) (take pad (drop 4 bytes))) (λ u. Ok n) (zeros_last (at + 4) (take pad (drop 4 bytes))) (λ u h. ok_lasts n))))
 
 array_lasts : {A : Type 0} (o : Order) (around : Option ℕ) (align at : ℕ) (f : Option ℕ → ℕ → List ℕ → Result (List A) ValueFault) (bytes : List ℕ) →
@@ -195,14 +195,14 @@ array_lasts o around align at f bytes g h =
     let left : List ℕ = drop (pad_size at 4) bytes in
     let front : ℕ = 4 + pad_size (place + 4) align in
     padded_lasts around 4 at bytes (read_elements o around align f)
-    (then_lasts (element_bytes o around align place left) (λ n. and_then (f (Some (told place)) (place + front) (take n (drop front left))) (λ xs. Ok (xs, (place + front + n, drop (front + n) left)))) (elements_last o around align place left)
-    (λ n k. then_lasts (f (Some (told place)) (place + front) (take n (drop front left))) (λ xs. Ok (xs, (place + front + n, drop (front + n) left)))
-    (g (Some (told place)) (place + front) (take n (drop front left)) (bytes_take n (drop front left) (bytes_drop front left (bytes_drop (pad_size at 4) bytes h)))) (λ xs k. ok_lasts (xs, (place + front + n, drop (front + n) left)))))
+    (then_lasts (element_bytes o around align place left) (λ n. and_then (f (Some (reported place)) (place + front) (take n (drop front left))) (λ xs. Ok (xs, (place + front + n, drop (front + n) left)))) (elements_last o around align place left)
+    (λ n k. then_lasts (f (Some (reported place)) (place + front) (take n (drop front left))) (λ xs. Ok (xs, (place + front + n, drop (front + n) left)))
+    (g (Some (reported place)) (place + front) (take n (drop front left)) (bytes_take n (drop front left) (bytes_drop front left (bytes_drop (pad_size at 4) bytes h)))) (λ xs k. ok_lasts (xs, (place + front + n, drop (front + n) left)))))
 
 variant_type_lasts : (d at : ℕ) (ts : List Shape) → Lasts (variant_type d at ts)
-variant_type_lasts d at [] = kind_lasts (told at)
-variant_type_lasts d at (t ∷ []) = cond_lasts (leb (d + 1 + nesting t) 64) (Ok t) (Err (BadVariant (told at))) (ok_lasts t) (kind_lasts (told at))
-variant_type_lasts d at (t ∷ u ∷ ts) = kind_lasts (told at)
+variant_type_lasts d at [] = kind_lasts (reported at)
+variant_type_lasts d at (t ∷ []) = cond_lasts (leb (d + 1 + nesting t) 64) (Ok t) (Err (BadVariant (reported at))) (ok_lasts t) (kind_lasts (reported at))
+variant_type_lasts d at (t ∷ u ∷ ts) = kind_lasts (reported at)
 
 variant_lasts : (o : Order) (around : Option ℕ) (d at : ℕ) (f : Shape → Reading Val) (bytes : List ℕ) → ((t : Shape) → d + 1 + nesting t ≤ 64 → GoesOn (f t)) → AreBytes bytes → Lasts (read_variant o around d f at bytes)
 unfolding read_variant
@@ -279,7 +279,7 @@ mutual
 
 ended_lasts : (r : Answer (List Val)) → Lasts r → Lasts (ended r)
 ended_lasts (Ok (vs, (at, []))) h e = ok_lasts vs e
-ended_lasts (Ok (vs, (at, b ∷ bs))) h e = length_lasts (told at) e
+ended_lasts (Ok (vs, (at, b ∷ bs))) h e = length_lasts (reported at) e
 ended_lasts (Err x) h e = let same : x ≡ NoMemory = cc in h (ap (λ (y : ValueFault). Err y) same)
 
 -- a reading ends with values, or with a fault of the bytes

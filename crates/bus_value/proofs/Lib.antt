@@ -26,7 +26,8 @@ pub mod LengthLaws
 pub mod GrammarLaws
 pub mod HeldLaws
 pub mod Fronts
-pub mod Zeros
+pub mod Blocks
+pub mod PlainTexts
 pub mod Boundaries
 pub mod Letters
 pub mod TypedLaws

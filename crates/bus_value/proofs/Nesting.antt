@@ -8,7 +8,7 @@ use Rattle.bus_names.specs.Types.{Shape, Shapes, basic, variant, array, dict, st
 use Rattle.bus_value.specs.Nesting.{nesting, nesting_in, nesting_all}
 use Rattle.bus_value.specs.Reading.{is_variant_type, variant_type}
 use Rattle.bus_value.specs.declared.fault.ValueFault.TheVariants.{BadVariant}
-use Rattle.bus_value.specs.Faults.{told}
+use Rattle.bus_value.specs.Faults.{reported}
 
 nesting_fields : (ts : List Shape) → nesting_in (fields_of ts) ≡ nesting_all ts
 nesting_fields [] = refl
@@ -57,12 +57,12 @@ deep_enough ts i kind room h some is a r =
 
 pub is_variant : (d at : ℕ) (ts : List Shape) (t : Shape) → is_variant_type d ts ≡ true → t ≡ get_or ts 0 t → variant_type d at ts ≡ Ok t
 is_variant d at [] t h e = cc
-is_variant d at (u ∷ []) t h e = ap (λ (c : Bool). cond c (Ok u) (Err (BadVariant (told at)))) h ∙ ap (λ (v : Shape). Ok v) (sym e)
+is_variant d at (u ∷ []) t h e = ap (λ (c : Bool). cond c (Ok u) (Err (BadVariant (reported at)))) h ∙ ap (λ (v : Shape). Ok v) (sym e)
 is_variant d at (u ∷ v ∷ ts) t h e = cc
 
-pub no_variant : (d at : ℕ) (ts : List Shape) → is_variant_type d ts ≡ false → variant_type d at ts ≡ Err (BadVariant (told at))
+pub no_variant : (d at : ℕ) (ts : List Shape) → is_variant_type d ts ≡ false → variant_type d at ts ≡ Err (BadVariant (reported at))
 no_variant d at [] h = refl
-no_variant d at (u ∷ []) h = ap (λ (c : Bool). cond c (Ok u) (Err (BadVariant (told at)))) h
+no_variant d at (u ∷ []) h = ap (λ (c : Bool). cond c (Ok u) (Err (BadVariant (reported at)))) h
 no_variant d at (u ∷ v ∷ ts) h = refl
 
 pub one_type : (d : ℕ) (ts : List Shape) → is_variant_type d ts ≡ true → length ts ≡ 1

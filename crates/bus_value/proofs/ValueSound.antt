@@ -22,7 +22,7 @@ use Rattle.bus_value.specs.Reading.{Reading, Answer, made, padded, read_basic, r
 use Rattle.bus_value.specs.Nesting.{nesting}
 use Rattle.bus_value.proofs.Typing.{IsLegal, HasType, AllHave, EachHas, EntriesHave}
 use Rattle.bus_value.proofs.Typing.{IsComputed}
-use Rattle.bus_value.specs.Faults.{told, cut_off, and_then, zeros}
+use Rattle.bus_value.specs.Faults.{reported, cut_off, and_then, zeros}
 use Rattle.bus_value.proofs.NumberSound.{AreBytes, back_4, same_front}
 use Rattle.bus_value.proofs.NumberLaws.{width_4}
 use Rattle.bus_value.proofs.Rounds.{all_of-end, all_of-cons, in_turn-end, in_turn-cons}
@@ -113,7 +113,7 @@ elements_sized o around align at bytes n e =
     by (ltb (length bytes) 4 || (is_some around && ltb (length bytes) (4 + pad_size (at + 4) align + number o 4 bytes))) (ltb (2 ^ 26) (number o 4 bytes)) (ltb (length bytes) (4 + pad_size (at + 4) align + number o 4 bytes)) refl refl e
   where
     by : (a b c : Bool) → ltb (2 ^ 26) (number o 4 bytes) ≡ b → ltb (length bytes) (4 + pad_size (at + 4) align + number o 4 bytes) ≡ c →
-        cond a (Err (cut_off around at)) (cond b (Err (BadLength (told at))) (cond c (Err (cut_off around at)) (and_then (zeros (at + 4) (take (pad_size (at + 4) align) (drop 4 bytes))) (λ u. Ok (number o 4 bytes))))) ≡ Ok n →
+        cond a (Err (cut_off around at)) (cond b (Err (BadLength (reported at))) (cond c (Err (cut_off around at)) (and_then (zeros (at + 4) (take (pad_size (at + 4) align) (drop 4 bytes))) (λ u. Ok (number o 4 bytes))))) ≡ Ok n →
         IsSized o at align bytes n
     by true b c limit room e = cc
     by false true c limit room e = cc
@@ -144,7 +144,7 @@ array_sound {A = A} o around align at f bytes xs at2 rest h e =
     let left : List ℕ = drop (pad_size at 4) bytes in
     let pad : ℕ = pad_size (place + 4) align in
     let front : ℕ = 4 + pad in
-    let inner : Option ℕ = Some (told place) in
+    let inner : Option ℕ = Some (reported place) in
     let q = and_then_ends (element_bytes o around align place left) (λ n. and_then (f inner (place + front) (take n (drop front left))) (λ xs. Ok (xs, (place + front + n, drop (front + n) left)))) (xs, (at2, rest)) p.1 in
     let n : ℕ = q.0 in
     let elements : List ℕ = take n (drop front left) in
@@ -191,7 +191,7 @@ pub one_type : (d at : ℕ) (ts : List Shape) (t : Shape) → variant_type d at 
 one_type d at [] t e = cc
 one_type d at (u ∷ []) t e = by (leb (d + 1 + nesting u) 64) refl e
   where
-    by : (c : Bool) → leb (d + 1 + nesting u) 64 ≡ c → cond c (Ok u) (Err (BadVariant (told at))) ≡ Ok t → (u ∷ [] ≡ t ∷ []) × (d + 1 + nesting t ≤ 64)
+    by : (c : Bool) → leb (d + 1 + nesting u) 64 ≡ c → cond c (Ok u) (Err (BadVariant (reported at))) ≡ Ok t → (u ∷ [] ≡ t ∷ []) × (d + 1 + nesting t ≤ 64)
     by true c e =
         let same : u ≡ t = ok_same u t e in
         let deep : d + 1 + nesting u ≤ 64 = grind (arith, nat_tests) in (ap (λ (v : Shape). v ∷ []) same, subst (λ (v : Shape). d + 1 + nesting v ≤ 64) same deep)

@@ -26,7 +26,7 @@ use Rattle.bus_value.specs.Reading.{Reading, Answer, made, padded, read_basic, r
 use Rattle.bus_value.specs.Nesting.{nesting, nesting_all}
 use Rattle.bus_value.proofs.Typing.{IsLegal, HasType, AllHave, EachHas, EntriesHave}
 use Rattle.bus_value.proofs.Typing.{IsComputed}
-use Rattle.bus_value.specs.Faults.{told, cut_off, and_then, zeros}
+use Rattle.bus_value.specs.Faults.{reported, cut_off, and_then, zeros}
 use Rattle.bus_value.proofs.Chains.{and_then_ok}
 use Rattle.bus_value.proofs.NumberLaws.{spelled_4, width_2, width_4, width_8}
 use Rattle.bus_value.proofs.Rounds.{all_of-end, all_of-step, in_turn-end, in_turn-cons}
@@ -117,7 +117,7 @@ elements_spelled o around align at elements rest h =
     by around bytes pad n (number o 4 bytes) count there enough limit zero_front
   where
     by : (around : Option ℕ) (bytes : List ℕ) (pad n c : ℕ) → c ≡ n → ltb (length bytes) 4 ≡ false → ltb (length bytes) (4 + pad + n) ≡ false → ltb (2 ^ 26) n ≡ false → zeros (at + 4) (take pad (drop 4 bytes)) ≡ Ok tt →
-        cond (ltb (length bytes) 4 || (is_some around && ltb (length bytes) (4 + pad + c))) (Err (cut_off around at)) (cond (ltb (2 ^ 26) c) (Err (BadLength (told at)))
+        cond (ltb (length bytes) 4 || (is_some around && ltb (length bytes) (4 + pad + c))) (Err (cut_off around at)) (cond (ltb (2 ^ 26) c) (Err (BadLength (reported at)))
         (cond (ltb (length bytes) (4 + pad + c)) (Err (cut_off around at)) (and_then (zeros (at + 4) (take pad (drop 4 bytes))) (λ u. Ok c)))) ≡ Ok n
     by None bytes pad n c e a b f z = rw (e, a, b, f, z) refl
     by (Some x) bytes pad n c e a b f z = rw (e, a, b, f, z) refl
@@ -148,7 +148,7 @@ array_spelled {A = A} o around align at elements rest f xs h e =
     ap (λ (x : List ℕ). drop (front + n) x) (sym (append_assoc num pads (elements ++ rest)) ∙ sym (append_assoc (num ++ pads) elements rest)) ∙ back_of ((num ++ pads) ++ elements) rest (front + n) (omega arith) in
     let first : place + front ≡ first_element at align = omega arith in
     let last : place + front + n ≡ at + length (array_bytes o at align elements) = omega arith in
-    let inner : Option ℕ = Some (told place) in
+    let inner : Option ℕ = Some (reported place) in
     ap (λ (x : List ℕ). padded around 4 (read_elements o around align f) at x) split
     ∙ padded_spelled around 4 at bytes (read_elements o around align f)
     ∙ and_then_ok (element_bytes o around align place bytes) n (λ n. and_then (f inner (place + front) (take n (drop front bytes))) (λ xs. Ok (xs, (place + front + n, drop (front + n) bytes)))) (elements_spelled o around align place elements rest h)
@@ -189,7 +189,7 @@ variant_spelled o around d at f t v inner rest within deep e =
     let bytes : List ℕ = sig ++ (inner ++ rest) in
     let l : length (sig ++ inner) ≡ n + length inner = length-append sig inner in
     let last : at + n + length inner ≡ at + length (sig ++ inner) = omega arith in
-    let one : variant_type d at (t ∷ []) ≡ Ok t = ap (λ (c : Bool). cond c (Ok t) (Err (BadVariant (told at)))) (at_most (d + 1 + nesting t) 64 deep) in
+    let one : variant_type d at (t ∷ []) ≡ Ok t = ap (λ (c : Bool). cond c (Ok t) (Err (BadVariant (reported at)))) (at_most (d + 1 + nesting t) 64 deep) in
     ap (λ (x : List ℕ). read_variant o around d f at x) (append_assoc sig inner rest)
     ∙ and_then_ok (body_size o around kinds.Sig at bytes) n (λ n. and_then (types_in at (take n bytes)) (λ ts. and_then (variant_type d at ts) (λ t. made variant (f t (at + n) (drop n bytes))))) (body_spelled o around (Sig (t ∷ [])) at (inner ++ rest) within)
     ∙ ap (λ (x : List ℕ). and_then (types_in at x) (λ ts. and_then (variant_type d at ts) (λ t. made variant (f t (at + n) (drop n bytes))))) (take-append_seam sig (inner ++ rest))

@@ -7,7 +7,7 @@ use Rattle.bus_value.specs.declared.fault.ValueFault.TheVariants.{BadLength}
 use Rattle.bus_value.specs.declared.order.Order.{Order}
 use Rattle.bus_value.specs.declared.reader.Reader.{Reader}
 use Rattle.bus_value.specs.Values.{Val}
-use Rattle.bus_value.specs.Faults.{told}
+use Rattle.bus_value.specs.Faults.{reported}
 use Rattle.bus_value.specs.Reading.{Answer, read, in_turn, levels, ended, read_all}
 
 -- the values of the types, from the start on
@@ -23,11 +23,11 @@ starts o start ts bytes q e =
 pub all_read : (o : Order) (start : ℕ) (ts : List Shape) (bytes : List ℕ) (vs : List Val) (end : ℕ) → first_values o start ts bytes ≡ Ok (vs, (start + end, drop end bytes)) → length bytes ≤ end → read_all o start ts bytes ≡ Ok vs
 all_read o start ts bytes vs end e h = starts o start ts bytes (Ok (vs, (start + end, drop end bytes))) e ∙ ap (λ (x : List ℕ). ended (Ok (vs, (start + end, x)))) (drop_of_length-le bytes h)
 
-left_over : (vs : List Val) (at : ℕ) (x : List ℕ) → 0 < length x → ended (Ok (vs, (at, x))) ≡ Err (BadLength (told at))
+left_over : (vs : List Val) (at : ℕ) (x : List ℕ) → 0 < length x → ended (Ok (vs, (at, x))) ≡ Err (BadLength (reported at))
 left_over vs at [] h = absurd (omega arith)
 left_over vs at (b ∷ x) h = refl
 
-pub all_left : (o : Order) (start : ℕ) (ts : List Shape) (bytes : List ℕ) (vs : List Val) (end : ℕ) → first_values o start ts bytes ≡ Ok (vs, (start + end, drop end bytes)) → end < length bytes → read_all o start ts bytes ≡ Err (BadLength (told (start + end)))
+pub all_left : (o : Order) (start : ℕ) (ts : List Shape) (bytes : List ℕ) (vs : List Val) (end : ℕ) → first_values o start ts bytes ≡ Ok (vs, (start + end, drop end bytes)) → end < length bytes → read_all o start ts bytes ≡ Err (BadLength (reported (start + end)))
 all_left o start ts bytes vs end e h =
     let l : length (drop end bytes) ≡ length bytes - end = length-drop end bytes in
     starts o start ts bytes (Ok (vs, (start + end, drop end bytes))) e ∙ left_over vs (start + end) (drop end bytes) (omega arith)

@@ -12,7 +12,7 @@ use Rattle.bus_value.specs.declared.basic_value.BasicValue.TheVariants.{Byte, Bo
 use Rattle.bus_value.specs.declared.fault.ValueFault.{ValueFault}
 use Rattle.bus_value.specs.declared.fault.ValueFault.TheVariants.{BadBool, BadText}
 use Rattle.bus_value.specs.declared.order.Order.{Order}
-use Rattle.bus_value.specs.Faults.{told, cut_off, and_then}
+use Rattle.bus_value.specs.Faults.{reported, cut_off, and_then}
 use Rattle.bus_value.specs.Numbers.{number}
 use Rattle.bus_value.specs.Texts.{is_text}
 
@@ -73,26 +73,26 @@ ends_with_zero body = slice_index body (length body - 1) == 0
 
 -- a text, with its length and the zero byte
 unfoldable pub text_at : ℕ → List ℕ → Result BasicValue ValueFault
-text_at at body = if ends_with_zero body && is_text (text_in 4 body) then Ok (Str (text_in 4 body)) else Err (BadText (told at))
+text_at at body = if ends_with_zero body && is_text (text_in 4 body) then Ok (Str (text_in 4 body)) else Err (BadText (reported at))
 
 abbrev pub path_by : ℕ → List ℕ → Option ℕ → Result BasicValue ValueFault
 path_by at text None = Ok (Path text)
-path_by at text (Some n) = Err (BadText (told at))
+path_by at text (Some n) = Err (BadText (reported at))
 
 -- an object path, with its length and the zero byte
 unfoldable pub path_at : ℕ → List ℕ → Result BasicValue ValueFault
-path_at at body = if ends_with_zero body then path_by at (text_in 4 body) (path_fault (text_in 4 body)) else Err (BadText (told at))
+path_at at body = if ends_with_zero body then path_by at (text_in 4 body) (path_fault (text_in 4 body)) else Err (BadText (reported at))
 
 abbrev pub types_by : ℕ → Result (List Shape) NameFault → Result (List Shape) ValueFault
 types_by at (Ok ts) = Ok ts
-types_by at (Err e) = Err (BadText (told at))
+types_by at (Err e) = Err (BadText (reported at))
 
 -- a signature, with its length and the zero byte
 unfoldable pub types_in : ℕ → List ℕ → Result (List Shape) ValueFault
-types_in at body = if ends_with_zero body then types_by at (signature_of (text_in 1 body)) else Err (BadText (told at))
+types_in at body = if ends_with_zero body then types_by at (signature_of (text_in 1 body)) else Err (BadText (reported at))
 
 abbrev pub bool_by : ℕ → ℕ → Result BasicValue ValueFault
-bool_by at n = if n == 0 then Ok (Boolean false) else (if n == 1 then Ok (Boolean true) else Err (BadBool (told at)))
+bool_by at n = if n == 0 then Ok (Boolean false) else (if n == 1 then Ok (Boolean true) else Err (BadBool (reported at)))
 
 -- the value that the bytes of one spell
 unfoldable pub decoded : Order → Basic → ℕ → List ℕ → Result BasicValue ValueFault

@@ -4,13 +4,13 @@ use Rattle.bus_value.specs.declared.fault.ValueFault.{ValueFault}
 use Rattle.bus_value.specs.declared.fault.ValueFault.TheVariants.{Short, Padding, BadLength}
 use Rattle.bus_value.specs.Spelling.{pad_size}
 
--- an offset as it is told: the last number of 64 bits stands for those above it
-unfoldable pub told : ℕ → ℕ
-told at = min at (2 ^ 64 - 1)
+-- an offset as it is reported: the last number of 64 bits stands for those above it
+unfoldable pub reported : ℕ → ℕ
+reported at = min at (2 ^ 64 - 1)
 
 -- A value's bytes are not all there; or they pass the end of an array, whose length stands at this offset.
 abbrev pub cut_off : Option ℕ → ℕ → ValueFault
-cut_off None at = Short (told at)
+cut_off None at = Short (reported at)
 cut_off (Some place) at = BadLength place
 
 -- goes on with what was read, or ends with the fault
@@ -21,11 +21,11 @@ and_then (Err e) f = Err e
 -- padding is zero: else the fault is at its first other byte
 unfoldable pub zeros : ℕ → List ℕ → Result (Unit {0}) ValueFault
 zeros at [] = Ok tt
-zeros at (b ∷ bs) = if b == 0 then zeros (at + 1) bs else Err (Padding (told at))
+zeros at (b ∷ bs) = if b == 0 then zeros (at + 1) bs else Err (Padding (reported at))
 
 -- Padding of which not all is there. In an array it passes the array's end; else the value behind it is not there.
 abbrev pub short_padding : Option ℕ → ℕ → ℕ → List ℕ → Result (Unit {0}) ValueFault
-short_padding array at count bytes = if is_some array then Err (cut_off array at) else and_then (zeros at bytes) (λ u. Err (Short (told (at + count))))
+short_padding array at count bytes = if is_some array then Err (cut_off array at) else and_then (zeros at bytes) (λ u. Err (Short (reported (at + count))))
 
 -- the padding in front of a value
 unfoldable pub check_padding : Option ℕ → ℕ → ℕ → List ℕ → Result (Unit {0}) ValueFault

@@ -1,6 +1,6 @@
 -- Numbered variants, as the fields of a message's header are: those that are kept, of which each has a number that is
 -- known, and what is kept of them.
-use Rattle.std.specs.Prelude.{ℕ, ◌≡◌, ◌≤◌, ◌+◌, nat_le, Bool, List, [], ◌∷◌, ◌++◌, length, drop, Option, Some, None, Result, Ok, Err, ◌⊎◌, if◌then◌else◌}
+use Rattle.std.specs.Prelude.{ℕ, ◌≡◌, ◌≤◌, ◌+◌, nat_le, List, [], ◌∷◌, ◌++◌, length, drop, Option, Some, None, Result, Ok, Err, ◌⊎◌, if◌then◌else◌}
 use Rattle.bus_names.specs.declared.basic.Basic.TheVariants as kinds
 use Rattle.bus_names.specs.Types.{Shape}
 use Rattle.bus_names.specs.Types as types
@@ -12,7 +12,7 @@ use Rattle.bus_value.specs.declared.fields.Field.{Field}
 use Rattle.bus_value.specs.declared.order.Order.{Order}
 use Rattle.bus_value.specs.Values.{Val, Vals, basic, array, struct, variant, none, more}
 use Rattle.bus_value.specs.Spelling.{pad_size, first_element, spelling}
-use Rattle.bus_value.specs.Reading.{Answer, read_all}
+use Rattle.bus_value.specs.Reading.{Answer}
 
 -- a field is a struct of a byte and a variant, and the fields are an array of these
 abbrev pub field_type : Shape

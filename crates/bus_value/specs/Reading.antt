@@ -15,7 +15,7 @@ use Rattle.bus_value.specs.Numbers.{number}
 use Rattle.bus_value.specs.BasicReading.{body_size, decoded, types_in}
 use Rattle.bus_value.specs.Values.{Val, vals, entries}
 use Rattle.bus_value.specs.Values as values
-use Rattle.bus_value.specs.Faults.{told, cut_off, and_then, zeros, check_padding}
+use Rattle.bus_value.specs.Faults.{reported, cut_off, and_then, zeros, check_padding}
 
 -- what was read, the offset behind it, and the bytes from there on
 abbrev pub Answer : Type 0 → Type 0
@@ -49,7 +49,7 @@ element_bytes o around align at bytes =
     let pad = pad_size (at + 4) align in
     let short = nat_lt (length bytes) (4 + pad + count) in
     if nat_lt (length bytes) 4 || (is_some around && short) then Err (cut_off around at) else
-    (if nat_lt (2 ^ 26) count then Err (BadLength (told at)) else
+    (if nat_lt (2 ^ 26) count then Err (BadLength (reported at)) else
     (if short then Err (cut_off around at) else and_then (zeros (at + 4) (take pad (drop 4 bytes))) (λ u. Ok count)))
 
 -- an array: its elements are read from their own bytes alone
@@ -57,7 +57,7 @@ abbrev pub read_elements : {A : Type 0} → Order → Option ℕ → ℕ → (Op
 read_elements o around align f at bytes =
     and_then (element_bytes o around align at bytes) (λ n.
     let front = 4 + pad_size (at + 4) align in
-    and_then (f (Some (told at)) (at + front) (take n (drop front bytes))) (λ xs. Ok (xs, (at + front + n, drop (front + n) bytes))))
+    and_then (f (Some (reported at)) (at + front) (take n (drop front bytes))) (λ xs. Ok (xs, (at + front + n, drop (front + n) bytes))))
 
 unfoldable pub read_array : {A : Type 0} → Order → Option ℕ → ℕ → (Option ℕ → ℕ → List ℕ → Result (List A) ValueFault) → Reading (List A)
 read_array o around align f at bytes = padded around 4 (read_elements o around align f) at bytes
@@ -84,9 +84,9 @@ read_pair o around b f at bytes =
 
 -- A variant's signature names one type. The containers that are open, the variant and those in this type, are limited.
 abbrev pub variant_type : ℕ → ℕ → List Shape → Result Shape ValueFault
-variant_type depth at [] = Err (BadVariant (told at))
-variant_type depth at (t ∷ []) = if nat_le (depth + 1 + nesting t) most_open then Ok t else Err (BadVariant (told at))
-variant_type depth at (t ∷ u ∷ ts) = Err (BadVariant (told at))
+variant_type depth at [] = Err (BadVariant (reported at))
+variant_type depth at (t ∷ []) = if nat_le (depth + 1 + nesting t) most_open then Ok t else Err (BadVariant (reported at))
+variant_type depth at (t ∷ u ∷ ts) = Err (BadVariant (reported at))
 
 -- whether there is one type, which may be nested there
 abbrev pub is_variant_type : ℕ → List Shape → Bool
@@ -124,7 +124,7 @@ levels depth = most_depth + 1 - depth
 -- nothing is left behind the last value
 abbrev pub ended : Answer (List Val) → Result (List Val) ValueFault
 ended (Ok (vs, (at, []))) = Ok vs
-ended (Ok (vs, (at, b ∷ bs))) = Err (BadLength (told at))
+ended (Ok (vs, (at, b ∷ bs))) = Err (BadLength (reported at))
 ended (Err e) = Err e
 
 -- the values of a signature, or the first fault

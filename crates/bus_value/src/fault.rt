@@ -4,7 +4,7 @@ use login_base::NoMemory;
 use std::alloc::{AllocError, AllocFailed};
 
 /// Why bytes spell no values. An offset counts from where the first byte stands on; one that is above the last `usize`
-/// is told as that.
+/// is reported as that.
 #[derive(Clone, Copy, Debug, PartialEq, Eq)]
 pub enum ValueFault {
     /// The bytes of the value at this offset are not all there.

@@ -38,7 +38,7 @@ pub fn read_fields(
     let place = reader.open_array(bytes, 0, 8)?;
     let fields = place.reader.fields(most, &bytes[..place.end], place.first)?;
     if place.end < bytes.len() {
-        return Err(ValueFault::BadLength(reader.told(place.end)));
+        return Err(ValueFault::BadLength(reader.reported(place.end)));
     }
     Ok(fields)
 }

@@ -3,7 +3,7 @@
 ghost use Rattle.std.specs.Prelude.{◌≡◌, ◌≤◌, ◌<◌, ◌+◌, ◌^◌, length, drop, Some, None, Err};
 ghost use Rattle.bus_value.specs.Alignment.{IsAlignment};
 ghost use Rattle.bus_value.specs.Answers.{Passes};
-ghost use Rattle.bus_value.specs.Faults.{told, cut_off, zeros, short_padding, check_padding};
+ghost use Rattle.bus_value.specs.Faults.{reported, cut_off, zeros, short_padding, check_padding};
 
 use crate::fault::ValueFault;
 use crate::numbers::pad_size;
@@ -14,8 +14,9 @@ mod basic;
 mod checking;
 mod containers;
 mod numbered;
+mod texts;
 
-pub use basic::is_text;
+pub use texts::is_text;
 
 /// A place in which values are read.
 #[derive(Clone, Copy)]
@@ -26,7 +27,7 @@ pub struct Reader {
     start: usize,
     /// How many containers are open.
     depth: usize,
-    /// The offset, as it is told, of the length of the innermost array.
+    /// The offset, as it is reported, of the length of the innermost array.
     array: Option<usize>,
 }
 
@@ -58,18 +59,18 @@ impl Reader {
     /// The place in an array whose length stands here.
     fn within(self, at: usize) -> Reader
         requires { self.depth < 2 ^ 32 }
-        ensures { result ≡ record self { depth = self.depth + 1; array = Some (told (self.start + at)) } }
+        ensures { result ≡ record self { depth = self.depth + 1; array = Some (reported (self.start + at)) } }
     {
         Reader {
-            array: Some(self.told(at)),
+            array: Some(self.reported(at)),
             ..self.deeper()
         }
     }
 
-    /// The offset of a byte, as it is told.
-    #[tactic(auto, unfolding(crate::specs::Faults::told))]
-    pub fn told(self, at: usize) -> usize
-        ensures { result ≡ told (self.start + at) }
+    /// The offset of a byte, as it is reported.
+    #[tactic(auto, unfolding(crate::specs::Faults::reported))]
+    pub fn reported(self, at: usize) -> usize
+        ensures { result ≡ reported (self.start + at) }
     {
         self.start.saturating_add(at)
     }
@@ -80,7 +81,7 @@ impl Reader {
     {
         match self.array {
             Some(place) => ValueFault::BadLength(place),
-            None => ValueFault::Short(self.told(at)),
+            None => ValueFault::Short(self.reported(at)),
         }
     }
 
@@ -92,7 +93,7 @@ impl Reader {
         let mut next = at;
         for byte in padding {
             if *byte != 0 {
-                return Err(ValueFault::Padding(self.told(next)));
+                return Err(ValueFault::Padding(self.reported(next)));
             }
             next += 1;
         }
@@ -127,7 +128,7 @@ impl Reader {
         }
         match self.zeros(padding, at) {
             Err(fault) => fault,
-            Ok(()) => ValueFault::Short(self.told(at + count)),
+            Ok(()) => ValueFault::Short(self.reported(at + count)),
         }
     }
 }

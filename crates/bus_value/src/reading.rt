@@ -31,7 +31,7 @@ pub(crate) fn make_values(
     let reader = Reader::new(alloc, order, start);
     let (values, last) = reader.values(types.types(), bytes, 0)?;
     if last < bytes.len() {
-        return Err(ValueFault::BadLength(reader.told(last)));
+        return Err(ValueFault::BadLength(reader.reported(last)));
     }
     Ok(values)
 }
@@ -50,7 +50,7 @@ fn check_values(
     let reader = Reader::new(alloc, order, start);
     let end = reader.check_all(kinds, bytes, 0)?;
     if end < bytes.len() {
-        return Err(ValueFault::BadLength(reader.told(end)));
+        return Err(ValueFault::BadLength(reader.reported(end)));
     }
     Ok(())
 }

@@ -5,7 +5,7 @@ use Rattle.bus_value.specs.declared.reader.Reader.{Reader}
 use Rattle.bus_value.specs.declared.reader.containers.Elements.{Elements}
 use Rattle.bus_value.specs.Spelling.{pad_size}
 use Rattle.bus_value.specs.Reading.{element_bytes}
-use Rattle.bus_value.specs.Faults.{told, and_then, check_padding}
+use Rattle.bus_value.specs.Faults.{reported, and_then, check_padding}
 
 -- the array's length stands at the place, and is read there
 pub record OpensAt (a : Elements) (r : Reader) (bytes : List ℕ) (at align place : ℕ) : Type 0 where
@@ -15,7 +15,7 @@ pub record OpensAt (a : Elements) (r : Reader) (bytes : List ℕ) (at align plac
   pub first_is : a.first ≡ place + (4 + pad_size (r.start + place + 4) align)
   pub order : a.first ≤ a.end
   pub within : a.end ≤ length bytes
-  pub inner : a.reader ≡ record r { depth = r.depth + 1; array = Some (told (r.start + place)) }
+  pub inner : a.reader ≡ record r { depth = r.depth + 1; array = Some (reported (r.start + place)) }
 
 abbrev pub Opens : Result Elements ValueFault → Reader → List ℕ → ℕ → ℕ → Type 0
 Opens (Ok a) r bytes at align = (place : ℕ) × OpensAt a r bytes at align place

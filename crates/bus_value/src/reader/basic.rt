@@ -1,12 +1,10 @@
 // How values of basic types are read.
 
-ghost use Rattle.std.specs.Prelude.{◌≡◌, ◌≤◌, ◌<◌, ◌+◌, ◌-◌, length, drop, IfOk, IfSome, IsTrue};
-ghost use Rattle.std.specs.Str.{is_utf8};
+ghost use Rattle.std.specs.Prelude.{◌≡◌, ◌≤◌, ◌<◌, ◌+◌, ◌-◌, length, drop, IfOk, IfSome};
 ghost use Rattle.bus_value.specs.Alignment.{IsAlignment};
 ghost use Rattle.bus_value.specs.inner.Plain.{plain_size};
 ghost use Rattle.bus_value.specs.Answers.{Accepts, Checks, Gives, Reads};
 ghost use Rattle.bus_value.specs.BasicReading.{size, body_size, least, text_size, types_in, text_at, path_at, decoded, bool_by};
-ghost use Rattle.bus_value.specs.Texts.{has_no_zero, is_text};
 ghost use Rattle.bus_value.specs.Reading.{read_basic};
 
 use crate::basic_value::BasicValue;
@@ -15,9 +13,9 @@ use crate::fault::ValueFault;
 use crate::numbers::{read_u16, read_u32, read_u64};
 use crate::order::Order;
 use crate::reader::Reader;
+use crate::reader::texts::is_text;
 use bus_names::{Basic, NameFault, ObjectPath, Signature};
 use login_base::Word;
-use std::str;
 
 /// How many bytes a text has, with its length and the zero byte behind it, where its length is there.
 fn text_size(order: Order, bytes: &[u8]) -> Option<usize>
@@ -60,27 +58,6 @@ pub fn plain_size(kind: Basic) -> Option<usize>
     }
 }
 
-/// Whether a text is UTF-8.
-fn is_utf8(text: &[u8]) -> bool
-    ensures { result ≡ is_utf8 text.now }
-{
-    str::from_utf8(text).is_ok()
-}
-
-/// Whether no byte is zero.
-fn has_no_zero(text: &[u8]) -> bool
-    ensures { result ≡ has_no_zero text.now }
-{
-    !text.contains(&0)
-}
-
-/// Whether a text is UTF-8 with no zero byte.
-pub fn is_text(text: &[u8]) -> bool
-    ensures { result ≡ is_text text.now }
-{
-    is_utf8(text) && has_no_zero(text)
-}
-
 impl Reader {
     /// How many bytes the value has that stands here.
     #[tactic(auto, unfolding(crate::specs::BasicReading::body_size))]
@@ -105,12 +82,12 @@ impl Reader {
     {
         let last = body.len() - 1;
         if body[last] != 0 {
-            return Err(ValueFault::BadText(self.told(at)));
+            return Err(ValueFault::BadText(self.reported(at)));
         }
         match Signature::read(self.alloc, &body[1..last]) {
             Ok(types) => Ok(types),
             Err(NameFault::NoMemory) => Err(ValueFault::NoMemory),
-            Err(_) => Err(ValueFault::BadText(self.told(at))),
+            Err(_) => Err(ValueFault::BadText(self.reported(at))),
         }
     }
 
@@ -122,7 +99,7 @@ impl Reader {
     {
         let last = body.len() - 1;
         if body[last] != 0 || !is_text(&body[4..last]) {
-            return Err(ValueFault::BadText(self.told(at)));
+            return Err(ValueFault::BadText(self.reported(at)));
         }
         Ok(BasicValue::Str(Word::from_slice(self.alloc, &body[4..last])?))
     }
@@ -135,12 +112,12 @@ impl Reader {
     {
         let last = body.len() - 1;
         if body[last] != 0 {
-            return Err(ValueFault::BadText(self.told(at)));
+            return Err(ValueFault::BadText(self.reported(at)));
         }
         match ObjectPath::read(self.alloc, &body[4..last]) {
             Ok(path) => Ok(BasicValue::Path(path)),
             Err(NameFault::NoMemory) => Err(ValueFault::NoMemory),
-            Err(_) => Err(ValueFault::BadText(self.told(at))),
+            Err(_) => Err(ValueFault::BadText(self.reported(at))),
         }
     }
 
@@ -151,7 +128,7 @@ impl Reader {
         match number {
             0 => Ok(BasicValue::Bool(false)),
             1 => Ok(BasicValue::Bool(true)),
-            _ => Err(ValueFault::BadBool(self.told(at))),
+            _ => Err(ValueFault::BadBool(self.reported(at))),
         }
     }
 
@@ -209,7 +186,7 @@ impl Reader {
     {
         let last = body.len() - 1;
         if !is_text(&body[4..last]) || body[last] != 0 {
-            return Err(ValueFault::BadText(self.told(at)));
+            return Err(ValueFault::BadText(self.reported(at)));
         }
         Ok(())
     }
@@ -222,7 +199,7 @@ impl Reader {
     {
         let last = body.len() - 1;
         if body[last] != 0 || !ObjectPath::is_path(&body[4..last]) {
-            return Err(ValueFault::BadText(self.told(at)));
+            return Err(ValueFault::BadText(self.reported(at)));
         }
         Ok(())
     }
@@ -232,7 +209,7 @@ impl Reader {
         ensures { Accepts result (bool_by (self.start + at) number) }
     {
         if number > 1 {
-            return Err(ValueFault::BadBool(self.told(at)));
+            return Err(ValueFault::BadBool(self.reported(at)));
         }
         Ok(())
     }

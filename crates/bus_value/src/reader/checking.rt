@@ -47,7 +47,7 @@ impl Reader {
         let types = self.types(&bytes[at..next], at)?;
         let kinds = types.types();
         if !self.is_variant_type(kinds) {
-            return Err(ValueFault::BadVariant(self.told(at)));
+            return Err(ValueFault::BadVariant(self.reported(at)));
         }
         let end = self.deeper().check(&kinds[0], bytes, next)?;
         Ok(end)

@@ -84,7 +84,7 @@ impl Reader {
             return Err(self.cut_off(at));
         }
         if MOST_ELEMENT_BYTES < count {
-            return Err(ValueFault::BadLength(self.told(at)));
+            return Err(ValueFault::BadLength(self.reported(at)));
         }
         if short {
             return Err(self.cut_off(at));
@@ -154,7 +154,7 @@ impl Reader {
         let types = self.types(&bytes[at..next], at)?;
         let kinds = types.types();
         if !self.is_variant_type(kinds) {
-            return Err(ValueFault::BadVariant(self.told(at)));
+            return Err(ValueFault::BadVariant(self.reported(at)));
         }
         let (value, end) = self.deeper().value(&kinds[0], bytes, next)?;
         Ok((Value::variant(self.alloc, value)?, end))

@@ -61,7 +61,7 @@ impl Reader {
         let types = self.types(&bytes[at..next], at)?;
         let kinds = types.types();
         if !self.is_variant_type(kinds) {
-            return Err(ValueFault::BadVariant(self.told(at)));
+            return Err(ValueFault::BadVariant(self.reported(at)));
         }
         let (value, end) = self.deeper().basic_or_none(&kinds[0], bytes, next)?;
         Ok((value, end))

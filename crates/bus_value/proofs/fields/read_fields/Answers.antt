@@ -1,4 +1,4 @@
-use Rattle.std.proofs.Common.{◌≡◌, ℕ, ◌+◌, ◌∷◌, [], ◌∙◌, List, None, Ok, Err, ap, arith, inr, sym, rules, subst, drop, take}
+use Rattle.std.proofs.Common.{◌≡◌, ℕ, ◌+◌, ◌∷◌, [], ◌∙◌, Ok, Err, ap, inr, sym, rules, subst, drop, take}
 use Rattle.bus_value.specs.declared.fault.ValueFault.TheVariants.{BadLength}
 use Rattle.bus_value.specs.declared.reader.Reader.{Reader}
 use Rattle.bus_value.specs.Fields.{field_type, list_type, kept_by, kept_in}
@@ -33,8 +33,8 @@ returns-then-place-bytes c =
     let a = c.in_ok-place.place in
     let bytes = c.args.bytes.now in
     let left = fields_left c.args.most r bytes a c.in_ok-fields.fields (ap (λ (x : Reader). x.depth) c.new-reader.ensures) (ap (λ (x : Reader). x.array) c.new-reader.ensures) c.in_ok-place.ensures c.in_ok-fields.ensures c.if-place-bytes.true
-    ∙ ap (λ (n : ℕ). Err (BadLength n)) (sym c.told.ensures) in
-    inr (subst (λ (x : Reader). kept_in c.args.most x.order x.start (read_all x.order x.start (list_type ∷ []) bytes) ≡ Err (BadLength c.told.result)) c.new-reader.ensures left)
+    ∙ ap (λ (n : ℕ). Err (BadLength n)) (sym c.reported.ensures) in
+    inr (subst (λ (x : Reader). kept_in c.args.most x.order x.start (read_all x.order x.start (list_type ∷ []) bytes) ≡ Err (BadLength c.reported.result)) c.new-reader.ensures left)
 
 pub returns : goal.returns
 returns c =

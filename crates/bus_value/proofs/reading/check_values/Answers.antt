@@ -2,7 +2,7 @@ use Rattle.std.proofs.Common.{◌≡◌, ℕ, ◌+◌, drop, sym, ◌∙◌, ari
 use Rattle.bus_value.specs.declared.fault.ValueFault.TheVariants.{BadLength}
 use Rattle.bus_value.specs.declared.reader.Reader.{Reader}
 use Rattle.bus_value.specs.Reading.{read, in_turn, levels, read_all}
-use Rattle.bus_value.specs.Faults.{told}
+use Rattle.bus_value.specs.Faults.{reported}
 use Rattle.bus_value.proofs.Nesting.{nesting_within}
 use Rattle.bus_value.proofs.Containers.{onward}
 use Rattle.bus_value.proofs.Wholes.{all_read, all_left, all_fails, placed}
@@ -29,8 +29,8 @@ returns-then-end-bytes c =
     let start : r.start ≡ c.args.start = ap (λ (x : Reader). x.start) c.new-reader.ensures in
     let first = placed r (record { alloc = c.args.alloc; order = c.args.order; start = c.args.start; depth = 0; array = None }) c.args.kinds.now c.args.kinds.now c.args.bytes.now (Ok (passed.value, (r.start + end, drop end c.args.bytes.now))) c.new-reader.ensures refl passed.was
     ∙ ap (λ (n : ℕ). Ok (passed.value, (n + end, drop end c.args.bytes.now))) start in
-    let at : told (r.start + end) ≡ c.told.result = sym c.told.ensures in
-    inr (all_left c.args.order c.args.start c.args.kinds.now c.args.bytes.now passed.value end first c.if-end-bytes.true ∙ ap (λ (n : ℕ). Err (BadLength (told (n + end)))) (sym start) ∙ ap (λ (n : ℕ). Err (BadLength n)) at)
+    let at : reported (r.start + end) ≡ c.reported.result = sym c.reported.ensures in
+    inr (all_left c.args.order c.args.start c.args.kinds.now c.args.bytes.now passed.value end first c.if-end-bytes.true ∙ ap (λ (n : ℕ). Err (BadLength (reported (n + end)))) (sym start) ∙ ap (λ (n : ℕ). Err (BadLength n)) at)
 
 pub returns : goal.returns
 returns c =

@@ -3,7 +3,7 @@ use Rattle.bus_value.specs.declared.fault.ValueFault.TheVariants.{BadLength}
 use Rattle.bus_value.specs.declared.reader.Reader.{Reader}
 use Rattle.bus_value.specs.Reading.{read, in_turn, levels, read_all}
 use Rattle.bus_value.specs.Nesting.{nesting_all}
-use Rattle.bus_value.specs.Faults.{told}
+use Rattle.bus_value.specs.Faults.{reported}
 use Rattle.bus_value.proofs.Nesting.{nesting_within}
 use Rattle.bus_value.proofs.Containers.{onward}
 use Rattle.bus_value.proofs.Wholes.{all_read, all_left, all_fails, placed}
@@ -30,8 +30,8 @@ returns-then-last-bytes c =
     let start : c.new-reader.result.start ≡ c.args.start = ap (λ (r : Reader). r.start) c.new-reader.ensures in
     let first = placed c.new-reader.result (record { alloc = c.args.alloc; order = c.args.order; start = c.args.start; depth = 0; array = None }) c.types.result.now c.args.types.now c.args.bytes.now (Ok (vs, (c.new-reader.result.start + end, drop end c.args.bytes.now))) c.new-reader.ensures c.types.ensures.value c.in_ok-values.ensures.value.0
     ∙ ap (λ (n : ℕ). Ok (vs, (n + end, drop end c.args.bytes.now))) start in
-    let at : told (c.new-reader.result.start + end) ≡ c.told.result = sym c.told.ensures in
-    inr (all_left c.args.order c.args.start c.args.types.now c.args.bytes.now vs end first c.if-last-bytes.true ∙ ap (λ (n : ℕ). Err (BadLength (told (n + end)))) (sym start) ∙ ap (λ (n : ℕ). Err (BadLength n)) at)
+    let at : reported (c.new-reader.result.start + end) ≡ c.reported.result = sym c.reported.ensures in
+    inr (all_left c.args.order c.args.start c.args.types.now c.args.bytes.now vs end first c.if-last-bytes.true ∙ ap (λ (n : ℕ). Err (BadLength (reported (n + end)))) (sym start) ∙ ap (λ (n : ℕ). Err (BadLength n)) at)
 
 pub returns : goal.returns
 returns c =

@@ -250,7 +250,7 @@ check_variant-returns-then-not-is_variant_type-clause-value t c =
     let types : types_in (c.args.self.start + c.args.at) (take (c.args.at + c.in_ok-next.field-0 - c.args.at) (drop c.args.at c.args.bytes.now)) ≡ Ok c.types-kinds.result.now = c.in_ok-types.ensures ∙ ap (λ ts. Ok ts) (sym c.types-kinds.ensures.value) in
     let no : is_variant_type c.args.self.depth c.types-kinds.result.now ≡ false = search rules in
     inr (variant_types c.args.self c.args.bytes.now c.args.at c.in_ok-next.field-0 (sym c.in_ok-next.ensures.value) (let d = c.requires.depth in omega arith) (Ok c.types-kinds.result.now) types ∙ and_then_err (variant_type c.args.self.depth (c.args.self.start + c.args.at) c.types-kinds.result.now) _ _ (no_variant c.args.self.depth (c.args.self.start + c.args.at) c.types-kinds.result.now no)
-    ∙ ap (λ n. Err (BadVariant n)) (sym c.told.ensures))
+    ∙ ap (λ n. Err (BadVariant n)) (sym c.reported.ensures))
 
 pub check_variant-returns-in_err-end-clause-value : goal.check_variant-returns-in_err-end-clause-value
 check_variant-returns-in_err-end-clause-value t c =

@@ -1,4 +1,4 @@
-use Rattle.std.proofs.Common.{◌≡◌, ℕ, ◌+◌, ◌∙◌, ap, arith, refl, rules, drop}
+use Rattle.std.proofs.Common.{◌+◌, ◌∙◌, ap, arith, refl, rules, drop}
 use Rattle.bus_value.specs.Reading.{read, read_basic, levels, made}
 use Rattle.bus_value.specs.Values as values
 use Rattle.bus_value.proofs.Containers.{onward, made_err}

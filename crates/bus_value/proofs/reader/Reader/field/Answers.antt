@@ -1,8 +1,8 @@
-use Rattle.std.proofs.Common.{◌≡◌, ℕ, ◌+◌, [], ◌∷◌, sym, ◌∙◌, arith, ap, rules, Ok, Err, drop}
+use Rattle.std.proofs.Common.{◌≡◌, ℕ, ◌+◌, [], ◌∷◌, ◌∙◌, arith, ap, rules, Ok, Err, drop}
 use Rattle.bus_names.specs.declared.basic.Basic.TheVariants as kinds
 use Rattle.bus_names.specs.Types.{variant}
 use Rattle.bus_value.specs.Fields.{field_type, basic_in, byte_in, inside}
-use Rattle.bus_value.specs.Reading.{read, read_basic, levels, made}
+use Rattle.bus_value.specs.Reading.{read, read_basic, levels}
 use Rattle.bus_value.specs.Spelling.{pad_size}
 use Rattle.bus_value.specs.Values.{basic, struct, vals}
 use Rattle.bus_value.proofs.Containers.{onward}

@@ -1,4 +1,4 @@
-use Rattle.std.proofs.Common.{◌≡◌, ℕ, ◌+◌, ◌++◌, ◌∷◌, [], List, sym, arith, rules, subst, drop}
+use Rattle.std.proofs.Common.{◌+◌, List, sym, arith, rules, subst, drop}
 use Rattle.bus_value.specs.declared.fields.Field.{Field}
 use Rattle.bus_value.specs.Fields.{field_type, kept_by}
 use Rattle.bus_value.specs.Reading.{read, levels, to_end}

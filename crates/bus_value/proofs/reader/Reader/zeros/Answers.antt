@@ -7,7 +7,7 @@ use Rattle.bus_value.proofs.reader.Reader.zeros.Goals as goal
 
 pub returns-then-byte-ne0 : goal.returns-then-byte-ne0
 returns-then-byte-ne0 c =
-    ap (λ (n : ℕ). Err (Padding n)) c.told.ensures
+    ap (λ (n : ℕ). Err (Padding n)) c.reported.ensures
     ∙ sym (zeros_stop (c.args.self.start + c.loop-byte.next) c.loop-byte.byte-index c.args.padding.now c.loop-byte-test.true (grind (arith, nat_tests)))
     ∙ c.loop-byte.invariant.1
 

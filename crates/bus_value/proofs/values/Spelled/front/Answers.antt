@@ -1,4 +1,4 @@
-use Rattle.std.proofs.Common.{◌≡◌, ℕ, ◌+◌, List, drop, take, ap, arith, refl, rules, Ok, Err, None}
+use Rattle.std.proofs.Common.{◌≡◌, ◌+◌, drop, take, ap, arith, refl, rules, Ok, Err, None}
 use Rattle.bus_value.specs.declared.reader.Reader.{Reader}
 use Rattle.bus_value.specs.Nesting.{nesting_all}
 use Rattle.bus_value.specs.Reading.{in_turn, levels, read}
