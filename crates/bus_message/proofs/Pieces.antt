@@ -1,7 +1,7 @@
 -- A stream that is fed in pieces.
 use Rattle.std.proofs.Common.{◌≡◌, ℕ, ◌+◌, ◌^◌, ◌-◌, ◌<◌, ◌≤◌, min, List, [], ◌∷◌, ◌++◌, length, length-drop, take, drop, Option, Some, None, refl, ap, sym, ◌∙◌, subst, append_assoc, append-nil, arith}
 use Rattle.std.proofs.lemmas.List.{drop-drop, take_all}
-use Rattle.bus_value.specs.Faults.{told}
+use Rattle.bus_value.specs.Faults.{reported}
 use Rattle.bus_message.specs.declared.fault.Fault.{Fault}
 use Rattle.bus_message.specs.declared.fault.Malformed.{Malformed}
 use Rattle.bus_message.specs.declared.message.Message.{Message}
@@ -13,7 +13,7 @@ use Rattle.bus_message.specs.Cutting.{Whole, front, Cutting, cut_from, cut}
 use Rattle.bus_message.specs.Feeding.{Stream, kept, HasFed, Feeds, IsKept, Shows}
 use Rattle.bus_message.specs.Outcomes.{before, ended, cut_at, LeavesOpen, IsCutFrom, Gives}
 use Rattle.bus_message.specs.Laws.{MalformedForGood}
-use Rattle.bus_message.proofs.Zeros.{told_small}
+use Rattle.bus_message.proofs.Zeros.{reported_small}
 use Rattle.bus_message.proofs.Cuts.{cut_open, cut_bad, cut_whole, onward, resume, cut-append}
 
 -- the messages so far are those of so many bytes
@@ -53,9 +53,9 @@ last_way text pieces messages taken fault w is count why left =
     by None e place = w.same place ∙ ap (before messages) (cut_open (place + taken) (drop taken text) e)
     by (Some x) e place = w.same place ∙ ap (before messages) (cut_bad (place + taken) (drop taken text) x e)
 
-pub told_sum : (place place2 n : ℕ) → place2 ≡ told place → min (place2 + n) (2 ^ 64 - 1) ≡ told (place + n)
-unfolding told
-told_sum place place2 n e = omega (arith, e)
+pub reported_sum : (place place2 n : ℕ) → place2 ≡ reported place → min (place2 + n) (2 ^ 64 - 1) ≡ reported (place + n)
+unfolding reported
+reported_sum place place2 n e = omega (arith, e)
 
 pub whole_cut : (text : List ℕ) → cut text ≡ cut_at 0 text
 unfolding cut
@@ -80,7 +80,7 @@ malformed_for_good text piece place some =
 
 -- the answer of a stream that is not malformed
 fed_open : (old new : Stream) (piece : List ℕ) (answer : Cut) → old.malformed ≡ None
-    → ((place : ℕ) → old.place ≡ told place → Gives (cut_at place (old.rest ++ piece)) new answer)
+    → ((place : ℕ) → old.place ≡ reported place → Gives (cut_at place (old.rest ++ piece)) new answer)
     → Feeds old piece new answer
 fed_open old new piece answer running gives =
     let whole : (text : List ℕ) → HasFed old text → cut (text ++ piece) ≡ before (cut text).messages (cut_at (cut text).place (old.rest ++ piece)) =
@@ -106,7 +106,7 @@ fed_bad old piece answer place bad none same =
     }
 
 pub new_fed : (stream : Stream) → stream ≡ record { place = 0; rest = []; malformed = None } → HasFed stream []
-unfolding cut cut_from told
+unfolding cut cut_from reported
 new_fed stream is = record { state = is }
 
 ended_place : (p : ℕ) (rest : List ℕ) (f : Option Fault) → (ended p rest f).place ≡ p
@@ -120,7 +120,7 @@ ended_none p rest (Some x) = refl
 -- what is kept behind the messages
 pub settled : (now at : ℕ) (text rest : List ℕ) (malformed : Option Malformed) (pieces : Pieces) (answer : Cut)
     → IsCutFrom text pieces
-    → now ≡ told (at + pieces.taken)
+    → now ≡ reported (at + pieces.taken)
     → rest ≡ (ended (at + pieces.taken) (drop pieces.taken text) pieces.fault).rest
     → malformed ≡ (ended (at + pieces.taken) (drop pieces.taken text) pieces.fault).malformed
     → answer.messages ≡ pieces.messages → answer.malformed ≡ malformed
@@ -134,9 +134,9 @@ settled now at text rest malformed pieces answer is count left why messages same
       messages = messages ∙ sym (append-nil pieces.messages) ∙ ap (λ (ms : List Message). pieces.messages ++ ms) (sym none)
           ∙ sym (ap (λ (x : Cutting). x.messages) whole);
       malformed = same ∙ why ∙ sym (ap (λ (x : Cutting). x.malformed) whole);
-      kept_as = ap (λ (p : ℕ). record { place = p; rest = rest; malformed = malformed }) (count ∙ ap told (sym there))
-          ∙ ap (λ (x : List ℕ). record { place = told c.place; rest = x; malformed = malformed }) left
-          ∙ ap (λ (x : Option Malformed). record { place = told c.place; rest = c.rest; malformed = x }) why
+      kept_as = ap (λ (p : ℕ). record { place = p; rest = rest; malformed = malformed }) (count ∙ ap reported (sym there))
+          ∙ ap (λ (x : List ℕ). record { place = reported c.place; rest = x; malformed = malformed }) left
+          ∙ ap (λ (x : Option Malformed). record { place = reported c.place; rest = c.rest; malformed = x }) why
           ∙ sym (ap kept whole);
     }
 
@@ -146,13 +146,13 @@ ended_rest p q rest (Some x) = refl
 
 -- the same, wherever the rest is taken to stand
 pub settled_at : (place now at : ℕ) (text rest : List ℕ) (malformed : Option Malformed) (pieces : Pieces) (answer : Cut)
-    → IsCutFrom text pieces → place ≡ told at → now ≡ min (place + pieces.taken) (2 ^ 64 - 1)
+    → IsCutFrom text pieces → place ≡ reported at → now ≡ min (place + pieces.taken) (2 ^ 64 - 1)
     → rest ≡ (ended now (drop pieces.taken text) pieces.fault).rest
-    → ((to : ℕ) → now ≡ told to → malformed ≡ (ended to (drop pieces.taken text) pieces.fault).malformed)
+    → ((to : ℕ) → now ≡ reported to → malformed ≡ (ended to (drop pieces.taken text) pieces.fault).malformed)
     → answer.messages ≡ pieces.messages → answer.malformed ≡ malformed
     → Gives (cut_at at text) (record { place = now; rest = rest; malformed = malformed }) answer
 settled_at place now at text rest malformed pieces answer is from count left why messages same =
-    let reached : now ≡ told (at + pieces.taken) = count ∙ told_sum at place pieces.taken from in
+    let reached : now ≡ reported (at + pieces.taken) = count ∙ reported_sum at place pieces.taken from in
     settled now at text rest malformed pieces answer is reached (left ∙ ended_rest now (at + pieces.taken) (drop pieces.taken text) pieces.fault) (why (at + pieces.taken) reached) messages same
 
 kept_by : (f : Option Fault) (p q : ℕ) (text rest : List ℕ) (malformed : Option Malformed) → LeavesOpen f text → rest ≡ (ended p text f).rest → malformed ≡ (ended q text f).malformed → IsKept malformed rest
@@ -162,15 +162,15 @@ kept_by (Some x) p q text rest malformed h left why = rw (why, left) refl
 -- what is kept is as it is to be
 pub kept_so : (now : ℕ) (text rest : List ℕ) (malformed : Option Malformed) (pieces : Pieces) → IsCutFrom text pieces → now < 2 ^ 64
     → rest ≡ (ended now (drop pieces.taken text) pieces.fault).rest
-    → ((to : ℕ) → now ≡ told to → malformed ≡ (ended to (drop pieces.taken text) pieces.fault).malformed) → IsKept malformed rest
+    → ((to : ℕ) → now ≡ reported to → malformed ≡ (ended to (drop pieces.taken text) pieces.fault).malformed) → IsKept malformed rest
 kept_so now text rest malformed pieces is small left why =
-    kept_by pieces.fault now now (drop pieces.taken text) rest malformed is.rest left (why now (sym (told_small now small)))
+    kept_by pieces.fault now now (drop pieces.taken text) rest malformed is.rest left (why now (sym (reported_small now small)))
 
--- a fault as it is told
-pub bad_told : (at place offset : ℕ) (f : Option Fault) (x : Fault) (rest : List ℕ) → f ≡ Some x → place ≡ told at → offset ≡ min (place + x.offset) (2 ^ 64 - 1)
+-- a fault as it is reported
+pub bad_told : (at place offset : ℕ) (f : Option Fault) (x : Fault) (rest : List ℕ) → f ≡ Some x → place ≡ reported at → offset ≡ min (place + x.offset) (2 ^ 64 - 1)
     → Some (let m : Malformed = record { offset = offset; cause = x.cause } in m) ≡ (ended at rest f).malformed
 bad_told at place offset f x rest is from told_as =
-    rw is (ap (λ (n : ℕ). let m : Malformed = record { offset = n; cause = x.cause } in Some m) (told_as ∙ told_sum at place x.offset from))
+    rw is (ap (λ (n : ℕ). let m : Malformed = record { offset = n; cause = x.cause } in Some m) (told_as ∙ reported_sum at place x.offset from))
 
 rest_slice : (text : List ℕ) (taken : ℕ) → take (length text - taken) (drop taken text) ≡ drop taken text
 rest_slice text taken = take_all (length text - taken) (drop taken text) (omega (arith, length-drop taken text))
@@ -202,6 +202,6 @@ bad_shown text messages taken x n w h is =
 
 -- the same, of what is kept with the piece behind it
 pub fed_behind : (old new : Stream) (piece buffer : List ℕ) (answer : Cut) → old.malformed ≡ None → buffer ≡ old.rest ++ piece
-    → ((place : ℕ) → old.place ≡ told place → Gives (cut_at place buffer) new answer) → Feeds old piece new answer
+    → ((place : ℕ) → old.place ≡ reported place → Gives (cut_at place buffer) new answer) → Feeds old piece new answer
 fed_behind old new piece buffer answer running whole gives =
     fed_open old new piece answer running (λ place from. subst (λ (x : List ℕ). Gives (cut_at place x) new answer) whole (gives place from))

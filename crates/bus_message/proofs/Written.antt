@@ -128,8 +128,8 @@ name_told : (fault : List ℕ → Option ℕ) (o : Option (List ℕ)) → IsName
 name_told fault None h = refl
 name_told fault (Some text) h = rw h refl
 
-told : (m : Message) → HasNames m → Tells m (flat (entries m))
-told m h = record {
+entries_tell : (m : Message) → HasNames m → Tells m (flat (entries m))
+entries_tell m h = record {
   path = path_told m.path ∙ ap path_at (sym (found_flat 1 (entries m)));
   interface = name_told interface_fault m.interface h.target.interface ∙ ap (name_at interface_fault) (sym (found_flat 2 (entries m)));
   member = name_told member_fault m.member h.target.member ∙ ap (name_at member_fault) (sym (found_flat 3 (entries m)));
@@ -224,7 +224,7 @@ has_signature (v ∷ vs) fs e = rw e refl
 pub fields_kept_as : (m : Message) → HasNames m → has_required m ≡ true → HasFields m (flat (entries m))
 fields_kept_as m h required = record {
   known = all_fine (entries m) [] m.order 16 (fine_entries m h);
-  tells = told m h;
+  tells = entries_tell m h;
   required = required;
   no_handles = rw (found_flat 9 (entries m)) refl;
 }

@@ -2,23 +2,23 @@
 use Rattle.std.proofs.Common.{◌≡◌, ℕ, ◌+◌, ◌^◌, ◌<◌, ◌≤◌, List, length, get_or, drop, eqb, false, Result, Ok, Err, refl, ap, ◌∙◌, arith}
 use Rattle.std.proofs.lemmas.Bool.Decides.{nat_tests}
 use Rattle.bus_value.specs.declared.fault.ValueFault.TheVariants.{Padding}
-use Rattle.bus_value.specs.Faults.{told, zeros}
+use Rattle.bus_value.specs.Faults.{reported, zeros}
 use Rattle.bus_value.proofs.Padding.{zeros_stop, zeros_go, zeros_end}
 use Rattle.bus_message.specs.declared.fault.Cause.TheVariants.{BadField}
 use Rattle.bus_message.specs.declared.fault.Refusal.{Refusal}
 use Rattle.bus_message.specs.declared.fault.Refusal.TheVariants.{Malformed}
 use Rattle.bus_message.specs.Faults.{fault, for_cause, Gives}
 
-pub told_small : (n : ℕ) → n < 2 ^ 64 → told n ≡ n
-unfolding told
-told_small n h = omega arith
+pub reported_small : (n : ℕ) → n < 2 ^ 64 → reported n ≡ n
+unfolding reported
+reported_small n h = omega arith
 
 pub stops : (at i : ℕ) (padding : List ℕ) (r : Result (Unit {0}) Refusal) → at + length padding < 2 ^ 64 → zeros at padding ≡ zeros (at + i) (drop i padding) → i < length padding
     → (get_or padding i 0 ≡ 0 → ⊥) → r ≡ Err (Malformed (fault BadField (at + i))) → Gives r (for_cause BadField (zeros at padding))
 stops at i padding r room so less other is =
     let test : eqb (get_or padding i 0) 0 ≡ false = grind (arith, nat_tests) in
-    let stop : zeros at padding ≡ Err (Padding (told (at + i))) = so ∙ zeros_stop (at + i) i padding less test in
-    let small = told_small (at + i) (omega (arith, room, less)) in
+    let stop : zeros at padding ≡ Err (Padding (reported (at + i))) = so ∙ zeros_stop (at + i) i padding less test in
+    let small = reported_small (at + i) (omega (arith, room, less)) in
     rw (is, stop, small) refl
 
 pub goes : (at i : ℕ) (padding : List ℕ) → zeros at padding ≡ zeros (at + i) (drop i padding) → i < length padding → get_or padding i 0 ≡ 0

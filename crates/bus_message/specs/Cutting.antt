@@ -1,6 +1,6 @@
 -- A stream of messages: those at its front, and what is left.
 use Rattle.std.specs.Prelude.{ℕ, zero, suc, ◌+◌, nat_lt, List, [], ◌∷◌, length, take, drop, Option, Some, None, Result, Ok, Err, if◌then◌else◌}
-use Rattle.bus_value.specs.Faults.{told}
+use Rattle.bus_value.specs.Faults.{reported}
 use Rattle.bus_message.specs.declared.fault.Fault.{Fault}
 use Rattle.bus_message.specs.declared.fault.Malformed.{Malformed}
 use Rattle.bus_message.specs.declared.header.Header.{Header}
@@ -35,7 +35,7 @@ pub record Cutting : Type 0 where
 
 -- a fault of the message at a place in the stream
 abbrev pub in_stream : ℕ → Fault → Malformed
-in_stream place e = record { offset = told (place + e.offset); cause = e.cause }
+in_stream place e = record { offset = reported (place + e.offset); cause = e.cause }
 
 abbrev pub open_at : ℕ → List ℕ → Cutting
 open_at place bytes = record { messages = []; place = place; rest = bytes; malformed = None }

@@ -2,7 +2,7 @@
 use Rattle.std.specs.Prelude.{ℕ, ◌≡◌, ◌≤◌, List, [], ◌∷◌, ◌++◌, Option, Some, None, Result, Ok, Err, ⊤}
 use Rattle.std.specs.List.{AllByRecursion}
 use Rattle.login_base.specs.declared.memory.NoMemory.{NoMemory}
-use Rattle.bus_value.specs.Faults.{told}
+use Rattle.bus_value.specs.Faults.{reported}
 use Rattle.bus_message.specs.declared.fault.Malformed.{Malformed}
 use Rattle.bus_message.specs.declared.fault.Refusal.{Refusal}
 use Rattle.bus_message.specs.declared.fault.Refusal.TheVariants as refusals
@@ -13,7 +13,7 @@ use Rattle.bus_message.specs.declared.cutting.Next.TheVariants as next
 use Rattle.bus_message.specs.Grammar.{IsMessage}
 use Rattle.bus_message.specs.Cutting.{Showing, Open, Bad, Whole, front, Cutting, cut}
 
--- what is kept between two pieces: the place behind the messages, as it is told; the bytes from there on, of a
+-- what is kept between two pieces: the place behind the messages, as it is reported; the bytes from there on, of a
 -- message that is not whole; and what is wrong there
 pub record Stream : Type 0 where
   pub place : ℕ
@@ -21,7 +21,7 @@ pub record Stream : Type 0 where
   pub malformed : Option Malformed
 
 abbrev pub kept : Cutting → Stream
-kept c = record { place = told c.place; rest = c.rest; malformed = c.malformed }
+kept c = record { place = reported c.place; rest = c.rest; malformed = c.malformed }
 
 -- what was fed so far, all pieces joined, is this text
 pub record HasFed (stream : Stream) (text : List ℕ) : Type 0 where

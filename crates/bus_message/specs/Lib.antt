@@ -6,6 +6,7 @@ pub mod Checks
 pub mod Cutting
 pub mod Feeding
 pub mod Outcomes
+pub mod Bodies
 pub mod Spelling
 pub mod Grammar
 pub mod Stream

@@ -4,7 +4,7 @@ ghost use Rattle.std.specs.Prelude.{◌≡◌, ◌<◌, length, take, []};
 ghost use Rattle.bus_message.specs.Faults.{Gives};
 ghost use Rattle.bus_message.specs.Fields.{found, is_typed, is_bad, has_required};
 ghost use Rattle.bus_message.specs.Checks.{field_at, Tells};
-ghost use Rattle.bus_message.specs.inner.Kept.{first_bad, known_hold, shown};
+ghost use Rattle.bus_message.specs.inner.KnownFields.{first_bad, known_hold, shown};
 ghost use Rattle.bus_message.specs.Reading.{unless_bad};
 
 use crate::fault::{Cause, Refusal, refuse};

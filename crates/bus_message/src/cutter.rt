@@ -2,7 +2,7 @@
 
 ghost use Rattle.std.specs.Prelude.{◌≡◌, ◌≤◌, ℕ, [], length, drop, None, Some, Ok, OnErr, IfOk};
 ghost use Rattle.std.specs.Fn.{FnOnceReturnsAt};
-ghost use Rattle.bus_value.specs.Faults.{told};
+ghost use Rattle.bus_value.specs.Faults.{reported};
 ghost use Rattle.bus_message.specs.Feeding.{AreMessages, Feeds, HasFed, IsEnded, IsKept};
 ghost use Rattle.bus_message.specs.Outcomes.{IsCutFrom, Gives, ended, cut_at};
 
@@ -16,7 +16,7 @@ use std::marker::Model;
 /// A stream of messages. Its buffer grows by what is fed, and never by what a header says.
 #[derive(Drop)]
 pub struct Cutter {
-    /// Where the message that is not whole stands in the stream. A place that is above the last `u64` is told as that.
+    /// Where the message that is not whole stands in the stream. A place that is above the last `u64` is reported as that.
     place: u64,
     /// The bytes of the message that is not whole.
     buffer: Vec<u8>,
@@ -54,7 +54,7 @@ fn keep(
     requires running { malformed.old ≡ None }
     requires within { taken ≤ length buffer.old.items }
     ensures rest { buffer.new.items ≡ (ended place (drop taken buffer.old.items) fault).rest }
-    ensures malformed { (at : ℕ) → place ≡ told at → malformed.new ≡ (ended at (drop taken buffer.old.items) fault).malformed }
+    ensures malformed { (at : ℕ) → place ≡ reported at → malformed.new ≡ (ended at (drop taken buffer.old.items) fault).malformed }
 {
     match fault {
         None => drop_front(alloc, buffer, taken),
@@ -79,7 +79,7 @@ fn settle(
     requires running { malformed.old ≡ None }
     requires cut { IsCutFrom buffer.old.items pieces }
     ensures messages { result.messages ≡ pieces.messages }
-    ensures gives { (at : ℕ) → place.old ≡ told at → Gives (cut_at at buffer.old.items)
+    ensures gives { (at : ℕ) → place.old ≡ reported at → Gives (cut_at at buffer.old.items)
         (record { place = place.new; rest = buffer.new.items; malformed = malformed.new }) result }
     ensures kept { IsKept malformed.new buffer.new.items }
     ensures told { result.malformed ≡ malformed.new }

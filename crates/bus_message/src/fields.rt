@@ -3,7 +3,7 @@
 ghost use Rattle.std.specs.Prelude.{◌≡◌, ◌<◌, None, Some, is_some, IfOk, MatchOption};
 ghost use Rattle.bus_names.specs.Reading.{interface_fault, member_fault, bus_name_fault};
 ghost use Rattle.bus_message.specs.Fields.{found, plain, path_at, text_at, u32_at, types_at, name_at, signature};
-ghost use Rattle.bus_message.specs.inner.Kept.{shown};
+ghost use Rattle.bus_message.specs.inner.KnownFields.{shown};
 ghost use Rattle.bus_message.specs.inner.Names.{Names};
 
 use bus_names::{BusName, Interface, Member, NameFault, ObjectPath, Signature};

@@ -2,6 +2,7 @@
 //! any pieces, and how they are written.
 #![tactic(auto)]
 
+mod bodies;
 mod checks;
 mod cutter;
 mod cutting;
@@ -14,6 +15,7 @@ mod message;
 mod names;
 mod reading;
 
+pub use bodies::{alone, flag, joined, number, numbered};
 pub use cutter::{Cut, Cutter};
 pub use encoding::encode;
 pub use fault::{Cause, Malformed};

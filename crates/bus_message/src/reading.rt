@@ -5,7 +5,7 @@ ghost use Rattle.bus_value.specs.Faults.{zeros};
 ghost use Rattle.bus_value.specs.Reading.{read_all};
 ghost use Rattle.bus_message.specs.Faults.{Gives, for_cause};
 ghost use Rattle.bus_message.specs.Headers.{HasRoom, size};
-ghost use Rattle.bus_message.specs.inner.Kept.{fields_known, known_message, shown, with_known};
+ghost use Rattle.bus_message.specs.inner.KnownFields.{fields_known, known_message, shown, with_known};
 ghost use Rattle.bus_message.specs.inner.Parts.{target_in, parties_in};
 ghost use Rattle.bus_message.specs.Reading.{padding_read, headed, body_read, message_of};
 
@@ -36,7 +36,7 @@ fn read(
 }
 
 /// The known fields. All are checked, and the others are not kept.
-#[tactic(auto, unfolding(crate::specs::inner::Kept::fields_known))]
+#[tactic(auto, unfolding(crate::specs::inner::KnownFields::fields_known))]
 fn known_fields(alloc: Global, header: Header, bytes: &[u8]) -> Result<Items<Field>, Refusal>
     requires room { HasRoom header }
     requires whole { length bytes.now ≡ size header }
@@ -179,7 +179,7 @@ fn with_fields(
 }
 
 /// The message, by its known fields.
-#[tactic(auto, unfolding(crate::specs::inner::Kept::known_message))]
+#[tactic(auto, unfolding(crate::specs::inner::KnownFields::known_message))]
 fn known_message(alloc: Global, header: Header, bytes: &[u8]) -> Result<Message, Refusal>
     requires room { HasRoom header }
     requires whole { length bytes.now ≡ size header }

@@ -23,7 +23,7 @@ use Rattle.wire_calls.specs.Arguments.{are_short, is_short_value, signature_of}
 use Rattle.wire_calls.specs.Calls.{any_call, call_with, is_short_any}
 use Rattle.wire_calls.specs.Methods.{manager_method, properties_method, signed_any}
 use Rattle.wire_calls.specs.Sending.{property_type}
-use Rattle.wire_calls.specs.inner.Kept.{front_call, kept}
+use Rattle.wire_calls.specs.inner.KeptArguments.{front_call, kept}
 
 -- types are told by their signature, however deep they are nested
 one_signature : (ts us : List Shape) → signature_text ts ≡ signature_text us → ts ≡ us

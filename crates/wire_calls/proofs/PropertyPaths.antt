@@ -20,18 +20,13 @@ use Rattle.wire_calls.specs.Objects.{HasName, bus_path, has_properties, machine_
 use Rattle.wire_calls.proofs.Labels.{AreWords, escape_words}
 use Rattle.wire_calls.proofs.Naming.{one_path, whole}
 use Rattle.wire_calls.proofs.ObjectPaths.{number_words}
-use Rattle.wire_calls.proofs.TextBytes.{AreBytes, text_utf8, utf8_bytes}
+use Rattle.wire_calls.proofs.TextBytes.{AreBytes, both, text_utf8, utf8_bytes}
 
 pub record HasProperties (path : List ℕ) : Type 0 where
   pub object : Object
   pub is : path ≡ path_of object
   pub named : HasName object
   pub propertied : has_properties object ≡ true
-
-both : (a b : Bool) → (a && b) ≡ true → (a ≡ true) × (b ≡ true)
-both true true e = (refl, refl)
-both true false e = cc
-both false b e = cc
 
 -- a front and the escape of a text
 under : (front path : List ℕ) → is_under front is_label path ≡ true → (path ≡ front ++ escape (decoded (behind front path))) × (is_text (decoded (behind front path)) ≡ true)

@@ -53,12 +53,8 @@ use Rattle.wire_calls.specs.Objects.{begins, behind, bus_path, has_properties, i
 use Rattle.wire_calls.specs.Reading.{at_path, call_of, is_peer, lets, method_of, on_method, on_object, own_method, peer_method, properties_method, request_of}
 use Rattle.wire_calls.specs.Reading.{peer as peer_interface, properties as properties_interface}
 use Rattle.wire_calls.specs.Sending.{HasTexts}
+use Rattle.wire_calls.proofs.TextBytes.{both}
 use Rattle.wire_calls.proofs.PropertyPaths.{properties_object}
-
-both : (a b : Bool) → (a && b) ≡ true → (a ≡ true) × (b ≡ true)
-both true true e = (refl, refl)
-both true false e = cc
-both false b e = cc
 
 -- UTF-8 without NUL that is short, by tests
 tested_no_nul : (bs : List ℕ) → list_all (λ b. not (eqb b 0)) bs ≡ true → AllByRecursion (λ b. b ≢ 0) bs

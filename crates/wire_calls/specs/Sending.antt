@@ -12,9 +12,10 @@ use Rattle.login_model.specs.Limits.{text_limit}
 use Rattle.login_model.specs.Texts.{IsText, texts}
 use Rattle.bus_names.specs.declared.basic.Basic.TheVariants as types
 use Rattle.bus_names.specs.Types.{Shape, basic as basic_type, struct, variant, more, none as no_fields}
-use Rattle.bus_value.specs.declared.basic_value.BasicValue.TheVariants.{Str, U32, I32, Bool as Flag}
+use Rattle.bus_value.specs.declared.basic_value.BasicValue.TheVariants.{I32}
 use Rattle.bus_value.specs.declared.order.Order.TheVariants.{Little}
 use Rattle.bus_value.specs.Values.{Val, basic, array, none, variant as variant_of}
+pub use Rattle.bus_message.specs.Bodies.{text, number, flag}
 use Rattle.bus_message.specs.declared.message.Message.{Message}
 use Rattle.wire_calls.specs.declared.manager.ManagerMethod.TheVariants as manager
 use Rattle.wire_calls.specs.declared.session.SessionMethod.TheVariants as session
@@ -86,15 +87,6 @@ sent_as call.GetMachineId = Some (Peer peer.GetMachineId)
 sent_as c = option_map Own (own_sent_as c)
 
 -- values of the types of arguments
-abbrev pub text : List ℕ → Val
-text t = basic (Str t)
-
-abbrev pub number : ℕ → Val
-number n = basic (U32 n)
-
-abbrev pub flag : Bool → Val
-flag b = basic (Flag b)
-
 abbrev pub signal : ℤ → Val
 signal n = basic (I32 n)
 

@@ -1,3 +1,3 @@
 -- What serves private functions.
 pub mod Fitting
-pub mod Kept
+pub mod KeptArguments

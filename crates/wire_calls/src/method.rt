@@ -4,7 +4,7 @@ ghost use Rattle.std.specs.Prelude.{◌≡◌, IfOk};
 ghost use Rattle.std.specs.Str.{bytes_eq};
 ghost use Rattle.wire_calls.specs.Arguments.{signature_of};
 ghost use Rattle.wire_calls.specs.Calls.{call_with};
-ghost use Rattle.wire_calls.specs.inner.Kept.{front_call};
+ghost use Rattle.wire_calls.specs.inner.KeptArguments.{front_call};
 
 use crate::arguments::{are_short, is_short};
 use crate::bus::{BusMethod, PeerMethod, PropertiesMethod, bus_call, peer_call, properties_call};
@@ -144,7 +144,7 @@ impl AnyMethod {
     ghost use Rattle.bus_names.specs.Reading.{path_fault};
     ghost use Rattle.wire_calls.specs.Calls.{any_call, is_short_any};
     ghost use Rattle.wire_calls.specs.Methods.{signed_any};
-    ghost use Rattle.wire_calls.specs.inner.Kept.{kept};
+    ghost use Rattle.wire_calls.specs.inner.KeptArguments.{kept};
     ghost use Rattle.wire_calls.specs.Sending.{interface_at, path_at};
 
     /// The method's name.

@@ -5,7 +5,7 @@ ghost use Rattle.std.specs.Fmt.{decimal};
 ghost use Rattle.login_base.specs.Labels.{escape};
 ghost use Rattle.wire_calls.specs.Objects.{object_of, text_of, user_front, user_of};
 
-use bus_message::made_path;
+use bus_message::{joined, made_path, numbered};
 use bus_names::{NameFault, ObjectPath, unescape_label};
 use bus_value::is_text;
 use login_base::{NoMemory, Uid, Word, escape, read_number};
@@ -91,15 +91,6 @@ impl Object {
     }
 }
 
-/// The bytes of a text behind a front.
-fn joined(alloc: Global, front: &[u8], text: &[u8]) -> Result<Vec<u8>, NoMemory>
-    ensures { IfOk result (λ bytes. bytes.items ≡ front.now ++ text.now) }
-{
-    let mut bytes = Vec::from_slice(alloc, front)?;
-    bytes.extend_from_slice(text)?;
-    Ok(bytes)
-}
-
 /// The escape of a text behind a front.
 fn escaped(alloc: Global, front: &[u8], text: &Word) -> Result<Vec<u8>, NoMemory>
     ensures { IfOk result (λ bytes. bytes.items ≡ front.now ++ escape text.now) }
@@ -112,9 +103,7 @@ fn escaped(alloc: Global, front: &[u8], text: &Word) -> Result<Vec<u8>, NoMemory
 fn user_path(alloc: Global, uid: Uid) -> Result<Vec<u8>, NoMemory>
     ensures { IfOk result (λ bytes. bytes.items ≡ user_front ++ decimal uid.0) }
 {
-    let number = uid.0;
-    let digits = format!(in alloc; "{number}")?;
-    joined(alloc, USERS, digits.as_bytes())
+    numbered(alloc, USERS, uid.0)
 }
 
 /// The text of which a label is the escape, if it is UTF-8 without NUL.

@@ -19,7 +19,7 @@ use crate::reading::METHOD_CALL;
 use crate::seat::SeatMethod;
 use crate::session::SessionMethod;
 use crate::user::UserMethod;
-use bus_message::{Message, made_interface, made_member};
+use bus_message::{Message, alone, flag, made_interface, made_member, number};
 use bus_names::{Basic, Interface, Member, ObjectPath, Type};
 use bus_value::{BasicValue, Order, Value, Values};
 use login_base::{DevNo, Items, NoMemory, Uid, Word};
@@ -116,20 +116,6 @@ fn text(word: &Word) -> Result<Value, NoMemory>
     Ok(Value::basic(BasicValue::Str(word.copied()?)))
 }
 
-/// A number as a value.
-fn number(value: u32) -> Value
-    ensures { result ≡ number value }
-{
-    Value::basic(BasicValue::U32(value))
-}
-
-/// A flag as a value.
-fn flag(value: bool) -> Value
-    ensures { result ≡ flag value }
-{
-    Value::basic(BasicValue::Bool(value))
-}
-
 /// A signal as a value.
 fn signal(value: i32) -> Value
     ensures { result ≡ signal value }
@@ -144,13 +130,6 @@ fn no_properties(alloc: Global) -> Result<Value, NoMemory>
     let parts = [Type::basic(Basic::Str), Type::variant()];
     let property = Type::structure(alloc, Vec::from_array(alloc, parts)?)?;
     Ok(Value::array(property, Vec::new(alloc)))
-}
-
-/// One value alone.
-fn alone(alloc: Global, value: Value) -> Result<Vec<Value>, NoMemory>
-    ensures { IfOk result (λ values. values.items ≡ value ∷ []) }
-{
-    Ok(Vec::from_array(alloc, [value])?)
 }
 
 /// A device's numbers.

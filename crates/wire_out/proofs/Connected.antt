@@ -5,7 +5,7 @@ use Rattle.std.proofs.lemmas.Grind.{flat_map-append}
 use Rattle.login_base.specs.declared.ids.ConnId.{ConnId}
 use Rattle.login_model.specs.declared.mark.Entry.{Entry}
 use Rattle.bus_message.specs.declared.message.Message.{Message}
-use Rattle.wire_out.specs.Mail.{before_disconnect, behind_connect, connects, is_disconnect, messages_of, told}
+use Rattle.wire_out.specs.Mail.{before_disconnect, behind_connect, connects, is_disconnect, messages_of, messages_to}
 
 -- whether an entry connects it, and whether one disconnects it
 abbrev pub has_connect : ConnId → List Entry → Bool
@@ -64,17 +64,17 @@ said c es = flat_map (messages_of c) es
 -- ---- what is told by a journal that goes on
 
 -- nothing, where no entry connects it
-pub told_none : (c : ConnId) (J : List Entry) → has_connect c J ≡ false → told c J ≡ []
-told_none c J h = ap (λ (es : List Entry). said c (before_disconnect c es)) (ap (behind_connect c) (sym (append-nil J)) ∙ behind_later c J [] h)
+pub messages_none : (c : ConnId) (J : List Entry) → has_connect c J ≡ false → messages_to c J ≡ []
+messages_none c J h = ap (λ (es : List Entry). said c (before_disconnect c es)) (ap (behind_connect c) (sym (append-nil J)) ∙ behind_later c J [] h)
 
 -- what follows alone, where no entry before connects it
-pub told_later : (c : ConnId) (J K : List Entry) → has_connect c J ≡ false → told c (J ++ K) ≡ told c K
-told_later c J K h = ap (λ (es : List Entry). said c (before_disconnect c es)) (behind_later c J K h)
+pub messages_later : (c : ConnId) (J K : List Entry) → has_connect c J ≡ false → messages_to c (J ++ K) ≡ messages_to c K
+messages_later c J K h = ap (λ (es : List Entry). said c (before_disconnect c es)) (behind_later c J K h)
 
 -- while it is connected, what follows up to its disconnect as well
-pub told_more : (c : ConnId) (J K : List Entry) → has_connect c J ≡ true → has_disconnect c (behind_connect c J) ≡ false
-    → told c (J ++ K) ≡ told c J ++ said c (before_disconnect c K)
-told_more c J K h g =
+pub messages_more : (c : ConnId) (J K : List Entry) → has_connect c J ≡ true → has_disconnect c (behind_connect c J) ≡ false
+    → messages_to c (J ++ K) ≡ messages_to c J ++ said c (before_disconnect c K)
+messages_more c J K h g =
     let B : List Entry = behind_connect c J in
     ap (λ (es : List Entry). said c (before_disconnect c es)) (behind_more c J K h)
     ∙ (ap (said c) (before_more c B K g)
@@ -82,6 +82,6 @@ told_more c J K h g =
     ∙ ap (λ (es : List Entry). said c es ++ said c (before_disconnect c K)) (sym (before_all c B g))))
 
 -- nothing more behind its disconnect
-pub told_ended : (c : ConnId) (J K : List Entry) → has_connect c J ≡ true → has_disconnect c (behind_connect c J) ≡ true → told c (J ++ K) ≡ told c J
-told_ended c J K h g =
+pub messages_ended : (c : ConnId) (J K : List Entry) → has_connect c J ≡ true → has_disconnect c (behind_connect c J) ≡ true → messages_to c (J ++ K) ≡ messages_to c J
+messages_ended c J K h g =
     ap (λ (es : List Entry). said c (before_disconnect c es)) (behind_more c J K h) ∙ ap (said c) (before_ended c (behind_connect c J) K g)

@@ -10,10 +10,10 @@ use Rattle.login_model.specs.declared.mark.Entry.{Entry}
 use Rattle.bus_message.specs.declared.message.Message.{Message}
 use Rattle.bus_message.specs.Spelling.{message_bytes}
 use Rattle.wire_out.specs.declared.delivery.Delivery.{Delivery}
-use Rattle.wire_out.specs.Mail.{behind_connect, bytes_of, connects, is_disconnect, messages_of, numbered, told}
+use Rattle.wire_out.specs.Mail.{behind_connect, bytes_of, connects, is_disconnect, messages_of, messages_to, numbered}
 use Rattle.wire_out.specs.Places.{is_open}
-use Rattle.wire_out.specs.inner.Delivered.{Adds, IsAt, IsDelivered, Steps, open_behind, told_by}
-use Rattle.wire_out.proofs.Connected.{behind_later, behind_more, has_connect, has_disconnect, told_ended, told_later, told_more, told_none}
+use Rattle.wire_out.specs.inner.Delivered.{Adds, IsAt, IsDelivered, Steps, messages_by, open_behind}
+use Rattle.wire_out.proofs.Connected.{behind_later, behind_more, has_connect, has_disconnect, messages_ended, messages_later, messages_more, messages_none}
 use Rattle.wire_out.proofs.Growing.{length_numbered, numbered_append}
 
 -- ---- one behind the other
@@ -136,21 +136,21 @@ open_one_more c J e once = by (has_connect c J) (has_disconnect c (behind_connec
     by true true h g = rw (at_end, h, behind_end true h g) (sym (not_now (connects c e) once h))
 
 -- and what it is told
-pub told_one_more : (c : ConnId) (J : List Entry) (e : Entry) → told c (J ++ e ∷ []) ≡ told c J ++ told_by c (is_open c J) e
-told_one_more c J e = by (has_connect c J) (has_disconnect c (behind_connect c J)) refl refl
+pub messages_one_more : (c : ConnId) (J : List Entry) (e : Entry) → messages_to c (J ++ e ∷ []) ≡ messages_to c J ++ messages_by c (is_open c J) e
+messages_one_more c J e = by (has_connect c J) (has_disconnect c (behind_connect c J)) refl refl
   where
     alone : (b : Bool) → flat_map (messages_of c) (cond b [] (e ∷ [])) ≡ cond (true && not b) (messages_of c e) []
     alone true = refl
     alone false = append-nil (messages_of c e)
 
-    first : (b : Bool) → has_connect c J ≡ false → connects c e ≡ b → told c (e ∷ []) ≡ []
+    first : (b : Bool) → has_connect c J ≡ false → connects c e ≡ b → messages_to c (e ∷ []) ≡ []
     first true h g = rw g refl
     first false h g = rw g refl
 
-    by : (b d : Bool) → has_connect c J ≡ b → has_disconnect c (behind_connect c J) ≡ d → told c (J ++ e ∷ []) ≡ told c J ++ told_by c (b && not d) e
-    by false d h g = told_later c J (e ∷ []) h ∙ (first (connects c e) h refl ∙ ap (λ (ms : List Message). ms ++ []) (sym (told_none c J h)))
-    by true false h g = told_more c J (e ∷ []) h g ∙ ap (λ (ms : List Message). told c J ++ ms) (alone (is_disconnect c e.event))
-    by true true h g = told_ended c J (e ∷ []) h g ∙ sym (append-nil (told c J))
+    by : (b d : Bool) → has_connect c J ≡ b → has_disconnect c (behind_connect c J) ≡ d → messages_to c (J ++ e ∷ []) ≡ messages_to c J ++ messages_by c (b && not d) e
+    by false d h g = messages_later c J (e ∷ []) h ∙ (first (connects c e) h refl ∙ ap (λ (ms : List Message). ms ++ []) (sym (messages_none c J h)))
+    by true false h g = messages_more c J (e ∷ []) h g ∙ ap (λ (ms : List Message). messages_to c J ++ ms) (alone (is_disconnect c e.event))
+    by true true h g = messages_ended c J (e ∷ []) h g ∙ sym (append-nil (messages_to c J))
 
 -- the delivery goes on by one entry
 pub at_one_more : (old new : Delivery) (J : List Entry) (e : Entry) → NotAgain old.who J e → IsAt old J → Steps old new e → IsAt new (J ++ e ∷ [])
@@ -161,7 +161,7 @@ at_one_more old new J e once h s = record {
       ∙ (sym (open_one_more old.who J e once) ∙ ap (λ (c : ConnId). is_open c (J ++ e ∷ [])) (sym s.who)));
   delivered =
       subst (IsDelivered new)
-      (ap (λ (b : Bool). told old.who J ++ told_by old.who b e) h.connected
-      ∙ (sym (told_one_more old.who J e) ∙ ap (λ (c : ConnId). told c (J ++ e ∷ [])) (sym s.who)))
-      (s.delivered (told old.who J) h.delivered);
+      (ap (λ (b : Bool). messages_to old.who J ++ messages_by old.who b e) h.connected
+      ∙ (sym (messages_one_more old.who J e) ∙ ap (λ (c : ConnId). messages_to c (J ++ e ∷ [])) (sym s.who)))
+      (s.delivered (messages_to old.who J) h.delivered);
 }

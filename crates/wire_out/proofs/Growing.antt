@@ -8,9 +8,9 @@ use Rattle.login_model.specs.declared.mark.Entry.{Entry}
 use Rattle.bus_message.specs.declared.message.Message.{Message}
 use Rattle.bus_message.specs.Spelling.{message_bytes}
 use Rattle.wire_out.specs.Laws.{MailGoesOn, NoMailApart, PlaceGoesOn, WireGoesOn}
-use Rattle.wire_out.specs.Mail.{before_disconnect, behind_connect, bytes_of, mail, messages_of, numbered, told}
+use Rattle.wire_out.specs.Mail.{before_disconnect, behind_connect, bytes_of, mail, messages_of, messages_to, numbered}
 use Rattle.wire_out.specs.Places.{place_of}
-use Rattle.wire_out.proofs.Connected.{has_connect, has_disconnect, told_ended, told_later, told_more, told_none}
+use Rattle.wire_out.proofs.Connected.{has_connect, has_disconnect, messages_ended, messages_later, messages_more, messages_none}
 
 pub length_numbered : (n : ℕ) (ms : List Message) → length (numbered n ms) ≡ length ms
 length_numbered n [] = refl
@@ -23,21 +23,21 @@ numbered_append n (m ∷ ms) more =
     (numbered_append (n + 1) ms more ∙ ap (λ (k : ℕ). numbered (n + 1) ms ++ numbered k more) (omega arith))
 
 -- what a journal tells more than one that it begins with
-pub told_grows : (c : ConnId) (J K : List Entry) → (rest : List Message) × (told c (J ++ K) ≡ told c J ++ rest)
-told_grows c J K = by (has_connect c J) (has_disconnect c (behind_connect c J)) refl refl
+pub messages_grow : (c : ConnId) (J K : List Entry) → (rest : List Message) × (messages_to c (J ++ K) ≡ messages_to c J ++ rest)
+messages_grow c J K = by (has_connect c J) (has_disconnect c (behind_connect c J)) refl refl
   where
-    by : (b d : Bool) → has_connect c J ≡ b → has_disconnect c (behind_connect c J) ≡ d → (rest : List Message) × (told c (J ++ K) ≡ told c J ++ rest)
-    by false d h g = (told c K, told_later c J K h ∙ ap (λ (ms : List Message). ms ++ told c K) (sym (told_none c J h)))
-    by true false h g = (flat_map (messages_of c) (before_disconnect c K), told_more c J K h g)
-    by true true h g = ([], told_ended c J K h g ∙ sym (append-nil (told c J)))
+    by : (b d : Bool) → has_connect c J ≡ b → has_disconnect c (behind_connect c J) ≡ d → (rest : List Message) × (messages_to c (J ++ K) ≡ messages_to c J ++ rest)
+    by false d h g = (messages_to c K, messages_later c J K h ∙ ap (λ (ms : List Message). ms ++ messages_to c K) (sym (messages_none c J h)))
+    by true false h g = (flat_map (messages_of c) (before_disconnect c K), messages_more c J K h g)
+    by true true h g = ([], messages_ended c J K h g ∙ sym (append-nil (messages_to c J)))
 
 pub mail_grows : MailGoesOn
 unfolding mail
 mail_grows c J more =
-    let g = told_grows c J more in
-    let front : List Message = numbered 1 (told c J) in
-    let rest : List Message = numbered (1 + length (told c J)) g.0 in
-    let whole : numbered 1 (told c (J ++ more)) ≡ front ++ rest = ap (numbered 1) g.1 ∙ numbered_append 1 (told c J) g.0 in
+    let g = messages_grow c J more in
+    let front : List Message = numbered 1 (messages_to c J) in
+    let rest : List Message = numbered (1 + length (messages_to c J)) g.0 in
+    let whole : numbered 1 (messages_to c (J ++ more)) ≡ front ++ rest = ap (numbered 1) g.1 ∙ numbered_append 1 (messages_to c J) g.0 in
     whole ∙ ap (λ (ms : List Message). front ++ ms) (sym (ap (drop (length front)) whole ∙ drop-append_seam front rest))
 
 pub wire_grows : WireGoesOn
@@ -51,7 +51,7 @@ pub apart : NoMailApart
 unfolding mail
 apart c J more closed none = ap (numbered 1) (by (has_connect c J) (has_disconnect c (behind_connect c J)) refl refl closed)
   where
-    by : (b d : Bool) → has_connect c J ≡ b → has_disconnect c (behind_connect c J) ≡ d → (b && not d) ≡ false → told c (J ++ more) ≡ told c J
-    by false d h g k = told_later c J more h ∙ (told_none c more none ∙ sym (told_none c J h))
+    by : (b d : Bool) → has_connect c J ≡ b → has_disconnect c (behind_connect c J) ≡ d → (b && not d) ≡ false → messages_to c (J ++ more) ≡ messages_to c J
+    by false d h g k = messages_later c J more h ∙ (messages_none c more none ∙ sym (messages_none c J h))
     by true false h g k = cc
-    by true true h g k = told_ended c J more h g
+    by true true h g k = messages_ended c J more h g

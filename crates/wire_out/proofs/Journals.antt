@@ -20,7 +20,7 @@ use Rattle.login_model.specs.declared.mark.Notice.TheVariants as notice
 use Rattle.login_base.specs.declared.ids.SessId.{SessId}
 use Rattle.login_model.specs.declared.rule.Verdict.{Verdict}
 use Rattle.login_model.specs.declared.setup.Setup.{Setup}
-use Rattle.wire_out.specs.Mail.{before_disconnect, behind_connect, connects, expects_reply, is_connect, is_disconnect, is_for, messages_of, replies, reply, signals_to, told}
+use Rattle.wire_out.specs.Mail.{before_disconnect, behind_connect, connects, expects_reply, is_connect, is_disconnect, is_for, messages_of, messages_to, replies, reply, signals_to}
 use Rattle.wire_out.specs.Signals.{active_changed, seat_changed, signals}
 use Rattle.wire_out.specs.inner.Delivered.{most_of}
 use Rattle.wire_out.proofs.Connected.{has_connect}
@@ -179,8 +179,8 @@ behind_few c (e ∷ es) = by (connects c e) (behind_few c es)
     by true h = omega arith
     by false h = omega (arith, h)
 
-pub told_few : (c : ConnId) (J : List Entry) → length (told c J) ≤ weight J
-told_few c J =
+pub messages_few : (c : ConnId) (J : List Entry) → length (messages_to c J) ≤ weight J
+messages_few c J =
     let a = said_few c (before_disconnect c (behind_connect c J)) in
     let b = before_few c (behind_connect c J) in
     let d = behind_few c J in
@@ -193,9 +193,9 @@ weight_at (e ∷ es) (suc i) d below = let h = weight_at es i d (omega arith) in
 
 -- the serials have room for the messages of one more entry
 pub room_at : (c : ConnId) (J : List Entry) (i : ℕ) (d : Entry) (sent : ℕ) → i < length J → length J ≤ entries_limit → mark_count J ≤ marks_limit
-    → sent ≡ length (told c (take i J)) → sent + most_of (get_or J i d) < 2 ^ 32
+    → sent ≡ length (messages_to c (take i J)) → sent + most_of (get_or J i d) < 2 ^ 32
 room_at c J i d sent below few marks is =
-    let a = told_few c (take i J) in
+    let a = messages_few c (take i J) in
     let b = weight_at J i d below in
     let w = weight_is J in
     omega (arith, a, b, w, few, marks, is)

@@ -3,15 +3,15 @@ use Rattle.std.proofs.Common.{◌≡◌, ℕ, Bool, List, [], length, take, drop
 use Rattle.login_base.specs.declared.ids.ConnId.{ConnId}
 use Rattle.login_model.specs.declared.mark.Entry.{Entry}
 use Rattle.wire_out.specs.declared.delivery.Delivery.{Delivery}
-use Rattle.wire_out.specs.Mail.{bytes_of, mail, told}
+use Rattle.wire_out.specs.Mail.{bytes_of, mail, messages_to}
 use Rattle.wire_out.specs.Places.{IsPlaceIn, Place, is_open, place_of}
 use Rattle.wire_out.specs.inner.Delivered.{IsAt}
 use Rattle.wire_out.proofs.Delivering.{no_bytes}
 use Rattle.wire_out.proofs.Growing.{length_numbered}
 
-long_mail : (c : ConnId) (J : List Entry) → length (mail c J) ≡ length (told c J)
+long_mail : (c : ConnId) (J : List Entry) → length (mail c J) ≡ length (messages_to c J)
 unfolding mail
-long_mail c J = length_numbered 1 (told c J)
+long_mail c J = length_numbered 1 (messages_to c J)
 
 -- all that is told by the first entries was fetched
 pub at_place : (d : Delivery) (p : Place) (J : List Entry) → IsPlaceIn p J → d.who ≡ p.who → d.connected ≡ p.connected → d.sent ≡ p.fetched → d.from ≡ p.fetched → d.bytes.items ≡ []
@@ -19,10 +19,10 @@ pub at_place : (d : Delivery) (p : Place) (J : List Entry) → IsPlaceIn p J →
 at_place d p J h who connected sent from bytes =
     let front : List Entry = take p.entries J in
     let opened : d.connected ≡ is_open d.who front = connected ∙ (ap (λ (q : Place). q.connected) h ∙ ap (λ (c : ConnId). is_open c front) (sym who)) in
-    let fetched : p.fetched ≡ length (told d.who front) = ap (λ (q : Place). q.fetched) h ∙ (long_mail p.who front ∙ ap (λ (c : ConnId). length (told c front)) (sym who)) in
+    let fetched : p.fetched ≡ length (messages_to d.who front) = ap (λ (q : Place). q.fetched) h ∙ (long_mail p.who front ∙ ap (λ (c : ConnId). length (messages_to c front)) (sym who)) in
     record {
       connected = opened;
-      delivered = record { sent = sent ∙ fetched; bytes = bytes ∙ sym (no_bytes d.from (told d.who front) (omega (arith, from, fetched))) };
+      delivered = record { sent = sent ∙ fetched; bytes = bytes ∙ sym (no_bytes d.from (messages_to d.who front) (omega (arith, from, fetched))) };
     }
 
 -- the bytes behind those fetched before

@@ -84,8 +84,8 @@ messages_of c e = replies c e.event e.verdict e.answer ++ flat_map (signals_to c
 -- ---- the mail
 
 -- the messages of the entries while it is connected
-abbrev pub told : ConnId → List Entry → List Message
-told c J = flat_map (messages_of c) (before_disconnect c (behind_connect c J))
+abbrev pub messages_to : ConnId → List Entry → List Message
+messages_to c J = flat_map (messages_of c) (before_disconnect c (behind_connect c J))
 
 -- messages with the serials from one on
 abbrev pub numbered : ℕ → List Message → List Message
@@ -94,7 +94,7 @@ numbered n (m ∷ ms) = record m { serial = n } ∷ numbered (n + 1) ms
 
 -- the mail of a connection by a journal
 unfoldable pub mail : ConnId → List Entry → List Message
-mail c J = numbered 1 (told c J)
+mail c J = numbered 1 (messages_to c J)
 
 -- the bytes of messages, joined
 abbrev pub bytes_of : List Message → List ℕ

@@ -1,8 +1,9 @@
 -- Messages that are sent (D-Bus Specification, "Message Types"). They have no serial yet; the mail numbers them.
-use Rattle.std.specs.Prelude.{ℕ, Bool, Some, None, List, [], ◌∷◌, codes}
-use Rattle.bus_value.specs.declared.basic_value.BasicValue.TheVariants.{Str, Path, U32, Bool as Flag}
+use Rattle.std.specs.Prelude.{ℕ, Some, None, List, [], ◌∷◌, codes}
+use Rattle.bus_value.specs.declared.basic_value.BasicValue.TheVariants.{Path}
 use Rattle.bus_value.specs.declared.order.Order.TheVariants.{Little}
 use Rattle.bus_value.specs.Values.{Val, basic, struct, vals}
+pub use Rattle.bus_message.specs.Bodies.{text, number, flag}
 use Rattle.bus_message.specs.declared.message.Message.{Message}
 
 -- the name of the connection that sends them
@@ -27,17 +28,8 @@ return_message call vs = record {
 }
 
 -- values of the types of arguments
-abbrev pub text : List ℕ → Val
-text t = basic (Str t)
-
 abbrev pub path : List ℕ → Val
 path t = basic (Path t)
-
-abbrev pub number : ℕ → Val
-number n = basic (U32 n)
-
-abbrev pub flag : Bool → Val
-flag b = basic (Flag b)
 
 abbrev pub structure : List Val → Val
 structure vs = struct (vals vs)

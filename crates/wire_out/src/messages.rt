@@ -4,8 +4,8 @@ ghost use Rattle.std.specs.Prelude.{◌≡◌, IfOk, None};
 ghost use Rattle.bus_names.specs.Reading.{interface_fault, member_fault};
 ghost use Rattle.wire_out.specs.Messages.{error_message, return_message, sender, signal_message};
 
-use crate::values::{alone, text};
-use bus_message::{Message, made_bus_name, made_interface, made_member};
+use crate::values::text;
+use bus_message::{Message, alone, made_bus_name, made_interface, made_member};
 use bus_names::{BusName, Interface, Member, ObjectPath};
 use bus_value::{Order, Value, Values};
 use login_base::{Items, NoMemory};

@@ -1,33 +1,15 @@
 // The paths of objects (org.freedesktop.login1(5)).
 
-ghost use Rattle.std.specs.Prelude.{◌≡◌, ◌++◌, IfOk, OnOk, true};
-ghost use Rattle.std.specs.Fmt.{decimal};
+ghost use Rattle.std.specs.Prelude.{◌≡◌, IfOk, OnOk, true};
 ghost use Rattle.login_base.specs.Labels.{escape};
 ghost use Rattle.login_base.specs.Seat.{is_seat_name};
 ghost use Rattle.login_model.specs.Paths.{runtime_path, seat_path, session_path, user_path};
 ghost use Rattle.wire_out.specs.inner.Numbers.{IsNumber};
 
-use bus_message::made_path;
+use bus_message::{joined, made_path, numbered};
 use bus_names::ObjectPath;
 use login_base::{NoMemory, SeatName, SessId, Uid, Word, escape};
 use std::alloc::Global;
-
-/// The bytes of a text behind a front.
-fn joined(alloc: Global, front: &[u8], text: &[u8]) -> Result<Vec<u8>, NoMemory>
-    ensures { IfOk result (λ bytes. bytes.items ≡ front.now ++ text.now) }
-{
-    let mut bytes = Vec::from_slice(alloc, front)?;
-    bytes.extend_from_slice(text)?;
-    Ok(bytes)
-}
-
-/// A number in decimal behind a front.
-fn numbered(alloc: Global, front: &[u8], number: u32) -> Result<Vec<u8>, NoMemory>
-    ensures { IfOk result (λ bytes. bytes.items ≡ front.now ++ decimal number) }
-{
-    let digits = format!(in alloc; "{number}")?;
-    joined(alloc, front, digits.as_bytes())
-}
 
 /// The bytes of the path of a session's object.
 #[tactic(auto, unfolding(login_model::specs::Paths::session_path))]

@@ -18,10 +18,10 @@ ghost use Rattle.wire_out.specs.inner.Numbers.{HasAnswerNumbers, HasCreatedNumbe
 
 use crate::paths::runtime_path;
 use crate::values::{
-    alone, flag, number, pair, push, reference_or_none, seat_name, seat_object, seat_or_none,
-    seat_reference, session_id, session_object, session_reference, text, user_object,
-    user_reference,
+    pair, push, reference_or_none, seat_name, seat_object, seat_or_none, seat_reference,
+    session_id, session_object, session_reference, text, user_object, user_reference,
 };
+use bus_message::{alone, flag, number};
 use bus_names::{Basic, Type};
 use bus_value::{BasicValue, Value};
 use login_base::{ConnId, NoMemory, SeatName, SessId, Word};

@@ -15,10 +15,9 @@ ghost use Rattle.wire_out.specs.inner.Numbers.{HasNoticeNumbers, IsNumber, IsNum
 use crate::messages::signal_message;
 use crate::paths::{seat_path, session_path};
 use crate::values::{
-    alone, flag, number, pair, push, reference_or_none, seat_reference, session_reference, text,
-    user_reference,
+    pair, push, reference_or_none, seat_reference, session_reference, text, user_reference,
 };
-use bus_message::{Message, made_path};
+use bus_message::{Message, alone, flag, made_path, number};
 use bus_names::{Basic, ObjectPath, Type};
 use bus_value::{BasicValue, Value};
 use login_base::{DevNo, NoMemory, SeatName, SessId, Word};

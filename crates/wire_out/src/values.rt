@@ -4,14 +4,14 @@ ghost use Rattle.std.specs.Prelude.{◌≡◌, ◌++◌, ◌∷◌, [], IfOk, On
 ghost use Rattle.login_base.specs.Seat.{is_seat_name};
 ghost use Rattle.login_base.specs.SessionId.{session_text};
 ghost use Rattle.login_model.specs.Paths.{seat_path, session_path, user_path};
-ghost use Rattle.wire_out.specs.Messages.{flag, number, path, text};
+ghost use Rattle.wire_out.specs.Messages.{path, text};
 ghost use Rattle.wire_out.specs.Replies.{seat_text};
 ghost use Rattle.wire_out.specs.References.{no_reference, reference_or_none, seat_or_none, seat_reference, session_reference, user_reference};
 ghost use Rattle.wire_out.specs.inner.Sendable.{IsSeatIf};
 ghost use Rattle.wire_out.specs.inner.Numbers.{IsNumber, IsNumberIf};
 
 use crate::paths::{seat_path, session_path, user_path};
-use bus_message::made_path;
+use bus_message::{made_path, number};
 use bus_value::{BasicValue, Value};
 use login_base::{NoMemory, SeatName, SessId, Uid, Word};
 use login_model::Boxed;
@@ -22,19 +22,6 @@ pub(crate) fn text(alloc: Global, bytes: &[u8]) -> Result<Value, NoMemory>
     ensures { IfOk result (λ value. value ≡ text bytes.now) }
 {
     Ok(Value::basic(BasicValue::Str(Word::from_slice(alloc, bytes)?)))
-}
-
-/// A number of 32 bits.
-pub(crate) fn number(value: u32) -> Value
-    ensures { result ≡ number value }
-{
-    Value::basic(BasicValue::U32(value))
-}
-
-pub(crate) fn flag(value: bool) -> Value
-    ensures { result ≡ flag value }
-{
-    Value::basic(BasicValue::Bool(value))
 }
 
 /// A session's id.
@@ -77,13 +64,6 @@ pub(crate) fn seat_name(alloc: Global, seat: Option<SeatName>) -> Result<Value, 
         Some(name) => text(alloc, name.as_slice()),
         None => text(alloc, b""),
     }
-}
-
-/// One value alone.
-pub(crate) fn alone(alloc: Global, value: Value) -> Result<Vec<Value>, NoMemory>
-    ensures { IfOk result (λ values. values.items ≡ value ∷ []) }
-{
-    Ok(Vec::from_array(alloc, [value])?)
 }
 
 /// Two values.

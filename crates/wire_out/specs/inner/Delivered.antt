@@ -3,7 +3,7 @@ use Rattle.std.specs.Prelude.{ℕ, ◌≡◌, ◌+◌, ◌*◌, ◌&&◌, not, B
 use Rattle.login_base.specs.declared.ids.ConnId.{ConnId}
 use Rattle.login_model.specs.declared.mark.Entry.{Entry}
 use Rattle.bus_message.specs.declared.message.Message.{Message}
-use Rattle.wire_out.specs.Mail.{bytes_of, connects, is_disconnect, messages_of, numbered, told}
+use Rattle.wire_out.specs.Mail.{bytes_of, connects, is_disconnect, messages_of, messages_to, numbered}
 use Rattle.wire_out.specs.Places.{is_open}
 use Rattle.wire_out.specs.declared.delivery.Delivery.{Delivery}
 
@@ -25,20 +25,20 @@ abbrev pub open_behind : ConnId → Bool → Entry → Bool
 open_behind c was e = if was then not (is_disconnect c e.event) else connects c e
 
 -- what an entry tells it
-abbrev pub told_by : ConnId → Bool → Entry → List Message
-told_by c was e = if was && not (is_disconnect c e.event) then messages_of c e else []
+abbrev pub messages_by : ConnId → Bool → Entry → List Message
+messages_by c was e = if was && not (is_disconnect c e.event) then messages_of c e else []
 
 -- the delivery has gone over one more entry
 pub record Steps (old new : Delivery) (e : Entry) : Type 0 where
   pub who : new.who ≡ old.who
   pub from : new.from ≡ old.from
   pub connected : new.connected ≡ open_behind old.who old.connected e
-  pub delivered : (ms : List Message) → IsDelivered old ms → IsDelivered new (ms ++ told_by old.who old.connected e)
+  pub delivered : (ms : List Message) → IsDelivered old ms → IsDelivered new (ms ++ messages_by old.who old.connected e)
 
 -- the delivery has gone over these entries
 pub record IsAt (d : Delivery) (J : List Entry) : Type 0 where
   pub connected : d.connected ≡ is_open d.who J
-  pub delivered : IsDelivered d (told d.who J)
+  pub delivered : IsDelivered d (messages_to d.who J)
 
 -- how many messages an entry has at most
 abbrev pub most_of : Entry → ℕ

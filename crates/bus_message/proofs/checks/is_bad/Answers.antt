@@ -1,6 +1,6 @@
 use Rattle.std.proofs.Common.{◌≡◌, ap, sym, ◌∙◌, arith, get_or, is_some, refl, take, true, false}
 use Rattle.bus_message.specs.Fields.{found}
-use Rattle.bus_message.specs.inner.Kept.{shown, shown_field}
+use Rattle.bus_message.specs.inner.KnownFields.{shown, shown_field}
 use Rattle.bus_message.proofs.FieldLaws.{not_known, repeated, first_known}
 use Rattle.bus_message.proofs.KeptLaws.{length_shown, take_shown, shown_at}
 use Rattle.bus_message.proofs.checks.is_bad.Goals as goal

@@ -1,5 +1,5 @@
 use Rattle.std.proofs.Common.{rules}
-use Rattle.bus_message.specs.inner.Kept.{shown}
+use Rattle.bus_message.specs.inner.KnownFields.{shown}
 use Rattle.bus_message.proofs.FirstNumbers.{reads_1, reads_2, reads_3, reads_4, reads_5, reads_6, reads_7, reads_8, reads_9, reads_none}
 use Rattle.bus_message.proofs.checks.reads.Goals as goal
 

@@ -1,6 +1,6 @@
 use Rattle.bus_names.specs.Reading.{interface_fault}
 use Rattle.bus_message.specs.Fields.{found}
-use Rattle.bus_message.specs.inner.Kept.{shown}
+use Rattle.bus_message.specs.inner.KnownFields.{shown}
 use Rattle.bus_message.proofs.Readings.{name_read}
 use Rattle.bus_message.proofs.fields.interface.Goals as goal
 

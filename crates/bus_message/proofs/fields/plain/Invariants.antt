@@ -1,6 +1,6 @@
 use Rattle.std.proofs.Common.{◌≡◌, drop}
 use Rattle.bus_message.specs.Fields.{found}
-use Rattle.bus_message.specs.inner.Kept.{shown}
+use Rattle.bus_message.specs.inner.KnownFields.{shown}
 use Rattle.bus_message.proofs.fields.plain.Given as goal
 
 abbrev pub invariant-loop-field : goal.invariant-loop-field

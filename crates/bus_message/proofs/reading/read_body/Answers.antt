@@ -1,5 +1,5 @@
 use Rattle.std.proofs.Common.{refl}
-use Rattle.bus_message.specs.inner.Kept.{shown}
+use Rattle.bus_message.specs.inner.KnownFields.{shown}
 use Rattle.bus_message.proofs.Readings.{no_signature, is_ok, body_given}
 use Rattle.bus_message.proofs.reading.read_body.Goals as goal
 
