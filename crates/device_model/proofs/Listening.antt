@@ -13,15 +13,15 @@ use Rattle.device_model.specs.Ears.{is_ear_of, heard_of, hears, hear_ear, AreOnc
 use Rattle.device_model.specs.declared.ears.Ear.{Ear}
 use Rattle.device_model.proofs.Places.{is_other, nowhere, placed}
 
--- what an ear tells
-abbrev pub told : Ear → Option (DevNo × List Input)
-told e = Some (e.device, e.inputs)
+-- what an ear has heard, and of which device
+abbrev pub heard_by : Ear → Option (DevNo × List Input)
+heard_by e = Some (e.device, e.inputs)
 
 heard-none : (h : HandleNo) → heard_of [] h ≡ None
 unfolding heard_of
 heard-none h = refl
 
-heard-more : (e : Ear) (es : List Ear) (h : HandleNo) → heard_of (e ∷ es) h ≡ cond (is_ear_of h e) (told e) (heard_of es h)
+heard-more : (e : Ear) (es : List Ear) (h : HandleNo) → heard_of (e ∷ es) h ≡ cond (is_ear_of h e) (heard_by e) (heard_of es h)
 unfolding heard_of
 heard-more e es h = refl
 
@@ -29,11 +29,11 @@ heard-more e es h = refl
 pub silent : (es : List Ear) (h : HandleNo) → es ≡ [] → heard_of es h ≡ None
 silent es h e = ap (λ (xs : List Ear). heard_of xs h) e ∙ heard-none h
 
-heard-own : (e : Ear) (es : List Ear) (h : HandleNo) → is_ear_of h e ≡ true → heard_of (e ∷ es) h ≡ told e
-heard-own e es h y = heard-more e es h ∙ ap (λ (b : Bool). cond b (told e) (heard_of es h)) y
+heard-own : (e : Ear) (es : List Ear) (h : HandleNo) → is_ear_of h e ≡ true → heard_of (e ∷ es) h ≡ heard_by e
+heard-own e es h y = heard-more e es h ∙ ap (λ (b : Bool). cond b (heard_by e) (heard_of es h)) y
 
 heard-other : (e : Ear) (es : List Ear) (h : HandleNo) → is_ear_of h e ≡ false → heard_of (e ∷ es) h ≡ heard_of es h
-heard-other e es h n = heard-more e es h ∙ ap (λ (b : Bool). cond b (told e) (heard_of es h)) n
+heard-other e es h n = heard-more e es h ∙ ap (λ (b : Bool). cond b (heard_by e) (heard_of es h)) n
 
 once-open : (e : Ear) (es : List Ear) → AreOnce (e ∷ es) → (heard_of es e.handle ≡ None) × AreOnce es
 unfolding AreOnce
@@ -59,13 +59,13 @@ turned-so g h n = grind (arith, nat_tests)
 one-handle : (g h : HandleNo) → (g.0 == h.0) ≡ true → g ≡ h
 one-handle g h e = let same : g.0 ≡ h.0 = grind (arith, nat_tests) in ap (λ (n : ℕ). let r : HandleNo = record { 0 = n } in r) same
 
-told-some : (e : Ear) (z : Option (DevNo × List Input)) → z ≡ told e → z ≡ None → ⊥
-told-some e z p q = let c : told e ≡ None = sym p ∙ q in cc
+heard-some : (e : Ear) (z : Option (DevNo × List Input)) → z ≡ heard_by e → z ≡ None → ⊥
+heard-some e z p q = let c : heard_by e ≡ None = sym p ∙ q in cc
 
 -- where a handle hears nothing, the first ear is another's, and it is in none of the others
 pub first-apart : (e : Ear) (es : List Ear) (h : HandleNo) → heard_of (e ∷ es) h ≡ None → (is_ear_of h e ≡ false) × (heard_of es h ≡ None)
 first-apart e es h n = elim (test (is_ear_of h e)) [
-  | inl y ↦ absurd (told-some e (heard_of (e ∷ es) h) (heard-own e es h y) n)
+  | inl y ↦ absurd (heard-some e (heard_of (e ∷ es) h) (heard-own e es h y) n)
   | inr m ↦ (m, sym (heard-other e es h m) ∙ n)
 ]
 
@@ -74,9 +74,9 @@ first-apart e es h n = elim (test (is_ear_of h e)) [
 pub pushed-other : (es : List Ear) (x : Ear) (h : HandleNo) → is_ear_of h x ≡ false → heard_of (es ++ x ∷ []) h ≡ heard_of es h
 pushed-other [] x h n = heard-other x [] h n
 pushed-other (e ∷ es) x h n =
-    heard-more e (es ++ x ∷ []) h ∙ ap (cond (is_ear_of h e) (told e)) (pushed-other es x h n) ∙ sym (heard-more e es h)
+    heard-more e (es ++ x ∷ []) h ∙ ap (cond (is_ear_of h e) (heard_by e)) (pushed-other es x h n) ∙ sym (heard-more e es h)
 
-pub pushed-own : (es : List Ear) (x : Ear) (h : HandleNo) → is_ear_of h x ≡ true → heard_of es h ≡ None → heard_of (es ++ x ∷ []) h ≡ told x
+pub pushed-own : (es : List Ear) (x : Ear) (h : HandleNo) → is_ear_of h x ≡ true → heard_of es h ≡ None → heard_of (es ++ x ∷ []) h ≡ heard_by x
 pushed-own [] x h y n = heard-own x [] h y
 pushed-own (e ∷ es) x h y n =
     let p = first-apart e es h n in
@@ -105,7 +105,7 @@ ear-at h [] i d f l = absurd (omega arith)
 ear-at h (e ∷ es) zero d f l = so-not (is_ear_of h e) f
 ear-at h (e ∷ es) (suc i) d f l = ear-at h es i d f.1 (omega arith)
 
-pub heard-at : (h : HandleNo) (es : List Ear) (i : ℕ) (d : Ear) → IsFront (is_other h) i es → i < length es → heard_of es h ≡ told (get_or es i d)
+pub heard-at : (h : HandleNo) (es : List Ear) (i : ℕ) (d : Ear) → IsFront (is_other h) i es → i < length es → heard_of es h ≡ heard_by (get_or es i d)
 heard-at h [] i d f l = absurd (omega arith)
 heard-at h (e ∷ es) zero d f l = heard-own e es h (so-not (is_ear_of h e) f)
 heard-at h (e ∷ es) (suc i) d f l = heard-other e es h (so (is_ear_of h e) f.0) ∙ heard-at h es i d f.1 (omega arith)
@@ -140,7 +140,7 @@ pub removed-others : (h g : HandleNo) (es : List Ear) (i : ℕ) → IsFront (is_
 removed-others h g [] i f l n = absurd (omega arith)
 removed-others h g (e ∷ es) zero f l n = sym (heard-other e es g (other-ear g h e (so-not (is_ear_of h e) f) n))
 removed-others h g (e ∷ es) (suc i) f l n =
-    heard-more e (remove es i) g ∙ ap (cond (is_ear_of g e) (told e)) (removed-others h g es i f.1 (omega arith) n) ∙ sym (heard-more e es g)
+    heard-more e (remove es i) g ∙ ap (cond (is_ear_of g e) (heard_by e)) (removed-others h g es i f.1 (omega arith) n) ∙ sym (heard-more e es g)
 
 removed-none : (g : HandleNo) (es : List Ear) (i : ℕ) → heard_of es g ≡ None → heard_of (remove es i) g ≡ None
 removed-none g [] zero n = n
@@ -156,7 +156,7 @@ removed-once (e ∷ es) (suc i) o = let q = once-open e es o in once-close e (re
 
 -- ---- one that is exchanged for another of its handle
 
-pub set-own : (h : HandleNo) (es : List Ear) (i : ℕ) (x : Ear) → IsFront (is_other h) i es → i < length es → is_ear_of h x ≡ true → heard_of (set es i x) h ≡ told x
+pub set-own : (h : HandleNo) (es : List Ear) (i : ℕ) (x : Ear) → IsFront (is_other h) i es → i < length es → is_ear_of h x ≡ true → heard_of (set es i x) h ≡ heard_by x
 set-own h [] i x f l y = absurd (omega arith)
 set-own h (e ∷ es) zero x f l y = heard-own x es h y
 set-own h (e ∷ es) (suc i) x f l y = heard-other e (set es i x) h (so (is_ear_of h e) f.0) ∙ set-own h es i x f.1 (omega arith) y
@@ -166,7 +166,7 @@ set-others h g [] i x f l y n = absurd (omega arith)
 set-others h g (e ∷ es) zero x f l y n =
     heard-other x es g (other-ear g h x y n) ∙ sym (heard-other e es g (other-ear g h e (so-not (is_ear_of h e) f) n))
 set-others h g (e ∷ es) (suc i) x f l y n =
-    heard-more e (set es i x) g ∙ ap (cond (is_ear_of g e) (told e)) (set-others h g es i x f.1 (omega arith) y n) ∙ sym (heard-more e es g)
+    heard-more e (set es i x) g ∙ ap (cond (is_ear_of g e) (heard_by e)) (set-others h g es i x f.1 (omega arith) y n) ∙ sym (heard-more e es g)
 
 set-none : (g : HandleNo) (es : List Ear) (i : ℕ) (x : Ear) (d : Ear) → x.handle ≡ (get_or es i d).handle → i < length es → heard_of es g ≡ None → heard_of (set es i x) g ≡ None
 set-none g [] i x d e l n = absurd (omega arith)
@@ -188,23 +188,23 @@ handle-kept d x e = elim (test (same_device d e.device)) [
   | inr n ↦ ap (λ (b : Bool). (cond b (record { handle = e.handle; device = e.device; inputs = last_few (e.inputs ++ x ∷ []) }) e).handle) n
 ]
 
-told-by : (b : Bool) (e : Ear) (xs : List Input) → told (cond b (record { handle = e.handle; device = e.device; inputs = xs }) e) ≡ Some (cond b (e.device, xs) (e.device, e.inputs))
-told-by true e xs = refl
-told-by false e xs = refl
+heard-either : (b : Bool) (e : Ear) (xs : List Input) → heard_by (cond b (record { handle = e.handle; device = e.device; inputs = xs }) e) ≡ Some (cond b (e.device, xs) (e.device, e.inputs))
+heard-either true e xs = refl
+heard-either false e xs = refl
 
-told-heard : (d : DevNo) (x : Input) (e : Ear) → told (hear_ear d x e) ≡ option_map (hears d x) (told e)
-told-heard d x e = told-by (same_device d e.device) e (last_few (e.inputs ++ x ∷ []))
+heard-one-more : (d : DevNo) (x : Input) (e : Ear) → heard_by (hear_ear d x e) ≡ option_map (hears d x) (heard_by e)
+heard-one-more d x e = heard-either (same_device d e.device) e (last_few (e.inputs ++ x ∷ []))
 
-mapped : (d : DevNo) (x : Input) (b : Bool) (e : Ear) (z : Option (DevNo × List Input)) → cond b (told (hear_ear d x e)) (option_map (hears d x) z) ≡ option_map (hears d x) (cond b (told e) z)
-mapped d x true e z = told-heard d x e
+mapped : (d : DevNo) (x : Input) (b : Bool) (e : Ear) (z : Option (DevNo × List Input)) → cond b (heard_by (hear_ear d x e)) (option_map (hears d x) z) ≡ option_map (hears d x) (cond b (heard_by e) z)
+mapped d x true e z = heard-one-more d x e
 mapped d x false e z = refl
 
 pub all-heard : (d : DevNo) (x : Input) (es : List Ear) (h : HandleNo) → heard_of (map (hear_ear d x) es) h ≡ option_map (hears d x) (heard_of es h)
 all-heard d x [] h = heard-none h ∙ sym (ap (option_map (hears d x)) (heard-none h))
 all-heard d x (e ∷ es) h =
     heard-more (hear_ear d x e) (map (hear_ear d x) es) h
-    ∙ ap (λ (g : HandleNo). cond (g.0 == h.0) (told (hear_ear d x e)) (heard_of (map (hear_ear d x) es) h)) (handle-kept d x e)
-    ∙ ap (cond (is_ear_of h e) (told (hear_ear d x e))) (all-heard d x es h)
+    ∙ ap (λ (g : HandleNo). cond (g.0 == h.0) (heard_by (hear_ear d x e)) (heard_of (map (hear_ear d x) es) h)) (handle-kept d x e)
+    ∙ ap (cond (is_ear_of h e) (heard_by (hear_ear d x e))) (all-heard d x es h)
     ∙ mapped d x (is_ear_of h e) e (heard_of es h)
     ∙ sym (ap (option_map (hears d x)) (heard-more e es h))
 

@@ -16,10 +16,10 @@ use login_model::{DevKind, Key, Limit, Look, Rule, Verdict};
 use login_table::{are_taken_at_least, seat_of_session};
 
 /// The most devices that a session may have taken.
-const TAKEN: u32 = 128;
+const MOST_TAKEN: u32 = 128;
 
 /// The most devices that may be present.
-const DEVICES: u32 = 4096;
+const MOST_DEVICES: u32 = 4096;
 
 fn is_device<F: Look>(facts: &F, device: DevNo) -> bool
     ensures { result ≡ is_device (F.trail facts.now) device }
@@ -77,7 +77,7 @@ fn too_many_taken<F: Look>(facts: &F, session: SessId) -> Option<Rule>
     ensures { result ≡ too_many_taken (F.trail facts.now) session }
 {
     broken_if(
-        are_taken_at_least(facts, session, TAKEN),
+        are_taken_at_least(facts, session, MOST_TAKEN),
         Rule::Limit(Limit::DevicesTaken),
     )
 }
@@ -86,7 +86,7 @@ fn too_many_taken<F: Look>(facts: &F, session: SessId) -> Option<Rule>
 fn are_devices_full<F: Look>(facts: &F) -> bool
     ensures { result ≡ nat_le devices_limit (length (devices (F.trail facts.now))) }
 {
-    facts.device_count() >= DEVICES
+    facts.device_count() >= MOST_DEVICES
 }
 
 fn too_many_devices<F: Look>(facts: &F) -> Option<Rule>

@@ -12,7 +12,7 @@ use login_model::{Key, Limit, Look, Rule, Setup};
 use login_table::{is_on_seat, seat_of_session, session_on};
 
 /// The most links that may be connected.
-const LINKS: u32 = 64;
+const MOST_LINKS: u32 = 64;
 
 pub(crate) fn no_such_session<F: Look>(facts: &F, session: SessId) -> Option<Rule>
     ensures { result ≡ no_such_session (F.trail facts.now) session }
@@ -102,7 +102,7 @@ pub(crate) fn vt_busy_on<F: Look>(facts: &F, seat: &Word, vt: u32) -> Option<Rul
 fn are_links_full<F: Look>(facts: &F) -> bool
     ensures { result ≡ nat_le links_limit (length (connections (F.trail facts.now))) }
 {
-    facts.conn_count() >= LINKS
+    facts.conn_count() >= MOST_LINKS
 }
 
 pub(crate) fn too_many_links<F: Look>(facts: &F) -> Option<Rule>

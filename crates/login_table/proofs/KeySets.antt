@@ -1,12 +1,11 @@
 -- Keys that ascend: which are among them, and what putting one in or taking one out makes of them.
-use Rattle.std.proofs.Common.{◌≡◌, ℕ, zero, suc, nat_lt, ◌<◌, ◌||◌, Bool, true, false, cond, not, Option, Some, None, List, [], ◌∷◌, ◌++◌, length, get_or, take, drop, refl, ap, sym, ◌∙◌, subst, arith, inl, inr}
+use Rattle.std.proofs.Common.{◌≡◌, ℕ, zero, suc, nat_lt, ◌<◌, ◌||◌, Bool, true, false, not, Option, Some, None, List, [], ◌∷◌, length, get_or, refl, ap, sym, ◌∙◌, arith, inl, inr}
 use Rattle.std.specs.List.Sorted.{IsPartitionedBy}
 use Rattle.login_model.specs.declared.fact.Key.{Key}
 use Rattle.login_model.specs.Same.{same_key}
-use Rattle.login_model.specs.Names.{is_above}
-use Rattle.login_model.proofs.Keys.{same_key-true, test}
+use Rattle.login_model.proofs.Keys.{test}
 use Rattle.login_table.specs.KeyOrder.{key_lt, rank_of}
-use Rattle.login_table.specs.KeySet.{has, KeysAscend, KeysAscendFrom}
+use Rattle.login_table.specs.Keys.{has, KeysAscend, KeysAscendFrom}
 use Rattle.login_table.specs.Rows.{IsFront}
 use Rattle.login_table.proofs.KeyOrder.{key_order, rank-below, no-test, below-apart, above-apart, above}
 
@@ -60,7 +59,7 @@ keys-anyhow b [] a = tt
 keys-anyhow b (x ∷ xs) a = (refl, a.1)
 
 -- a key below all is not among them
-none-below : (k : Key) (xs : List Key) → KeysAscendFrom (Some k) xs → has k xs ≡ false
+pub none-below : (k : Key) (xs : List Key) → KeysAscendFrom (Some k) xs → has k xs ≡ false
 none-below k [] a = refl
 none-below k (x ∷ xs) a = ap (λ (b : Bool). b || has k xs) (above-apart x k a.0) ∙ none-below k xs (keys-lower k x xs a.0 a.1)
 
@@ -80,67 +79,6 @@ pub key-found : (k : Key) (xs : List Key) (i : ℕ) (d : Key) → IsFront (λ (x
 key-found k [] i d f h e = absurd (omega arith)
 key-found k (x ∷ xs) zero d f h e = ap (λ (c : Bool). c || has k xs) e
 key-found k (x ∷ xs) (suc i) d f h e = ap (λ (c : Bool). c || has k xs) (below-apart x k f.0) ∙ key-found k xs i d f.1 (omega arith) e
-
--- where a key is as it is to be, nothing changes
-pub kept : (v : Bool) (k j : Key) (xs : List Key) → has k xs ≡ v → has j xs ≡ cond (same_key k j) v (has j xs)
-kept v k j xs h = elim (test (same_key k j)) [
-  | inl t ↦ ap (λ (z : Key). has z xs) (sym (same_key-true k j t)) ∙ h ∙ sym (ap (λ (c : Bool). cond c v (has j xs)) t)
-  | inr n ↦ sym (ap (λ (c : Bool). cond c v (has j xs)) n)
-]
-
-or-first : (a c : Bool) → (a || c) ≡ cond a true c
-or-first true c = refl
-or-first false c = refl
-
-or-in : (a b c : Bool) → (a || cond b true c) ≡ cond b true (a || c)
-or-in true true c = refl
-or-in true false c = refl
-or-in false b c = refl
-
--- a key put in
-pub has-inserted : (k j : Key) (i : ℕ) (xs : List Key) → has j (take i xs ++ k ∷ drop i xs) ≡ cond (same_key k j) true (has j xs)
-has-inserted k j zero [] = or-first (same_key k j) false
-has-inserted k j (suc i) [] = or-first (same_key k j) false
-has-inserted k j zero (x ∷ xs) = or-first (same_key k j) (has j (x ∷ xs))
-has-inserted k j (suc i) (x ∷ xs) = ap (λ (c : Bool). same_key x j || c) (has-inserted k j i xs) ∙ or-in (same_key x j) (same_key k j) (has j xs)
-
-pub inserted-ascends : (k : Key) (b : Option Key) (i : ℕ) (d : Key) (xs : List Key) → KeysAscendFrom b xs → is_above key_lt b k ≡ true → IsFront (λ (x : Key). key_lt x k) i xs → IsOther k xs i d
-    → KeysAscendFrom b (take i xs ++ k ∷ drop i xs)
-inserted-ascends k b zero d [] a h f n = (h, tt)
-inserted-ascends k b (suc i) d [] a h f n = absurd f
-inserted-ascends k b zero d (x ∷ xs) a h f n = (h, (above x k f (n (omega arith)), a.1))
-inserted-ascends k b (suc i) d (x ∷ xs) a h f n = (a.0, inserted-ascends k (Some x) i d xs a.1 f.0 f.1 (λ l. n (omega arith)))
-
-out-in : (a b c : Bool) → (b ≡ true → a ≡ false) → (a || cond b false c) ≡ cond b false (a || c)
-out-in true true c n = absurd (no-test refl (n refl))
-out-in true false c n = refl
-out-in false b c n = refl
-
--- a key taken out
-pub has-removed : (k j : Key) (b : Option Key) (i : ℕ) (d : Key) (xs : List Key) → KeysAscendFrom b xs → IsFront (λ (x : Key). key_lt x k) i xs → i < length xs → same_key (get_or xs i d) k ≡ true
-    → has j (take i xs ++ drop (suc i) xs) ≡ cond (same_key k j) false (has j xs)
-has-removed k j b i d [] a f l e = absurd (omega arith)
-has-removed k j b zero d (x ∷ xs) a f l e =
-    let one = same_key-true x k e in
-    elim (test (same_key k j)) [
-      | inl t ↦
-          none-below j xs (let P : Key → Type 0 = λ z. KeysAscendFrom (Some z) xs in subst P (one ∙ same_key-true k j t) a.1)
-          ∙ sym (ap (λ (c : Bool). cond c false (same_key x j || has j xs)) t)
-      | inr n ↦ sym (ap (λ (c : Bool). cond c false (same_key x j || has j xs)) n ∙ ap (λ (c : Bool). c || has j xs) (ap (λ (z : Key). same_key z j) one ∙ n))
-    ]
-has-removed k j b (suc i) d (x ∷ xs) a f l e =
-    ap (λ (c : Bool). same_key x j || c) (has-removed k j (Some x) i d xs a.1 f.1 (omega arith) e)
-    ∙ out-in (same_key x j) (same_key k j) (has j xs) (λ t. below-apart x j (let P : Key → Type 0 = λ z. key_lt x z ≡ true in subst P (same_key-true k j t) f.0))
-
-lower-from : (b : Option Key) (x : Key) (xs : List Key) → is_above key_lt b x ≡ true → KeysAscendFrom (Some x) xs → KeysAscendFrom b xs
-lower-from None x xs h a = keys-anyhow (Some x) xs a
-lower-from (Some j) x xs h a = keys-lower j x xs h a
-
-pub removed-ascends : (b : Option Key) (i : ℕ) (xs : List Key) → KeysAscendFrom b xs → KeysAscendFrom b (take i xs ++ drop (suc i) xs)
-removed-ascends b zero [] a = tt
-removed-ascends b (suc i) [] a = tt
-removed-ascends b zero (x ∷ xs) a = lower-from b x xs a.0 a.1
-removed-ascends b (suc i) (x ∷ xs) a = (a.0, removed-ascends (Some x) i xs a.1)
 
 -- what indexing reads at the place of a key
 pub other-at : (k : Key) (xs : List Key) (i : ℕ) (y : Key) → y ≡ get_or xs i y → same_key y k ≡ false → IsOther k xs i y

@@ -8,4 +8,5 @@ mod NextRow
 mod NextTaken
 mod NextTaker
 pub mod Parts
+mod RowPlaces
 pub mod Standing

@@ -10,7 +10,7 @@ use Rattle.login_model.specs.Names.{IsNext, is_above}
 use Rattle.login_model.proofs.Keys.{same_key-true, test}
 use Rattle.login_model.proofs.Values.{key-refl}
 use Rattle.login_table.specs.KeyOrder.{key_lt, rank_of}
-use Rattle.login_table.specs.KeySet.{first_named, has, is_passed, KeysAscendFrom}
+use Rattle.login_table.specs.Keys.{first_named, has, is_passed, KeysAscendFrom}
 use Rattle.login_table.specs.Rows.{IsFront}
 use Rattle.login_table.proofs.KeyOrder.{same-rank, rank-above, no-test}
 use Rattle.login_table.proofs.KeySets.{keys-lower, keys-anyhow}

@@ -1,7 +1,10 @@
--- The next name of what the keys beside rows tell.
-use Rattle.std.proofs.Common.{◌≡◌, ◌&&◌, Bool, true, false, cond, Option, Some, None, List, [], ◌∷◌, refl, ap, sym, ◌∙◌, subst, ◌⊎◌, inl, inr}
+-- The next name of what the places beside rows tell.
+use Rattle.std.proofs.Common.{◌≡◌, ℕ, suc, ◌<◌, ◌≤◌, ◌&&◌, Bool, true, false, cond, Option, Some, None, List, [], ◌∷◌, ◌++◌, length, get_or, take, drop, set, refl, ap, sym, arith, ◌∙◌, subst, ◌⊎◌, inl, inr}
+use Rattle.std.proofs.lemmas.List.{get_or_read, length-set}
 use Rattle.login_model.specs.declared.fact.Key.{Key}
 use Rattle.login_model.specs.declared.fact.Fact.{Fact}
+use Rattle.login_model.specs.declared.fact.Key.TheVariants.{Vt}
+use Rattle.login_model.specs.declared.fact.Fact.TheVariants.{Absent}
 use Rattle.login_model.specs.declared.mark.Mark.TheVariants.{Set}
 use Rattle.login_model.specs.Same.{same_key}
 use Rattle.login_model.specs.Trail.{Trail, value}
@@ -10,17 +13,20 @@ use Rattle.login_model.specs.Kind.{IsOrder, AreKeys}
 use Rattle.login_model.specs.Names.{IsNext, is_above}
 use Rattle.login_model.proofs.Keys.{same_key-true, both, test}
 use Rattle.login_table.specs.Listed.{is_there}
-use Rattle.login_table.specs.KeySet.{has}
+use Rattle.login_table.specs.KeyOrder.{key_lt}
+use Rattle.login_table.specs.Keys.{has, KeysAscend}
+use Rattle.login_table.specs.Places.{key_at, keys_at, PlacesAscend, put_place, raised}
 use Rattle.login_table.specs.Nearest.{is_lower, nearer}
-use Rattle.login_table.specs.Rows.{Ascend, AreThere, as_trail, says_there}
+use Rattle.login_table.specs.Rows.{Ascend, AreThere, IsFront, as_trail, says_there}
 use Rattle.login_table.specs.declared.rows.Row.{Row}
-use Rattle.login_table.proofs.Ascending.{opened, closed, put_row, put-ascends, put-is}
+use Rattle.login_table.proofs.Ascending.{exchanged-at, opened, closed, put_row, put-ascends, put-is}
 use Rattle.login_table.proofs.KeyOrder.{no-test}
 use Rattle.login_table.proofs.NextKey.{no-some, some-is}
+use Rattle.login_table.proofs.RowPlaces.{exchanged-keys, key-exchanged, key-inserted, keys-ascend, length-inserted, places-closed, put-ascend, put-has, raised-ascend, raised-keys}
 use Rattle.login_table.proofs.Standing.{value-set, value-start}
 
 -- no keys, where nothing was set
-pub none-there : (t : Trail) → t ≡ [] → AreThere [] t
+none-there : (t : Trail) → t ≡ [] → AreThere [] t
 none-there t e = record {
   sound = λ k h. let z : false ≡ true = h in cc;
   whole = λ k h n. ap (says_there k) (sym (ap (λ (u : Trail). value u k) e ∙ value-start k)) ∙ h;
@@ -54,15 +60,65 @@ module _ (k : Key) (f : Fact) (keys new : List Key) (t u : Trail) (puts : (j : K
     ];
   }
 
--- the invariant of rows after a setting
-pub rows-hold : (k : Key) (f : Fact) (xs ys : List Row) (keys new : List Key) (b : Bool) → b ≡ says_there k f → ((j : Key) → has j new ≡ cond (same_key k j) b (has j keys))
-    → Ascend xs × AreThere keys (as_trail xs) → ys ≡ put_row k f xs → Ascend ys × AreThere new (as_trail ys)
-rows-hold k f xs ys keys new b said puts w e =
-    let Q : List Row → Type 0 = λ zs. Ascend zs × AreThere new (as_trail zs) in
-    subst Q (sym e) (
-      closed _ (put-ascends k f None xs (opened xs w.0) refl),
-      set-there k f keys new (as_trail xs) (as_trail (put_row k f xs)) (λ j. puts j ∙ ap (λ (v : Bool). cond (same_key k j) v (has j keys)) said) (put-is k f xs) w.1,
+-- what holds of rows and of the places of what is there
+abbrev pub RowsHold : List Row → List ℕ → Type 0
+RowsHold xs ps = Ascend xs × PlacesAscend (length xs) ps × AreThere (keys_at xs ps) (as_trail xs)
+
+pub none-hold : (xs : List Row) (ps : List ℕ) → xs ≡ [] → ps ≡ [] → RowsHold xs ps
+none-hold xs ps e f =
+    let P : List Row → Type 0 = λ ys. RowsHold ys ps in
+    let Q : List ℕ → Type 0 = λ qs. RowsHold [] qs in
+    subst P (sym e) (subst Q (sym f) (closed [] tt, places-closed 0 [] tt, none-there [] refl))
+
+-- the keys at the places, where the rows are read as a slice
+pub keys-of : (xs zs : List Row) (ps : List ℕ) → RowsHold xs ps → zs ≡ xs → KeysAscend (keys_at zs ps)
+keys-of xs zs ps w e = let P : List Row → Type 0 = λ ys. KeysAscend (keys_at ys ps) in subst P (sym e) (keys-ascend xs ps w.0 w.1)
+
+pub there-of : (xs zs : List Row) (ps : List ℕ) (t : Trail) → RowsHold xs ps → zs ≡ xs → as_trail xs ≡ t → AreThere (keys_at zs ps) t
+there-of xs zs ps t w e u =
+    let P : List Row → Type 0 = λ ys. AreThere (keys_at ys ps) t in
+    let Q : Trail → Type 0 = λ v. AreThere (keys_at xs ps) v in
+    subst P (sym e) (subst Q u w.2)
+
+-- it holds after a setting, where the places in between have the keys of those before
+pub rows-hold : (k : Key) (f : Fact) (xs ys : List Row) (ps ms qs : List ℕ) (at : ℕ) (b : Bool) → b ≡ says_there k f → RowsHold xs ps → ys ≡ put_row k f xs → keys_at ys ms ≡ keys_at xs ps → PlacesAscend (length ys) ms
+    → at < length ys → key_at ys at ≡ k → qs ≡ put_place at b ms → RowsHold ys qs
+rows-hold k f xs ys ps ms qs at b said w e same up in_rows own made =
+    let A : List Row → Type 0 = λ zs. Ascend zs in
+    let ascend : Ascend ys = subst A (sym e) (closed _ (put-ascends k f None xs (opened xs w.0) refl)) in
+    let puts : (j : Key) → has j (keys_at ys (put_place at b ms)) ≡ cond (same_key k j) (says_there k f) (has j (keys_at xs ps)) = λ j.
+    put-has ys at b ms ascend in_rows up j
+    ∙ ap (λ (z : Key). cond (same_key z j) b (has j (keys_at ys ms))) own
+    ∙ ap (λ (v : Bool). cond (same_key k j) v (has j (keys_at ys ms))) said
+    ∙ ap (λ (zs : List Key). cond (same_key k j) (says_there k f) (has j zs)) same in
+    let Q : List ℕ → Type 0 = λ zs. RowsHold ys zs in
+    subst Q (sym made) (
+      ascend,
+      put-ascend at (length ys) b ms in_rows up,
+      set-there k f (keys_at xs ps) (keys_at ys (put_place at b ms)) (as_trail xs) (as_trail ys) puts (λ j. ap (λ (zs : List Row). value (as_trail zs) j) e ∙ put-is k f xs j) w.2,
     )
+
+-- where the fact of a row is exchanged, the places are the same
+pub exchanged-hold : (k : Key) (f : Fact) (xs : List Row) (ps qs : List ℕ) (i : ℕ) (x y : Row) (b : Bool) → b ≡ says_there k f → RowsHold xs ps → IsFront (λ (z : Row). key_lt z.key k) i xs → i < length xs
+    → y ≡ get_or xs i y → same_key y.key k ≡ true → x ≡ get_or xs i x → qs ≡ put_place i b ps → RowsHold (set xs i (record { key = x.key; fact = f })) qs
+exchanged-hold k f xs ps qs i x y b said w front l at e again put =
+    let r : Row = record { key = x.key; fact = f } in
+    let own : x.key ≡ key_at xs i = ap (λ (z : Row). z.key) (get_or_read xs i x l again (record { key = Vt; fact = Absent })) in
+    let one : x ≡ y = get_or_read xs i x l again y ∙ sym at in
+    let long : length (set xs i r) ≡ length xs = length-set xs i r in
+    let P : ℕ → Type 0 = λ n. PlacesAscend n ps in
+    rows-hold k f xs (set xs i r) ps ps qs i b said w (exchanged-at k f xs i x y front l at e again) (exchanged-keys r xs i ps own) (subst P (sym long) w.1) (omega (arith, l, long))
+    (key-exchanged r xs i i (λ h. own) ∙ sym own ∙ same_key-true x.key k (ap (λ (z : Row). same_key z.key k) one ∙ e)) put
+
+-- where a row is put in, those behind it are raised
+pub inserted-hold : (k : Key) (f : Fact) (xs ys : List Row) (ps qs : List ℕ) (i : ℕ) (b : Bool) → b ≡ says_there k f → RowsHold xs ps → i ≤ length xs → ys ≡ take i xs ++ record { key = k; fact = f } ∷ drop i xs → ys ≡ put_row k f xs
+    → qs ≡ put_place i b (raised i ps) → RowsHold ys qs
+inserted-hold k f xs ys ps qs i b said w l made e put =
+    let r : Row = record { key = k; fact = f } in
+    let long : length ys ≡ suc (length xs) = ap length made ∙ length-inserted r i xs in
+    let P : ℕ → Type 0 = λ n. PlacesAscend n (raised i ps) in
+    rows-hold k f xs ys ps (raised i ps) qs i b said w e (ap (λ (zs : List Row). keys_at zs (raised i ps)) made ∙ raised-keys r i xs ps w.1)
+    (subst P (sym long) (raised-ascend i (length xs) ps w.1)) (omega (arith, l, long)) (ap (λ (zs : List Row). key_at zs i) made ∙ key-inserted r i xs l) put
 
 -- the best name, but for the one at the start
 abbrev IsBest : {A : Type 0} → (A → A → Bool) → (A → Bool) → Option A → Option A → Option A → Type 0

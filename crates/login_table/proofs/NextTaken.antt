@@ -13,7 +13,7 @@ use Rattle.login_model.proofs.Keys.{same_key-true, test}
 use Rattle.login_model.proofs.NameLaws.{device_order, taken_keys}
 use Rattle.login_model.proofs.Values.{key-refl}
 use Rattle.login_table.specs.KeyOrder.{key_lt, pair_lt}
-use Rattle.login_table.specs.KeySet.{has, is_taken_passed, KeysAscendFrom}
+use Rattle.login_table.specs.Keys.{has, is_taken_passed, KeysAscendFrom}
 use Rattle.login_table.specs.Rows.{IsFront}
 use Rattle.login_table.proofs.KeyOrder.{no-test}
 use Rattle.login_table.proofs.KeySets.{keys-lower, keys-anyhow}

@@ -11,7 +11,7 @@ use Rattle.login_model.specs.Names.{IsNext, session_lt, is_above}
 use Rattle.login_model.proofs.Keys.{both, same-session, test}
 use Rattle.login_model.proofs.NameLaws.{session_order}
 use Rattle.login_table.specs.KeyOrder.{key_lt, pair_lt}
-use Rattle.login_table.specs.KeySet.{has, holder_in, is_held_by, is_holder, is_holder_passed, KeysAscendFrom}
+use Rattle.login_table.specs.Keys.{has, holder_in, is_held_by, is_holder, is_holder_passed, KeysAscendFrom}
 use Rattle.login_table.specs.Rows.{IsFront}
 use Rattle.login_table.proofs.KeyOrder.{rank-below, no-test}
 use Rattle.login_table.proofs.KeySets.{key-found, key-missed, keys-lower, other-at, same-at}

@@ -1,9 +1,10 @@
 pub mod Appended
 pub mod Home
 pub mod KeyOrder
-pub mod KeySet
+pub mod Keys
 pub mod Listed
 pub mod Nearest
 pub mod Parts
+pub mod Places
 pub mod Rows
 pub mod Stands

@@ -10,7 +10,7 @@ use Rattle.login_model.specs.Names.{is_above}
 use Rattle.login_model.specs.Where.{is_session_fact, is_user_fact, is_connected_fact, is_seat_fact, is_device_fact, is_lock_fact}
 use Rattle.login_model.specs.Facts.{is_handle_fact}
 use Rattle.login_table.specs.KeyOrder.{key_lt}
-use Rattle.login_table.specs.KeySet.{has}
+use Rattle.login_table.specs.Keys.{has}
 use Rattle.login_table.specs.declared.rows.Row.{Row}
 
 -- the rows as settings

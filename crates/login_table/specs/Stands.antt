@@ -9,5 +9,5 @@ abbrev pub Stands : (Key → Bool) → Trail → Trail → Type 0
 Stands owns rows t = (k : Key) → owns k ≡ true → value rows k ≡ value t k
 
 -- what a table with these keys says of a key: the fact of its own, and nothing of others
-abbrev pub told : (Key → Bool) → Trail → Key → Option Fact
-told owns t k = if owns k then Some (value t k) else None
+abbrev pub own_fact : (Key → Bool) → Trail → Key → Option Fact
+own_fact owns t k = if owns k then Some (value t k) else None

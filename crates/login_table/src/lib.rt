@@ -4,10 +4,10 @@
 mod active;
 mod home;
 mod key_order;
-mod key_set;
 mod listed;
 mod locks;
 mod name;
+mod places;
 mod rows;
 mod search;
 mod table;

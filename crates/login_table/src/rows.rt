@@ -1,6 +1,6 @@
 // Facts in rows, each under its own key.
 
-ghost use Rattle.std.specs.Prelude.{◌≡◌, ◌+◌, ◌<◌, ◌≤◌, [], ◌∷◌, OnOk, length};
+ghost use Rattle.std.specs.Prelude.{◌≡◌, ◌+◌, ◌<◌, ◌≤◌, [], ◌∷◌, OnOk, length, vec_capacity, vec_len};
 ghost use Rattle.login_model.specs.Trail.{value};
 ghost use Rattle.login_model.specs.Names.{IsNext, device_lt, session_lt};
 ghost use Rattle.login_model.specs.Devices.{is_taken};
@@ -11,8 +11,8 @@ ghost use Rattle.login_table.specs.Rows.{Ascend, IsFront, says_there};
 ghost use Rattle.login_table.specs.declared.rows.Row.{Row as AnyRow};
 
 use crate::key_order::is_key_below;
-use crate::key_set::KeySet;
 use crate::name::{Name, is_above, is_lower};
+use crate::places::Places;
 use login_base::{DevNo, NoMemory, SessId};
 use login_model::{Fact, Key, StartFacts, is_same_key};
 use std::alloc::Global;
@@ -25,24 +25,39 @@ pub struct Row {
     pub fact: Fact,
 }
 
-/// Facts, each under its own key. Under all other keys stand the facts at the start. The keys of what is there
+/// Facts, each under its own key. Under all other keys stand the facts at the start. The places of what is there
 /// are kept beside them, so that going over what is there passes nothing that is gone.
 #[derive(Debug, Drop)]
 pub struct Rows {
     rows: Vec<Row>,
-    there: KeySet,
+    there: Places,
     start: StartFacts,
 }
 
 impl Model for Rows {
-    ghost use Rattle.std.specs.Prelude.{◌-◌, min, vec_len, vec_capacity};
+    ghost use Rattle.std.specs.Prelude.{◌-◌, length, min, vec_len, vec_capacity};
+    ghost use Rattle.login_table.specs.Places.{PlacesAscend, keys_at};
     ghost use Rattle.login_table.specs.Rows.{AreThere, Ascend, RowList, as_trail};
 
     ghost Value = { RowList };
 
     ghost view = { λ r. record { trail = as_trail r.rows.items; spare = min (vec_capacity r.rows - vec_len r.rows) r.there.spare } };
 
-    ghost invariant = { λ r. Ascend r.rows.items × AreThere r.there.list (as_trail r.rows.items) };
+    ghost invariant = { λ r. Ascend r.rows.items × PlacesAscend (length r.rows.items) r.there.list × AreThere (keys_at r.rows.items r.there.list) (as_trail r.rows.items) };
+}
+
+/// Makes room for so many more. It takes what is asked for and an eighth of what stands, so that a list that grows
+/// by one at a time is seldom copied.
+pub(crate) fn make_room<T>(list: &mut Vec<T>, more: usize) -> Result<(), NoMemory>
+    ensures items { list.new.items ≡ list.old.items }
+    ensures len { vec_len list.new ≡ vec_len list.old }
+    ensures capacity { vec_capacity list.old ≤ vec_capacity list.new }
+    ensures ok { OnOk result (vec_len list.new + more ≤ vec_capacity list.new) }
+{
+    if list.capacity() - list.len() < more {
+        list.reserve_exact(more.saturating_add(list.len() / 8))?;
+    }
+    Ok(())
 }
 
 /// How many rows are below a key.
@@ -85,7 +100,7 @@ impl Rows {
     {
         Rows {
             rows: Vec::new(alloc),
-            there: KeySet::new(alloc),
+            there: Places::new(alloc),
             start: StartFacts::new(),
         }
     }
@@ -96,7 +111,7 @@ impl Rows {
         ensures trail { self.new.trail ≡ self.old.trail }
         ensures spare { self.old.spare ≤ self.new.spare }
     {
-        self.rows.reserve(more)?;
+        make_room(&mut self.rows, more)?;
         self.there.reserve(more)
     }
 
@@ -125,12 +140,15 @@ impl Rows {
         ensures facts { (k : AnyKey) → value self.new.trail k ≡ value (Set key fact ∷ self.old.trail) k }
         ensures spare { self.old.spare ≤ self.new.spare + 1 }
     {
-        self.there.put(&key, says_there(&key, &fact));
+        let is_in = says_there(&key, &fact);
         let at = place(self.rows.as_slice(), &key);
         if at < self.rows.len() && is_same_key(&self.rows[at].key, &key) {
             self.rows[at].fact = fact;
+            self.there.put(at, is_in);
             return;
         }
+        self.there.raise(at);
+        self.there.put(at, is_in);
         match self.rows.insert(at, Row { key, fact }) {
             Ok(()) => {}
             Err(_) => unreachable!(),
@@ -160,7 +178,7 @@ impl Rows {
     pub fn next<N: Name>(&self, above: Option<N>) -> Option<N>
         ensures { IsNext N.lt (is_there N.key_of N.is_fact self.now.trail) above result }
     {
-        let found = self.there.next(above);
+        let found = self.there.next(self.rows.as_slice(), above);
         self.nearer_first(above, found)
     }
 
@@ -168,7 +186,7 @@ impl Rows {
     pub fn next_taken(&self, session: SessId, above: Option<DevNo>) -> Option<DevNo>
         ensures { IsNext device_lt (is_taken self.now.trail session) above result }
     {
-        self.there.next_taken(session, above)
+        self.there.next_taken(self.rows.as_slice(), session, above)
     }
 
     /// The least session above that one that has a device taken. It is found by halving, from one that has anything
@@ -176,6 +194,6 @@ impl Rows {
     pub fn next_taker(&self, device: DevNo, above: Option<SessId>) -> Option<SessId>
         ensures { IsNext session_lt (λ s. is_taken self.now.trail s device) above result }
     {
-        self.there.next_taker(device, above)
+        self.there.next_taker(self.rows.as_slice(), device, above)
     }
 }

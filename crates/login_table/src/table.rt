@@ -8,7 +8,7 @@ ghost use Rattle.login_model.specs.declared.mark.Mark.TheVariants.{Set};
 ghost use Rattle.login_table.specs.KeyOrder.{rank_of};
 ghost use Rattle.login_table.specs.Listed.{is_there};
 ghost use Rattle.login_table.specs.Rows.{RowList};
-ghost use Rattle.login_table.specs.Stands.{Stands, told};
+ghost use Rattle.login_table.specs.Stands.{Stands, own_fact};
 
 use crate::key_order::rank_of;
 use crate::name::Name;
@@ -60,7 +60,7 @@ pub trait Table {
 
     /// The fact under a key, where it is one of the table's.
     fn look(&self, key: &Key) -> Option<&Fact>
-        ensures { MatchOption result (told owns (list self.now).trail key.now ≡ None) (λ fact. told owns (list self.now).trail key.now ≡ Some fact.now) }
+        ensures { MatchOption result (own_fact owns (list self.now).trail key.now ≡ None) (λ fact. own_fact owns (list self.now).trail key.now ≡ Some fact.now) }
     {
         if Self::is_own(key) {
             Some(self.fact(key))

@@ -12,8 +12,8 @@ mapped f None d e = cc
 mapped f (Some x) d e = (x, refl, cc)
 
 -- a reading that is chosen by whether the word is this one
-pub told : {D R : Type 0} (word text : List ℕ) (a b : Option D) (d : D) → cond (bytes_eq word text) a b ≡ Some d → (word ≡ text → a ≡ Some d → R) → (b ≡ Some d → R) → R
-told {D} {R} word text a b d e if_so if_not = by (bytes_eq word text) refl e
+pub chosen : {D R : Type 0} (word text : List ℕ) (a b : Option D) (d : D) → cond (bytes_eq word text) a b ≡ Some d → (word ≡ text → a ≡ Some d → R) → (b ≡ Some d → R) → R
+chosen {D} {R} word text a b d e if_so if_not = by (bytes_eq word text) refl e
   where
     by : (t : Bool) → bytes_eq word text ≡ t → cond t a b ≡ Some d → R
     by true h f = if_so ((bytes_eq-Decides word text).0 h) f
@@ -22,4 +22,4 @@ told {D} {R} word text a b d e if_so if_not = by (bytes_eq word text) refl e
 -- what this first word reads, or what the others do
 pub by_word : {D : Type 0} (P : D → List (List ℕ) → Type 0) (word text : List ℕ) (words : List (List ℕ)) (a b : Option D) (d : D) → cond (bytes_eq word text) a b ≡ Some d
     → (a ≡ Some d → P d (text ∷ words)) → (b ≡ Some d → P d (word ∷ words)) → P d (word ∷ words)
-by_word P word text words a b d e this others = told word text a b d e (λ w f. subst (λ (v : List ℕ). P d (v ∷ words)) (sym w) (this f)) others
+by_word P word text words a b d e this others = chosen word text a b d e (λ w f. subst (λ (v : List ℕ). P d (v ∷ words)) (sym w) (this f)) others

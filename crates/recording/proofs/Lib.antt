@@ -8,7 +8,7 @@ pub mod Grammar
 pub mod Hexes
 pub mod HexPieces
 pub mod Joins
-pub mod Kept
+pub mod HeldPieces
 pub mod Lengths
 pub mod LongLines
 pub mod Printed

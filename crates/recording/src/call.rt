@@ -13,6 +13,7 @@ ghost use Rattle.recording.specs.inner.Spaced.{spaced};
 ghost use Rattle.recording.specs.Text.{spell_text, spell_flag};
 
 use crate::argument::{read, read_alone};
+use crate::key_text::push_numbered;
 use crate::line::LineFault;
 use crate::line_text::LineText;
 use crate::word::is_word;
@@ -243,14 +244,6 @@ fn push_inhibition(text: &mut LineText, x: &Inhibition) -> Result<(), NoMemory>
     push_two(text, b"inhibit", &x.what, &x.who)?;
     text.text(x.why.as_slice())?;
     text.text(x.mode.as_slice())
-}
-
-/// Adds a word and a number.
-pub(crate) fn push_numbered(text: &mut LineText, word: &[u8], n: u32) -> Result<(), NoMemory>
-    ensures { OnOk result (text.new ≡ text.old ++ 32 ∷ (word.now ++ 32 ∷ decimal n)) }
-{
-    text.word(word)?;
-    text.number(n)
 }
 
 /// Adds a word and two numbers.

@@ -5,7 +5,8 @@ ghost use Rattle.login_model.specs.Words.{device_kind_word, key_word};
 ghost use Rattle.recording.specs.EventSpelling.{request_word, hardware_words, event_words};
 ghost use Rattle.recording.specs.inner.Spaced.{spaced};
 
-use crate::call::{push_call, push_device, push_numbered};
+use crate::call::{push_call, push_device};
+use crate::key_text::push_numbered;
 use crate::line_text::LineText;
 use login_base::NoMemory;
 use login_model::{DevKind, Event, HardKey, Hardware};

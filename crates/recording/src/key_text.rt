@@ -20,7 +20,7 @@ pub(crate) fn push_device_word(text: &mut LineText, device: DevNo) -> Result<(),
 }
 
 /// Adds a word and a number.
-pub(crate) fn push_number(text: &mut LineText, word: &[u8], n: u32) -> Result<(), NoMemory>
+pub(crate) fn push_numbered(text: &mut LineText, word: &[u8], n: u32) -> Result<(), NoMemory>
     ensures { OnOk result (text.new ≡ text.old ++ 32 ∷ (word.now ++ 32 ∷ decimal n)) }
 {
     text.word(word)?;
@@ -75,26 +75,26 @@ pub(crate) fn push_key(text: &mut LineText, key: &Key) -> Result<(), NoMemory>
     ensures { OnOk result (text.new ≡ text.old ++ spaced (key_words key.now)) }
 {
     match key {
-        Key::Conn(who) => push_number(text, b"conn", who.0),
+        Key::Conn(who) => push_numbered(text, b"conn", who.0),
         Key::Sess(session) => push_session(text, b"sess", *session),
         Key::Idle(session) => push_session(text, b"idle", *session),
         Key::Locked(session) => push_session(text, b"locked", *session),
         Key::Sig(session) => push_session(text, b"sig", *session),
         Key::Ctl(session) => push_session(text, b"ctl", *session),
-        Key::User(uid) => push_number(text, b"user", uid.0),
-        Key::Linger(uid) => push_number(text, b"linger", uid.0),
-        Key::Owner(handle) => push_number(text, b"owner", handle.0),
-        Key::Live(handle) => push_number(text, b"live", handle.0),
+        Key::User(uid) => push_numbered(text, b"user", uid.0),
+        Key::Linger(uid) => push_numbered(text, b"linger", uid.0),
+        Key::Owner(handle) => push_numbered(text, b"owner", handle.0),
+        Key::Live(handle) => push_numbered(text, b"live", handle.0),
         Key::Seat(seat) => push_seat(text, b"seat", seat),
         Key::Act(seat) => push_seat(text, b"act", seat),
         Key::Vt => text.word(b"vt"),
-        Key::Getty(vt) => push_number(text, b"getty", *vt),
+        Key::Getty(vt) => push_numbered(text, b"getty", *vt),
         Key::Pending => text.word(b"pending"),
         Key::Taken(session, device) => push_pair(text, b"taken", *session, *device),
         Key::Awaited(session, device) => push_pair(text, b"awaited", *session, *device),
         Key::Dev(device) => push_device(text, b"dev", *device),
         Key::Mode(device) => push_device(text, b"mode", *device),
-        Key::Lock(lock) => push_number(text, b"lock", lock.0),
+        Key::Lock(lock) => push_numbered(text, b"lock", lock.0),
         Key::Op => text.word(b"op"),
         Key::Docked => text.word(b"docked"),
         Key::Now => text.word(b"now"),

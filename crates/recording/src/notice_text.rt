@@ -5,7 +5,7 @@ ghost use Rattle.login_model.specs.Words.{pause_word};
 ghost use Rattle.recording.specs.MarkWords.{session_or_dash, notice_words};
 ghost use Rattle.recording.specs.inner.Spaced.{spaced};
 
-use crate::key_text::{push_device_word, push_number, push_seat, push_session};
+use crate::key_text::{push_device_word, push_numbered, push_seat, push_session};
 use crate::line_text::LineText;
 use login_base::{NoMemory, SessId};
 use login_model::{Notice, PauseKind};
@@ -48,8 +48,8 @@ pub(crate) fn push_notice(text: &mut LineText, notice: &Notice) -> Result<(), No
         Notice::Unlock(session) => push_session(text, b"unlock", *session),
         Notice::SessionNew(session) => push_session(text, b"session-new", *session),
         Notice::SessionRemoved(session) => push_session(text, b"session-removed", *session),
-        Notice::UserNew(uid) => push_number(text, b"user-new", uid.0),
-        Notice::UserRemoved(uid) => push_number(text, b"user-removed", uid.0),
+        Notice::UserNew(uid) => push_numbered(text, b"user-new", uid.0),
+        Notice::UserRemoved(uid) => push_numbered(text, b"user-removed", uid.0),
         Notice::SeatNew(seat) => push_seat(text, b"seat-new", seat),
         Notice::SeatRemoved(seat) => push_seat(text, b"seat-removed", seat),
         Notice::PrepareShutdown(begins) => {

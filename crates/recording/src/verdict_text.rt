@@ -6,7 +6,8 @@ ghost use Rattle.login_model.specs.RuleWords.{limit_words, detail_words, rule_wo
 ghost use Rattle.recording.specs.inner.Spaced.{spaced};
 
 use crate::answer_text::push_answer;
-use crate::call::{push_numbered, push_operation};
+use crate::call::push_operation;
+use crate::key_text::push_numbered;
 use crate::line_text::LineText;
 use login_base::NoMemory;
 use login_model::{Answer, Limit, Rule, Verdict};

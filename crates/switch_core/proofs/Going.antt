@@ -35,11 +35,11 @@ left-less t s above d n =
 abbrev pub Going : SessId → (DevNo → Trail → Trail) → Option DevNo → AheadState → AheadState → Type 0
 Going s f above start now = marked_by (λ t. each f (left start.before s above) t) now ≡ marked_by (λ t. each f (taken_devices t s) t) start
 
-each-none : {A : Type 0} (f : A → Trail → Trail) (t : Trail) → each f [] t ≡ t
+pub each-none : {A : Type 0} (f : A → Trail → Trail) (t : Trail) → each f [] t ≡ t
 unfolding each
 each-none f t = refl
 
-each-more : {A : Type 0} (f : A → Trail → Trail) (x : A) (xs : List A) (t : Trail) → each f (x ∷ xs) t ≡ each f xs (f x t)
+pub each-more : {A : Type 0} (f : A → Trail → Trail) (x : A) (xs : List A) (t : Trail) → each f (x ∷ xs) t ≡ each f xs (f x t)
 unfolding each
 each-more f x xs t = refl
 

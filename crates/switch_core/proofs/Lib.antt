@@ -1,5 +1,5 @@
 pub mod Frames
-pub mod Told
+pub mod HandedOn
 pub mod Behind
 pub mod Aheads
 pub mod Staying

@@ -1,4 +1,4 @@
 pub mod Keeping
-pub mod Told
+pub mod HandedOn
 pub mod Ahead
 pub mod Awaited

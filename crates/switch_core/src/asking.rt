@@ -11,7 +11,7 @@ ghost use Rattle.login_model.specs.Switching.{await_handle, await_device, await_
 ghost use Rattle.login_model.specs.declared.fact.Key.TheVariants.{Taken, Awaited};
 ghost use Rattle.login_laws.proofs.Carried.{await_handle-carried};
 ghost use Rattle.login_laws.proofs.Grows.{grows, grows-switched, put-grows};
-ghost use Rattle.switch_core.specs.inner.Told.{handle_fact};
+ghost use Rattle.switch_core.specs.inner.HandedOn.{handle_fact};
 ghost use Rattle.switch_core.specs.inner.Ahead.{Anything, Fits, marked_by};
 ghost use Rattle.switch_core.specs.Handles.{IsNumbered};
 ghost use Rattle.switch_core.specs.inner.Keeping.{Keeps, is_switching};

@@ -10,7 +10,7 @@ ghost use Rattle.login_model.specs.Taking.{acknowledge};
 ghost use Rattle.login_model.specs.Where.{active_on};
 ghost use Rattle.login_table.specs.Appended.{Appends, HasRoom, LeavesRoom};
 ghost use Rattle.switch_core.specs.Handles.{HandlesLeft, IsNumbered};
-ghost use Rattle.switch_core.specs.inner.Told.{terminal_fact};
+ghost use Rattle.switch_core.specs.inner.HandedOn.{terminal_fact};
 
 use crate::ahead::Ahead;
 use crate::awaited::is_awaiting;

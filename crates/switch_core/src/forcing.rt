@@ -8,7 +8,7 @@ ghost use Rattle.login_model.specs.Procedure.{if_some, yes, no, tell_controller,
 ghost use Rattle.login_model.specs.declared.fact.Key.TheVariants.{Taken};
 ghost use Rattle.login_laws.proofs.Carried.{force_handle-carried, resume_handle-carried};
 ghost use Rattle.login_laws.proofs.Grows.{grows};
-ghost use Rattle.switch_core.specs.inner.Told.{handle_fact, controller_fact, kind_fact};
+ghost use Rattle.switch_core.specs.inner.HandedOn.{handle_fact, controller_fact, kind_fact};
 ghost use Rattle.login_model.specs.Facts.{device_kind_in};
 ghost use Rattle.switch_core.specs.inner.Ahead.{Anything, Fits, marked_by};
 ghost use Rattle.switch_core.specs.Handles.{IsNumbered};

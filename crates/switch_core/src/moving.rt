@@ -4,7 +4,6 @@ ghost use Rattle.std.specs.Prelude.{◌≡◌};
 ghost use Rattle.login_model.specs.Start.{seat0};
 ghost use Rattle.login_model.specs.Where.{active_on};
 ghost use Rattle.login_model.specs.Switching.{ask_getty, tell_change, arrive, move_to, complete, settle_switch};
-ghost use Rattle.switch_core.specs.inner.Told.{terminal_fact};
 ghost use Rattle.login_model.specs.Facts.{number_in_fact};
 ghost use Rattle.login_model.specs.Trail.{value};
 ghost use Rattle.switch_core.specs.inner.Ahead.{Fits, marked_by};

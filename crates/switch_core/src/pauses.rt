@@ -5,7 +5,7 @@ ghost use Rattle.login_model.specs.Procedure.{kill, no, untake};
 ghost use Rattle.login_model.specs.Taking.{acknowledge};
 ghost use Rattle.login_model.specs.Trail.{put, value};
 ghost use Rattle.switch_core.specs.inner.Ahead.{Fits, marked_by};
-ghost use Rattle.switch_core.specs.inner.Told.{handle_fact};
+ghost use Rattle.switch_core.specs.inner.HandedOn.{handle_fact};
 
 use crate::ahead::Ahead;
 use login_base::{DevNo, HandleNo, SessId};

@@ -6,7 +6,7 @@ ghost use Rattle.login_model.specs.Facts.{controller_in, handle_in};
 ghost use Rattle.login_model.specs.Procedure.{tell_controller};
 ghost use Rattle.login_model.specs.Trail.{put, tell_all, value};
 ghost use Rattle.switch_core.specs.inner.Ahead.{Fits, marked_by};
-ghost use Rattle.switch_core.specs.inner.Told.{controller_fact};
+ghost use Rattle.switch_core.specs.inner.HandedOn.{controller_fact};
 
 use crate::ahead::Ahead;
 use login_base::{ConnId, DevNo, HandleNo, SessId};

@@ -7,7 +7,7 @@ use Rattle.recording.proofs.notice_text.push_notice.Goals as goal
 pub returns-in-UserRemoved : goal.returns-in-UserRemoved
 unfolding notice_words
 returns-in-UserRemoved c =
-    rw c.in-UserRemoved.is (two_words c.push_number-in-UserRemoved.result c.args.text.now c.push_number-in-UserRemoved.new.text (codes "user-removed") (decimal c.in-UserRemoved.uid.0) c.push_number-in-UserRemoved.ensures)
+    rw c.in-UserRemoved.is (two_words c.push_numbered-in-UserRemoved.result c.args.text.now c.push_numbered-in-UserRemoved.new.text (codes "user-removed") (decimal c.in-UserRemoved.uid.0) c.push_numbered-in-UserRemoved.ensures)
 
 pub returns-in-SeatRemoved : goal.returns-in-SeatRemoved
 unfolding notice_words

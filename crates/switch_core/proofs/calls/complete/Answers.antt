@@ -3,7 +3,7 @@ use Rattle.login_model.specs.Start.{seat0}
 use Rattle.login_model.specs.Switching.{complete, move_to}
 use Rattle.login_model.specs.Where.{active_on}
 use Rattle.switch_core.specs.Handles.{IsNumbered}
-use Rattle.switch_core.specs.inner.Told.{terminal_fact}
+use Rattle.switch_core.specs.inner.HandedOn.{terminal_fact}
 use Rattle.switch_core.proofs.calls.complete.Goals as goal
 
 pub move_now-requires-clause-numbered : goal.move_now-requires-clause-numbered

@@ -4,10 +4,10 @@ use Rattle.login_model.specs.Switching.{complete, settle_switch}
 use Rattle.login_model.specs.Trail.{Trail, value}
 use Rattle.login_model.specs.declared.conf.Conf.{Conf}
 use Rattle.login_model.specs.declared.fact.Key.TheVariants.{Pending}
-use Rattle.switch_core.specs.inner.Told.{terminal_fact}
+use Rattle.switch_core.specs.inner.HandedOn.{terminal_fact}
 use Rattle.login_table.proofs.Appending.{appends-as, has-room-as, room-as}
 use Rattle.switch_core.proofs.Numbers.{complete-numbered}
-use Rattle.switch_core.proofs.Told.{completed}
+use Rattle.switch_core.proofs.HandedOn.{completed}
 use Rattle.switch_core.proofs.calls.settle.Goals as goal
 
 -- what is read of the fact does what the fact does

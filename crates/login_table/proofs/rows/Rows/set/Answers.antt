@@ -1,13 +1,36 @@
-use Rattle.std.proofs.Common.{◌≡◌, ◌<◌, ◌∙◌, sym, ap, subst, arith, length, List, ◌∷◌, vec_len}
+use Rattle.std.proofs.Common.{◌≡◌, ◌<◌, ◌≤◌, ◌-◌, ◌^◌, ◌∙◌, ℕ, suc, sym, ap, subst, arith, length, List, ◌∷◌, vec_len}
 use Rattle.login_model.specs.Trail.{value}
 use Rattle.login_model.specs.declared.mark.Mark.TheVariants.{Set}
 use Rattle.login_table.specs.Rows.{RowList, as_trail, IsFront}
 use Rattle.login_table.specs.KeyOrder.{key_lt}
+use Rattle.login_table.specs.Places.{PlacesAscend, put_place}
 use Rattle.login_table.specs.declared.rows.Row.{Row}
 use Rattle.login_table.proofs.Ascending.{exchanged-at, inserted, missed-at, put_row, put-is}
-use Rattle.login_table.proofs.NextRow.{rows-hold}
+use Rattle.login_table.proofs.NextRow.{exchanged-hold, inserted-hold}
+use Rattle.login_table.proofs.RowPlaces.{places-wider, raised-ascend}
 use Rattle.login_table.proofs.rows.Rows.set.Goals.{else-at-len-via-then-at-len+else-is_same_key, else-at-len-via-else-at-len}
 use Rattle.login_table.proofs.rows.Rows.set.Goals as goal
+
+pub put-requires-clause-ascend : goal.put-requires-clause-ascend
+put-requires-clause-ascend c =
+    let xs = c.self.inside.rows.items in
+    let long : length xs ≡ vec_len c.self.inside.rows = ap length (sym c.as_slice.ensures.value) ∙ c.as_slice.ensures.len in
+    places-wider (length xs) (2 ^ 64 - 1) c.self.inside.there.list (omega (arith, long, c.len.ensures)) c.self.invariant.1
+
+pub raise-requires : goal.raise-requires
+raise-requires c =
+    let xs = c.self.inside.rows.items in
+    let long : length xs ≡ vec_len c.self.inside.rows = ap length (sym c.as_slice.ensures.value) ∙ c.as_slice.ensures.len in
+    places-wider (length xs) (2 ^ 64 - 1) c.self.inside.there.list (omega (arith, long, c.len.ensures)) c.self.invariant.1
+
+pub put-requires-2-clause-ascend : goal.put-requires-2-clause-ascend
+put-requires-2-clause-ascend c =
+    let xs = c.self.inside.rows.items in
+    let i = c.place-at.result in
+    let ps = c.self.inside.there.list in
+    let long : length xs ≡ vec_len c.self.inside.rows = ap length (sym c.as_slice.ensures.value) ∙ c.as_slice.ensures.len in
+    let P : List ℕ → Type 0 = λ qs. PlacesAscend (2 ^ 64 - 1) qs in
+    subst P (sym c.raise.ensures.list) (places-wider (suc (length xs)) (2 ^ 64 - 1) _ (omega (arith, long, c.len.ensures)) (raised-ascend i (length xs) ps c.self.invariant.1))
 
 pub invariant_of-self : goal.invariant_of-self
 invariant_of-self c =
@@ -18,8 +41,8 @@ invariant_of-self c =
     let front : F xs = subst F c.as_slice.ensures.value c.place-at.ensures.front in
     let long : length xs ≡ vec_len c.self.inside.rows = ap length (sym c.as_slice.ensures.value) ∙ c.as_slice.ensures.len in
     let within : i < length xs = omega (arith, c.if-at-len.true, c.len.ensures) in
-    rows-hold k c.args.fact xs _ c.self.inside.there.list c.put.new.self.list c.says_there.result c.says_there.ensures c.put.ensures.keys c.self.invariant
-    (exchanged-at k c.args.fact xs i c.index_mut.result.now c.index.result.now front within c.index.ensures (sym c.is_same_key.ensures ∙ c.if-is_same_key.true) c.index_mut.ensures.value)
+    exchanged-hold k c.args.fact xs c.self.inside.there.list c.put.new.self.list i c.index_mut.result.now c.index.result.now c.says_there-is_in.result c.says_there-is_in.ensures c.self.invariant front within
+    c.index.ensures (sym c.is_same_key.ensures ∙ c.if-is_same_key.true) c.index_mut.ensures.value c.put.ensures.list
 
 pub returns-then-is_same_key-clause-facts : goal.returns-then-is_same_key-clause-facts
 returns-then-is_same_key-clause-facts c j =
@@ -56,7 +79,12 @@ made c =
 
 pub invariant_of-self-2 : goal.invariant_of-self-2
 invariant_of-self-2 c =
-    rows-hold c.args.key c.args.fact c.self.inside.rows.items _ c.self.inside.there.list c.put.new.self.list c.says_there.result c.says_there.ensures c.put.ensures.keys c.self.invariant (made c)
+    let xs = c.self.inside.rows.items in
+    let i = c.place-at.result in
+    let long : length xs ≡ vec_len c.self.inside.rows = ap length (sym c.as_slice.ensures.value) ∙ c.as_slice.ensures.len in
+    let within : i ≤ length xs = omega (arith, long, c.place-at.ensures.bound, c.as_slice.ensures.len) in
+    inserted-hold c.args.key c.args.fact xs c.insert.new.self.items c.self.inside.there.list c.put-2.new.self.list i c.says_there-is_in.result c.says_there-is_in.ensures c.self.invariant within
+    c.in-Ok.ensures.items (made c) (c.put-2.ensures.list ∙ ap (λ (qs : List ℕ). put_place i c.says_there-is_in.result qs) c.raise.ensures.list)
 
 pub returns-clause-facts : goal.returns-clause-facts
 returns-clause-facts c j =

@@ -2,7 +2,7 @@ use Rattle.std.proofs.Common.{rules, ◌≡◌, ◌+◌, ◌≤◌, [], length, 
 use Rattle.std.specs.Option.{IfSome}
 use Rattle.std.proofs.lemmas.Grind.{common_steps}
 use Rattle.recording.specs.Reading.{left_to}
-use Rattle.recording.proofs.Kept.{joined-moves, joined-first, joined_to_end, IfSome-last, IfSome-nothing, held-nothing, held-piece, length-held, length-moved}
+use Rattle.recording.proofs.HeldPieces.{joined-moves, joined-first, joined_to_end, IfSome-last, IfSome-nothing, held-nothing, held-piece, length-held, length-moved}
 use Rattle.recording.proofs.line_reader.LineReader.next.Goals as goal
 use Rattle.recording.proofs.line_reader.LineReader.next.Goals.{then-is_empty, else-is_empty}
 

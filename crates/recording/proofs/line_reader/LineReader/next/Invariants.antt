@@ -1,7 +1,7 @@
 use Rattle.std.proofs.Common.{◌≡◌, ◌+◌, ◌-◌, ◌<◌, ◌≤◌, length, take, drop, vec_capacity, vec_len}
 use Rattle.recording.specs.Cut.{NoLineFeed}
 use Rattle.recording.specs.Reading.{left_to, remaining_to}
-use Rattle.recording.proofs.Kept.{joined}
+use Rattle.recording.proofs.HeldPieces.{joined}
 use Rattle.recording.proofs.line_reader.LineReader.next.Given as goal
 
 abbrev pub invariant-loop-at : goal.invariant-loop-at

@@ -5,9 +5,9 @@ use Rattle.login_model.specs.declared.mark.PauseKind.TheVariants as pause
 use Rattle.login_model.specs.declared.mark.Notice.TheVariants.{Pause}
 use Rattle.login_model.specs.Trail.{value, put}
 use Rattle.login_model.specs.Procedure.{yes, tell_controller}
-use Rattle.switch_core.specs.inner.Told.{controller_fact}
+use Rattle.switch_core.specs.inner.HandedOn.{controller_fact}
 use Rattle.switch_core.specs.inner.Ahead.{with_trail, marked_by}
-use Rattle.switch_core.proofs.Told.{told}
+use Rattle.switch_core.proofs.HandedOn.{controller-told}
 use Rattle.switch_core.proofs.ahead.Ahead.await_live.Goals as goal
 
 pub returns : goal.returns
@@ -20,5 +20,5 @@ returns g c =
       marked = c.tell_controller.ensures.marked
           ∙ ap (marked_by (tell_controller (controller_fact c.controller-controller.result) n)) c.put_flag.ensures.marked
           ∙ ap (with_trail c.args.self.now) (ap (λ (o : Option ConnId). tell_controller (controller_fact o) n (put (key.Awaited s d) yes t)) c.controller-controller.ensures
-          ∙ told (value t (key.Ctl s)) n (put (key.Awaited s d) yes t));
+          ∙ controller-told (value t (key.Ctl s)) n (put (key.Awaited s d) yes t));
     }

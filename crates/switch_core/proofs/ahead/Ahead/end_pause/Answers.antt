@@ -3,9 +3,9 @@ use Rattle.login_base.specs.declared.ids.HandleNo.{HandleNo}
 use Rattle.login_model.specs.declared.fact.Key.TheVariants.{Awaited, Taken}
 use Rattle.login_model.specs.Procedure.{kill, no}
 use Rattle.login_model.specs.Trail.{put, value}
-use Rattle.switch_core.specs.inner.Told.{handle_fact}
+use Rattle.switch_core.specs.inner.HandedOn.{handle_fact}
 use Rattle.switch_core.specs.inner.Ahead.{with_trail, marked_by}
-use Rattle.switch_core.proofs.Told.{killed}
+use Rattle.switch_core.proofs.HandedOn.{killed}
 use Rattle.switch_core.proofs.ahead.Ahead.end_pause.Goals as goal
 
 pub returns : goal.returns

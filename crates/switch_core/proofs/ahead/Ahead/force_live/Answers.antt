@@ -5,9 +5,9 @@ use Rattle.login_model.specs.declared.mark.PauseKind.TheVariants as pause
 use Rattle.login_model.specs.declared.mark.Notice.TheVariants.{Pause}
 use Rattle.login_model.specs.Trail.{value, put}
 use Rattle.login_model.specs.Procedure.{no, tell_controller}
-use Rattle.switch_core.specs.inner.Told.{controller_fact}
+use Rattle.switch_core.specs.inner.HandedOn.{controller_fact}
 use Rattle.switch_core.specs.inner.Ahead.{with_trail, marked_by}
-use Rattle.switch_core.proofs.Told.{told}
+use Rattle.switch_core.proofs.HandedOn.{controller-told}
 use Rattle.switch_core.proofs.ahead.Ahead.force_live.Goals as goal
 
 pub returns : goal.returns
@@ -21,5 +21,5 @@ returns g c =
       marked = c.tell_controller.ensures.marked
           ∙ ap (marked_by (tell_controller (controller_fact c.controller-controller.result) (Pause s d pause.Force))) c.put_flag.ensures.marked
           ∙ ap (with_trail c.args.self.now) (ap (λ (o : Option ConnId). tell_controller (controller_fact o) (Pause s d pause.Force) (put (key.Live h) no t)) c.controller-controller.ensures
-          ∙ told f (Pause s d pause.Force) (put (key.Live h) no t));
+          ∙ controller-told f (Pause s d pause.Force) (put (key.Live h) no t));
     }

@@ -5,9 +5,9 @@ use Rattle.login_model.specs.declared.fact.Key.TheVariants as key
 use Rattle.login_model.specs.Trail.{value}
 use Rattle.login_model.specs.Fresh.{next_handle}
 use Rattle.login_model.specs.Procedure.{renew}
-use Rattle.switch_core.specs.inner.Told.{controller_fact}
+use Rattle.switch_core.specs.inner.HandedOn.{controller_fact}
 use Rattle.switch_core.specs.inner.Ahead.{with_trail}
-use Rattle.switch_core.proofs.Told.{renewed}
+use Rattle.switch_core.proofs.HandedOn.{renewed}
 use Rattle.switch_core.proofs.ahead.Ahead.renew_dead.Goals as goal
 
 pub returns : goal.returns

@@ -3,9 +3,9 @@ use Rattle.login_base.specs.declared.ids.HandleNo.{HandleNo}
 use Rattle.login_model.specs.declared.fact.Key.TheVariants as key
 use Rattle.login_model.specs.Trail.{value}
 use Rattle.login_model.specs.Procedure.{resume_handle}
-use Rattle.switch_core.specs.inner.Told.{handle_fact}
+use Rattle.switch_core.specs.inner.HandedOn.{handle_fact}
 use Rattle.switch_core.specs.inner.Ahead.{with_trail}
-use Rattle.switch_core.proofs.Told.{resumed}
+use Rattle.switch_core.proofs.HandedOn.{resumed}
 use Rattle.switch_core.proofs.ahead.Ahead.resume_device.Goals as goal
 
 pub returns : goal.returns

@@ -4,9 +4,9 @@ use Rattle.login_model.specs.declared.fact.Key.TheVariants as key
 use Rattle.login_model.specs.declared.mark.Notice.TheVariants.{Resume}
 use Rattle.login_model.specs.Trail.{value, put}
 use Rattle.login_model.specs.Procedure.{yes, tell_controller}
-use Rattle.switch_core.specs.inner.Told.{controller_fact}
+use Rattle.switch_core.specs.inner.HandedOn.{controller_fact}
 use Rattle.switch_core.specs.inner.Ahead.{with_trail, marked_by}
-use Rattle.switch_core.proofs.Told.{told}
+use Rattle.switch_core.proofs.HandedOn.{controller-told}
 use Rattle.switch_core.proofs.ahead.Ahead.revive_dead.Goals as goal
 
 pub returns : goal.returns
@@ -20,5 +20,5 @@ returns g c =
       marked = c.tell_controller.ensures.marked
           ∙ ap (marked_by (tell_controller (controller_fact c.controller-controller.result) (Resume s d h))) c.put_flag.ensures.marked
           ∙ ap (with_trail c.args.self.now) (ap (λ (o : Option ConnId). tell_controller (controller_fact o) (Resume s d h) (put (key.Live h) yes t)) c.controller-controller.ensures
-          ∙ told f (Resume s d h) (put (key.Live h) yes t));
+          ∙ controller-told f (Resume s d h) (put (key.Live h) yes t));
     }

@@ -3,10 +3,10 @@ use Rattle.login_model.specs.declared.fact.Key.TheVariants as key
 use Rattle.login_model.specs.Trail.{value}
 use Rattle.login_model.specs.declared.hardware.DevKind.{DevKind}
 use Rattle.login_model.specs.Procedure.{revive}
-use Rattle.switch_core.specs.inner.Told.{kind_fact}
+use Rattle.switch_core.specs.inner.HandedOn.{kind_fact}
 use Rattle.login_model.specs.Facts.{device_kind_in}
 use Rattle.switch_core.specs.inner.Ahead.{with_trail}
-use Rattle.switch_core.proofs.Told.{revived}
+use Rattle.switch_core.proofs.HandedOn.{revived}
 use Rattle.switch_core.proofs.ahead.Ahead.revive_device.Goals as goal
 
 pub returns : goal.returns

@@ -4,9 +4,9 @@ use Rattle.login_model.specs.declared.fact.Key.TheVariants as key
 use Rattle.login_model.specs.declared.fact.Fact.TheVariants as fact
 use Rattle.login_model.specs.Trail.{value, put}
 use Rattle.login_model.specs.Procedure.{no, kill}
-use Rattle.switch_core.specs.inner.Told.{handle_fact}
+use Rattle.switch_core.specs.inner.HandedOn.{handle_fact}
 use Rattle.switch_core.specs.inner.Ahead.{with_trail, marked_by}
-use Rattle.switch_core.proofs.Told.{killed}
+use Rattle.switch_core.proofs.HandedOn.{killed}
 use Rattle.switch_core.proofs.ahead.Ahead.untake.Goals as goal
 
 pub returns : goal.returns

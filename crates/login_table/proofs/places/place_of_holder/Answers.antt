@@ -1,0 +1,17 @@
+use Rattle.std.proofs.Common.{ℕ, rules}
+use Rattle.std.proofs.lemmas.List.Sorted.{IsPartitionPoint-from_clause}
+use Rattle.login_table.specs.Keys.{is_holder_passed}
+use Rattle.login_table.specs.Places.{key_at}
+use Rattle.login_table.proofs.Ascending.{front-point}
+use Rattle.login_table.proofs.NextTaker.{holder-down}
+use Rattle.login_table.proofs.RowPlaces.{keys-front, places-parted}
+use Rattle.login_table.proofs.places.place_of_holder.Goals as goal
+
+pub returns-clause-front : goal.returns-clause-front
+returns-clause-front c =
+    let p = is_holder_passed c.args.above in
+    let rows = c.args.rows.now in
+    let places = c.args.places.now in
+    let q = λ (i : ℕ). p (key_at rows i) in
+    keys-front p rows c.partition_point.result places (front-point q places c.partition_point.result c.partition_point.ensures.bound
+    (IsPartitionPoint-from_clause q _ _ c.partition_point.ensures.partitioned (places-parted p rows places (holder-down c.args.above) c.requires) (λ a r q h. search rules)))

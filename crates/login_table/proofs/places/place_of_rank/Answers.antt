@@ -1,0 +1,19 @@
+use Rattle.std.proofs.Common.{ℕ, rules, nat_lt}
+use Rattle.std.proofs.lemmas.List.Sorted.{IsPartitionPoint-from_clause}
+use Rattle.login_model.specs.declared.fact.Key.{Key}
+use Rattle.login_table.specs.KeyOrder.{rank_of}
+use Rattle.login_table.specs.Places.{key_at}
+use Rattle.login_table.proofs.Ascending.{front-point}
+use Rattle.login_table.proofs.KeySets.{keys-of-kinds}
+use Rattle.login_table.proofs.RowPlaces.{keys-front, places-parted}
+use Rattle.login_table.proofs.places.place_of_rank.Goals as goal
+
+pub returns-clause-front : goal.returns-clause-front
+returns-clause-front c =
+    let m = c.args.rank in
+    let p = λ (x : Key). nat_lt (rank_of x) m in
+    let rows = c.args.rows.now in
+    let places = c.args.places.now in
+    let q = λ (i : ℕ). p (key_at rows i) in
+    keys-front p rows c.partition_point.result places (front-point q places c.partition_point.result c.partition_point.ensures.bound
+    (IsPartitionPoint-from_clause q _ _ c.partition_point.ensures.partitioned (places-parted p rows places (keys-of-kinds m) c.requires) (λ a r q h. search rules)))
