@@ -17,7 +17,7 @@ use Rattle.login_model.specs.Procedure.{if_some, in_phase, leave_seat, release, 
 use Rattle.login_model.proofs.Values.{upd-same, value-put}
 use Rattle.login_core.specs.declared.room.copies.Copies.{Copies}
 use Rattle.login_core.specs.Texts.{HasTexts, AreCopies}
-use Rattle.login_core.proofs.Frames.{put-other, keeps-say}
+use Rattle.switch_core.proofs.Frames.{put-other, keeps-say}
 use Rattle.login_core.proofs.Released.{keeps-release}
 
 -- a session has its texts still

@@ -14,16 +14,16 @@ use Rattle.login_core.specs.declared.room.copies.Copies.{Copies}
 use Rattle.login_core.specs.Texts.{AreSome}
 use Rattle.login_core.specs.inner.Handles.{owner_fact, AreForClosing}
 use Rattle.login_model.specs.Facts.{owner_in}
-use Rattle.login_core.proofs.Frames.{put-other}
+use Rattle.switch_core.proofs.Frames.{put-other}
 
 -- an owner's fact that is handed on by what is read of it does what the fact does
 pub closed : (h : HandleNo) (f : Fact) (t : Trail) → close_owned h (owner_fact (owner_in f)) t ≡ close_owned h f t
 closed h (Owned o) t = refl
 closed h _ t = refl
 
-pub told-closing : (f : Fact) (t : Trail) (c : Option Copies) → AreForClosing t f c → AreForClosing t (owner_fact (owner_in f)) c
-told-closing (Owned o) t c h = h
-told-closing _ t c h = tt
+pub handed-closing : (f : Fact) (t : Trail) (c : Option Copies) → AreForClosing t f c → AreForClosing t (owner_fact (owner_in f)) c
+handed-closing (Owned o) t c h = h
+handed-closing _ t c h = tt
 
 -- copies that fit stay fitting where the session's fact does
 pub fits-same : (s : SessId) (t u : Trail) (c : Option Copies) → value u (Sess s) ≡ value t (Sess s) → (is_open t s ≡ true → AreSome (value t (Sess s)) c) → is_open u s ≡ true → AreSome (value u (Sess s)) c

@@ -15,7 +15,7 @@ use Rattle.login_model.specs.Policy.{controls, is_controller_fact}
 use Rattle.login_model.specs.Procedure.{each, untake, release}
 use Rattle.login_core.specs.inner.Chosen.{is_chosen}
 use Rattle.login_core.proofs.Chosen.{filter-chosen}
-use Rattle.login_core.proofs.Frames.{Keeps, keeps-each, put-other}
+use Rattle.switch_core.proofs.Frames.{Keeps, keeps-each, put-other}
 use Rattle.login_core.proofs.Going.{KeepsAbove}
 use Rattle.login_core.proofs.Devices.{of_device, keeps-untake}
 use Rattle.login_core.proofs.Released.{of_devices, keeps-release}

@@ -22,7 +22,7 @@ use Rattle.login_model.proofs.InOrder.{users-enumerated}
 use Rattle.login_core.specs.inner.Leaving.{is_overdue}
 use Rattle.login_model.specs.Facts.{is_known}
 use Rattle.login_core.proofs.Among.{among, left-same}
-use Rattle.login_core.proofs.Frames.{Keeps, keeps-then, keeps-put, keeps-say, put-other}
+use Rattle.switch_core.proofs.Frames.{Keeps, keeps-then, keeps-put, keeps-say, put-other}
 use Rattle.login_core.proofs.Going.{Tour, KeepsAbove}
 use Rattle.login_core.proofs.Chosen.{chosen, chosen-above}
 

@@ -17,7 +17,7 @@ use Rattle.login_model.specs.Procedure.{no, tell_controller, kill, untake, revok
 use Rattle.login_model.proofs.Keys.{test, both, same-device}
 use Rattle.login_model.proofs.NameLaws.{device_order}
 use Rattle.login_model.proofs.InOrder.{taken-enumerated}
-use Rattle.login_core.proofs.Frames.{Keeps, Covers, keeps-all, keeps-then, keeps-put, keeps-told}
+use Rattle.switch_core.proofs.Frames.{Keeps, Covers, keeps-all, keeps-then, keeps-put, keeps-told}
 use Rattle.login_core.proofs.Going.{Tour, KeepsAbove}
 
 -- the devices that a session has taken

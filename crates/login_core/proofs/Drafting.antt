@@ -18,7 +18,8 @@ use Rattle.login_core.specs.inner.Seating.{AreSeated}
 use Rattle.login_core.specs.inner.UnderWay.{so_far}
 use Rattle.login_core.specs.inner.Draft.{DraftState, Fits, IsDraft, tell, with_ears, with_trail}
 use Rattle.login_laws.proofs.JournalLaws.{length-after}
-use Rattle.login_core.proofs.Standing.{so_far-more, so_far-start, so_far-closed, put-other}
+use Rattle.login_table.proofs.Appending.{put-made}
+use Rattle.login_core.proofs.Standing.{so_far-more, so_far-start, so_far-closed}
 
 -- what a draft of these parts is seen as
 abbrev pub seen : List Entry → List Mark → Tables → ℕ → DraftState
@@ -38,7 +39,7 @@ seen-more es ms ns f g reach x d v e p q =
 
 -- a setting that is made wants one mark
 pub one-more : (k : Key) (x : Fact) (d : DraftState) → same_fact (value d.trail k) x ≡ false → Fits (put k x) d → length d.trail + 1 ≤ d.reach
-one-more k x d other room = let e = ap length (put-other k x d.trail other) in let f : length (Set k x ∷ d.trail) ≡ length d.trail + 1 = sym (add-one (length d.trail)) in omega arith
+one-more k x d other room = let e = ap length (put-made k x d.trail other) in let f : length (Set k x ∷ d.trail) ≡ length d.trail + 1 = sym (add-one (length d.trail)) in omega arith
 
 -- and so does a notice
 pub said-room : (w : Whom) (n : Notice) (d : DraftState) → Fits (tell w n) d → length d.trail + 1 ≤ d.reach

@@ -6,6 +6,7 @@ use Rattle.login_model.specs.Procedure.{each}
 use Rattle.login_laws.proofs.Grows.{Grows, each-grows}
 use Rattle.login_model.proofs.InOrder.{Enumerates, rest, rest-none, rest-next, rest-stays}
 use Rattle.login_core.specs.inner.Draft.{DraftState, Fits, marked_by, with_trail}
+use Rattle.switch_core.proofs.Going.{each-more, each-none}
 
 -- the names of a kind that are there, which a list has
 pub record Tour (A : Type 0) : Type 0 where
@@ -29,14 +30,6 @@ Adds {A} f = (d : A) (t : Trail) → Grows t (f d t)
 -- f of those that are left, from now, is f of all, from the start
 abbrev pub Going : {A : Type 0} → Tour A → (A → Trail → Trail) → List A → Option A → DraftState → DraftState → Type 0
 Going {A} k f all above start now = marked_by (λ t. each f (left k t above) t) now ≡ marked_by (each f all) start
-
-each-none : {A : Type 0} (f : A → Trail → Trail) (t : Trail) → each f [] t ≡ t
-unfolding each
-each-none f t = refl
-
-each-more : {A : Type 0} (f : A → Trail → Trail) (x : A) (xs : List A) (t : Trail) → each f (x ∷ xs) t ≡ each f xs (f x t)
-unfolding each
-each-more f x xs t = refl
 
 pub going-start : {A : Type 0} (k : Tour A) (f : A → Trail → Trail) (all : List A) (m : DraftState) → left k m.trail None ≡ all → Going k f all None m m
 going-start {A} k f all m e = ap (λ (xs : List A). marked_by (each f xs) m) e

@@ -1,21 +1,17 @@
 -- What is so of an event that is granted.
-use Rattle.std.proofs.Common.{◌≡◌, true, Option, Some, None, refl, ap, arith, IfSome}
+use Rattle.std.proofs.Common.{◌≡◌, true, Option, Some, None, IfSome}
 use Rattle.login_base.specs.Seat.{is_seat_name}
 use Rattle.login_base.specs.SessionId.{session_of}
 use Rattle.login_base.specs.declared.ids.ConnId.{ConnId}
 use Rattle.login_base.specs.declared.ids.SessId.{SessId}
-use Rattle.login_model.specs.Fresh.{next_session}
 use Rattle.login_model.specs.Locks.{is_mode, is_what}
-use Rattle.login_model.specs.MadeWith.{texts_in}
 use Rattle.login_model.specs.Policy.{call_rules, hardware_rules, on_session, only_session, verdict}
-use Rattle.login_laws.specs.Sound.{IsSound}
-use Rattle.login_model.specs.Trail.{Trail, value}
+use Rattle.login_model.specs.Trail.{Trail}
 use Rattle.login_model.specs.Where.{is_seat, is_session}
 use Rattle.login_model.specs.declared.call.Call.{Call}
 use Rattle.login_model.specs.declared.call.Call.TheVariants as call
 use Rattle.login_model.specs.declared.event.Event.TheVariants.{Call as Calls, Hardware as Happens}
 use Rattle.login_model.specs.declared.event.Request.{Request}
-use Rattle.login_model.specs.declared.fact.Key.TheVariants.{Sess}
 use Rattle.login_model.specs.declared.hardware.Hardware.{Hardware}
 use Rattle.login_model.specs.declared.hardware.Hardware.TheVariants.{Exit}
 use Rattle.login_model.specs.declared.rule.Rule.TheVariants.{BadArguments, NoSuchSeat, NoSuchSession}
@@ -47,7 +43,3 @@ exits-by U t _ h = tt
 -- a granted exit is of a session that is not gone
 pub exits : (U : Setup) (t : Trail) (x : Hardware) → verdict U t (Happens x) ≡ Granted → ExitsHere t x
 exits U t x g = exits-by U t x (granted-rules U t (Happens x) g)
-
--- nothing is known of the next session
-pub unmade : (U : Setup) (t : Trail) → IsSound U t → texts_in (value t (Sess (next_session t))) ≡ None
-unmade U t s = ap texts_in (s.between.unused_sessions (Sess (next_session t)) (next_session t) refl (omega arith))

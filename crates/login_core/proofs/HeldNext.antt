@@ -1,6 +1,7 @@
 -- The next thing of a kind that a connection has, by the row of all that connections have.
-use Rattle.std.proofs.Common.{◌≡◌, ℕ, zero, suc, ◌+◌, ◌<◌, ◌==◌, ◌&&◌, ◌||◌, nat_lt, length, get_or, drop, add-one, Bool, true, false, cond, Option, Some, None, List, [], ◌∷◌, refl, ap, sym, ◌∙◌, subst, arith, inl, inr}
+use Rattle.std.proofs.Common.{◌≡◌, ℕ, zero, suc, ◌+◌, ◌<◌, ◌==◌, ◌&&◌, nat_lt, length, get_or, drop, add-one, find, Bool, true, false, cond, Option, Some, None, List, [], ◌∷◌, refl, ap, sym, ◌∙◌, subst, arith, inl, inr}
 use Rattle.std.proofs.lemmas.Bool.Decides.{nat_tests}
+use Rattle.std.specs.Option.{option_map}
 use Rattle.login_base.specs.declared.ids.SessId.{SessId}
 use Rattle.login_base.specs.declared.ids.ConnId.{ConnId}
 use Rattle.login_base.specs.declared.ids.HandleNo.{HandleNo}
@@ -25,7 +26,7 @@ use Rattle.login_core.specs.declared.board.holding.Thing.TheVariants.{Session, L
 use Rattle.login_core.specs.declared.board.holding.Holding.{Holding}
 use Rattle.login_core.specs.inner.Chosen.{is_chosen}
 use Rattle.login_core.specs.inner.Ending.{is_kept_open_by}
-use Rattle.login_core.specs.inner.Holding.{AreSuch, IsHeld, IsNextThing, IsSuch, control_in, owned_fifo_in, first_standing, held_lock_in, holding_lt, is_standing, is_such, lock_number, lock_of, number, number_of, rank, session_of}
+use Rattle.login_core.specs.inner.Holding.{AreSuch, IsHeld, IsNextThing, IsSuch, control_in, owned_fifo_in, fifo_rank, first_standing, held_lock_in, holding_lt, is_standing, is_such, lock_number, lock_of, lock_rank, number, number_of, rank, session_of, session_rank}
 use Rattle.login_core.proofs.HeldOrder.{asym, holding-one, holding_order}
 
 none-thing : {x : Thing} → None ≡ Some x → ⊥
@@ -53,7 +54,8 @@ record IsFirst (t : Trail) (xs : List Holding) (y : Thing) : Type 0 where
   least : (x : Holding) → IsIn x xs → is_standing t x.thing ≡ true → holding_lt x first ≡ false
 
 stands-at : (t : Trail) (b : Bool) (x : Holding) (xs : List Holding) → is_standing t x.thing ≡ b → first_standing t (x ∷ xs) ≡ cond b (Some x.thing) (first_standing t xs)
-stands-at t b x xs e = ap (λ (c : Bool). cond c (Some x.thing) (first_standing t xs)) e
+stands-at t true x xs e = ap (λ (c : Bool). option_map (λ (z : Holding). z.thing) (cond c (Some x) (find (λ (z : Holding). is_standing t z.thing) xs))) e
+stands-at t false x xs e = ap (λ (c : Bool). option_map (λ (z : Holding). z.thing) (cond c (Some x) (find (λ (z : Holding). is_standing t z.thing) xs))) e
 
 first-some : (t : Trail) (xs : List Holding) (y : Thing) → Ascending holding_lt xs → first_standing t xs ≡ Some y → IsFirst t xs y
 first-some t [] y a e = absurd (none-thing e)
@@ -192,7 +194,7 @@ module _ (t : Trail) (c : ConnId) (above : Option SessId) where
   abbrev is_controlled : SessId → Bool
   is_controlled = is_chosen (is_session t) (controls t c)
 
-  session-into : (s : SessId) → is_controlled s ≡ true → is_above session_lt above s ≡ true → IsSuch t c 0 (number_of above) (as_session s)
+  session-into : (s : SessId) → is_controlled s ≡ true → is_above session_lt above s ≡ true → IsSuch t c session_rank (number_of above) (as_session s)
   session-into s h k =
       let b = both (is_session t s) (controls t c s) h in
       record {
@@ -201,7 +203,7 @@ module _ (t : Trail) (c : ConnId) (above : Option SessId) where
         standing = b.0;
       }
 
-  session-onto : (y : Thing) → IsSuch t c 0 (number_of above) (record { who = c; thing = y }) → IsOf c as_session session_of session_lt is_controlled above y
+  session-onto : (y : Thing) → IsSuch t c session_rank (number_of above) (record { who = c; thing = y }) → IsOf c as_session session_of session_lt is_controlled above y
   session-onto (Session s) h = record {
     name = s;
     made = refl;
@@ -212,8 +214,8 @@ module _ (t : Trail) (c : ConnId) (above : Option SessId) where
   session-onto (Lock l) h = absurd (other-kind c false _ refl h.such)
   session-onto (Fifo s g) h = absurd (other-kind c false _ refl h.such)
 
-  pub controlled-next : (z : Option Thing) → IsNextThing t c 0 (number_of above) z → IsNext session_lt (is_chosen (is_session t) (controls t c)) above (session_of z)
-  controlled-next = next-name t c 0 (number_of above) as_session session_of session_lt is_controlled above refl session-into session-onto (session-order c)
+  pub controlled-next : (z : Option Thing) → IsNextThing t c session_rank (number_of above) z → IsNext session_lt (is_chosen (is_session t) (controls t c)) above (session_of z)
+  controlled-next = next-name t c session_rank (number_of above) as_session session_of session_lt is_controlled above refl session-into session-onto (session-order c)
 
 -- ---- the locks of a connection
 
@@ -237,14 +239,14 @@ module _ (t : Trail) (c : ConnId) (above : Option LockNo) where
   abbrev holds : LockNo → Bool
   holds l = is_lock_of c (value t (key.Lock l))
 
-  lock-into : (l : LockNo) → is_chosen (is_lock t) holds l ≡ true → is_above lock_lt above l ≡ true → IsSuch t c 1 (lock_number above) (as_lock l)
+  lock-into : (l : LockNo) → is_chosen (is_lock t) holds l ≡ true → is_above lock_lt above l ≡ true → IsSuch t c lock_rank (lock_number above) (as_lock l)
   lock-into l h k = record {
     held = lock-of l c (value t (key.Lock l)) (both (is_lock t l) (holds l) h).1;
     such = own-first c (is_above nat_lt (lock_number above) l.0) ∙ lock-above above l ∙ k;
     standing = refl;
   }
 
-  lock-onto : (y : Thing) → IsSuch t c 1 (lock_number above) (record { who = c; thing = y }) → IsOf c as_lock lock_of lock_lt (is_chosen (is_lock t) holds) above y
+  lock-onto : (y : Thing) → IsSuch t c lock_rank (lock_number above) (record { who = c; thing = y }) → IsOf c as_lock lock_of lock_lt (is_chosen (is_lock t) holds) above y
   lock-onto (Session s) h = absurd (other-kind c false _ refl h.such)
   lock-onto (Lock l) h =
       let mine = of-lock l c (value t (key.Lock l)) h.held in
@@ -257,8 +259,8 @@ module _ (t : Trail) (c : ConnId) (above : Option LockNo) where
       }
   lock-onto (Fifo s g) h = absurd (other-kind c false _ refl h.such)
 
-  pub held-next : (z : Option Thing) → IsNextThing t c 1 (lock_number above) z → IsNext lock_lt (is_chosen (is_lock t) (λ l. is_lock_of c (value t (key.Lock l)))) above (lock_of z)
-  held-next = next-name t c 1 (lock_number above) as_lock lock_of lock_lt (is_chosen (is_lock t) holds) above refl lock-into lock-onto (lock-order c)
+  pub held-next : (z : Option Thing) → IsNextThing t c lock_rank (lock_number above) z → IsNext lock_lt (is_chosen (is_lock t) (λ l. is_lock_of c (value t (key.Lock l)))) above (lock_of z)
+  held-next = next-name t c lock_rank (lock_number above) as_lock lock_of lock_lt (is_chosen (is_lock t) holds) above refl lock-into lock-onto (lock-order c)
 
 -- ---- the sessions that a connection keeps open
 
@@ -282,7 +284,7 @@ module _ (t : Trail) (c : ConnId) (above : Option SessId) (fifos : Fifos t) wher
   abbrev keeps_open : SessId → Bool
   keeps_open = is_chosen (is_session t) (is_kept_open_by c t)
 
-  fifo-into : (s : SessId) → keeps_open s ≡ true → is_above session_lt above s ≡ true → IsSuch t c 2 (number_of above) (as_fifo s)
+  fifo-into : (s : SessId) → keeps_open s ≡ true → is_above session_lt above s ≡ true → IsSuch t c fifo_rank (number_of above) (as_fifo s)
   fifo-into s e k =
       let h = fifo_in (value t (key.Sess s)) in
       let b = both (is_open t s) (is_fifo_of c (value t (key.Owner h))) (both (is_session t s) (is_kept_open_by c t s) e).1 in
@@ -293,7 +295,7 @@ module _ (t : Trail) (c : ConnId) (above : Option SessId) (fifos : Fifos t) wher
         standing = two (is_open t s) (h.0 == h.0) b.0 (same-refl h.0);
       }
 
-  fifo-onto : (y : Thing) → IsSuch t c 2 (number_of above) (record { who = c; thing = y }) → IsOf c as_fifo session_of session_lt keeps_open above y
+  fifo-onto : (y : Thing) → IsSuch t c fifo_rank (number_of above) (record { who = c; thing = y }) → IsOf c as_fifo session_of session_lt keeps_open above y
   fifo-onto (Session s) h = absurd (other-kind c false _ refl h.such)
   fifo-onto (Lock l) h = absurd (other-kind c false _ refl h.such)
   fifo-onto (Fifo s g) h =
@@ -310,5 +312,5 @@ module _ (t : Trail) (c : ConnId) (above : Option SessId) (fifos : Fifos t) wher
         is_above_it = sym (session-above above s) ∙ sym (own-first c (is_above nat_lt (number_of above) s.0)) ∙ h.such;
       }
 
-  pub kept-open-next : (z : Option Thing) → IsNextThing t c 2 (number_of above) z → IsNext session_lt (is_chosen (is_session t) (is_kept_open_by c t)) above (session_of z)
-  kept-open-next = next-name t c 2 (number_of above) as_fifo session_of session_lt keeps_open above refl fifo-into fifo-onto (λ s r. fifo-order c s r (fifo_in (value t (key.Sess s))) (fifo_in (value t (key.Sess r))))
+  pub kept-open-next : (z : Option Thing) → IsNextThing t c fifo_rank (number_of above) z → IsNext session_lt (is_chosen (is_session t) (is_kept_open_by c t)) above (session_of z)
+  kept-open-next = next-name t c fifo_rank (number_of above) as_fifo session_of session_lt keeps_open above refl fifo-into fifo-onto (λ s r. fifo-order c s r (fifo_in (value t (key.Sess s))) (fifo_in (value t (key.Sess r))))

@@ -9,8 +9,7 @@ pub mod HeldNext
 pub mod HomeLaws
 pub mod Standing
 pub mod Placed
-pub mod Told
-pub mod Frames
+pub mod HandedOn
 pub mod Going
 pub mod Growing
 mod Drafting
@@ -28,7 +27,6 @@ pub mod LockRows
 pub mod Locks
 pub mod Released
 pub mod Blanks
-pub mod KeptRows
 pub mod TextsKept
 pub mod Among
 pub mod Departing

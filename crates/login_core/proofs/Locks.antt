@@ -9,7 +9,7 @@ use Rattle.login_model.specs.Names.{names, lock_lt, lock_in}
 use Rattle.login_model.specs.Where.{is_lock, is_lock_fact, locks}
 use Rattle.login_model.specs.Direct.{is_lock_of, locks_of}
 use Rattle.login_model.proofs.InOrder.{locks-enumerated}
-use Rattle.login_core.proofs.Frames.{put-other}
+use Rattle.switch_core.proofs.Frames.{put-other}
 use Rattle.login_core.proofs.Going.{Tour, left, KeepsAbove}
 use Rattle.login_core.specs.inner.Chosen.{is_chosen}
 use Rattle.login_core.proofs.Chosen.{chosen, chosen-all, chosen-above, filter-chosen}

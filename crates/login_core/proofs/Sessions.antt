@@ -18,7 +18,7 @@ use Rattle.login_model.specs.Where.{is_session, is_session_fact, is_open, is_ses
 use Rattle.login_model.specs.Policy.{controls}
 use Rattle.login_model.specs.Direct.{controlled_by, lock_session, unlock_session}
 use Rattle.login_model.proofs.InOrder.{sessions-enumerated}
-use Rattle.login_core.proofs.Frames.{Keeps, keeps-say, put-other}
+use Rattle.switch_core.proofs.Frames.{Keeps, keeps-say, put-other}
 use Rattle.login_core.proofs.Going.{Tour, left, KeepsAbove}
 use Rattle.login_core.proofs.Chosen.{chosen, chosen-all, chosen-above}
 
@@ -84,15 +84,15 @@ controlled-all c t = sessions-all (is_controlled_by c) t
 nothing : Key → Bool
 nothing k = false
 
-pub told-leaves : (notice : SessId → Notice) → LeavesAbove (λ s t. tell_all (notice s) t)
+pub tell-leaves : (notice : SessId → Notice) → LeavesAbove (λ s t. tell_all (notice s) t)
 unfolding nothing
-told-leaves notice s r t l = (keeps-say nothing All (notice s) t).facts (Sess r) refl
+tell-leaves notice s r t l = (keeps-say nothing All (notice s) t).facts (Sess r) refl
 
 pub lock-above : KeepsAbove (sessions_that is_open) lock_session
-lock-above = by_fact-above is_open_fact lock_session (told-leaves Lock)
+lock-above = by_fact-above is_open_fact lock_session (tell-leaves Lock)
 
 pub unlock-above : KeepsAbove (sessions_that is_open) unlock_session
-unlock-above = by_fact-above is_open_fact unlock_session (told-leaves Unlock)
+unlock-above = by_fact-above is_open_fact unlock_session (tell-leaves Unlock)
 
 -- a signal to all processes of a session
 abbrev pub kill_all : ℤ → SessId → Trail → Trail

@@ -23,18 +23,20 @@ use Rattle.login_model.specs.Procedure.{each, if_some, no, kill, untake, release
 use Rattle.login_model.specs.Direct.{is_fifo_of, fifo_in, kept_open_by}
 use Rattle.login_model.proofs.Keys.{test, same-number}
 use Rattle.login_model.proofs.Values.{upd-same, value-put}
+use Rattle.login_laws.proofs.Carried.{shut-carried}
 use Rattle.login_laws.proofs.SessionSteps.{closing-not-open}
+use Rattle.login_laws.proofs.Tame.{tame}
 use Rattle.login_laws.specs.Sound.{Fifos}
 use Rattle.login_core.specs.declared.room.copies.Copies.{Copies}
-use Rattle.login_core.specs.declared.room.kept.KeptRow.{KeptRow}
-use Rattle.login_core.specs.Texts.{AreSome}
-use Rattle.login_core.specs.Kept.{copies_in, AreKept}
+use Rattle.login_core.specs.Spares.{AreClosing}
 use Rattle.login_core.specs.inner.Ending.{StaysAbove, sessions_such, is_kept_open_by}
-use Rattle.login_core.proofs.Frames.{Keeps, Covers, keeps-all, keeps-then, keeps-say, keeps-put, keeps-if, keeps-each}
+use Rattle.switch_core.proofs.Frames.{Keeps, Covers, keeps-all, keeps-then, keeps-say, keeps-put, keeps-if, keeps-each}
 use Rattle.login_core.proofs.Going.{KeepsAbove}
 use Rattle.login_core.proofs.Chosen.{filter-chosen}
 use Rattle.login_core.proofs.Released as released
 use Rattle.login_core.proofs.Sessions.{sessions_that}
+use Rattle.login_core.proofs.TextsEnd.{OthersStay, copies-taken}
+use Rattle.login_core.proofs.TextsKept.{closing-later}
 
 -- what is touched where a session is shut
 abbrev pub of_shut : SessId → Key → Bool
@@ -185,17 +187,11 @@ same-open : (s r : SessId) (t : Trail) → (r.0 == s.0) ≡ true → is_open (sh
 same-open s r t e o = not-so (sym o ∙ ap (λ (n : ℕ). let q : SessId = record { 0 = n } in is_open (shut s t) q) (same-number r.0 s.0 e) ∙ shut-closes s t)
 
 -- the copies of the sessions that stay open are there
-pub kept-shut : (s : SessId) (t u : Trail) (rows left : List KeptRow) → u ≡ shut s t → ((r : SessId) → (r.0 == s.0) ≡ false → copies_in left r ≡ copies_in rows r) → AreKept is_open rows t → AreKept is_open left u
-kept-shut s t u rows left e others kept =
-    let P : Trail → Type 0 = AreKept is_open left in
-    subst P (sym e) (λ r o. elim (test (r.0 == s.0)) [
-      | inl y ↦ absurd (same-open s r t y o)
-      | inr n ↦ (
-          let f = shut-other s r t (other-way s r n) in
-          let Q : Fact → Type 0 = λ x. AreSome x (copies_in left r) in
-          let R : Option Copies → Type 0 = λ c. AreSome (value t (key.Sess r)) c in
-          subst Q (sym f) (subst R (sym (others r n)) (kept r (sym (ap is_open_fact f) ∙ o))))
-    ])
+pub copies-shut : (s : SessId) (t u : Trail) (spares left : List (ℕ × Copies)) → u ≡ shut s t → OthersStay s spares left → AreClosing spares t → AreClosing left u
+copies-shut s t u spares left e others c =
+    let P : Trail → Type 0 = AreClosing left in
+    let v = shut s t in
+    subst P (sym e) (copies-taken is_open s spares left v (λ o. not-so (sym o ∙ shut-closes s t)) others (closing-later spares t v (shut-carried tame s t).sessions c))
 
 -- ---- the fifos of open sessions
 

@@ -1,15 +1,14 @@
 -- The tables stand for one more mark.
-use Rattle.std.proofs.Common.{◌≡◌, Bool, true, false, cond, List, [], ◌∷◌, ◌++◌, length, refl, ap, sym, subst, ◌∙◌}
+use Rattle.std.proofs.Common.{◌≡◌, List, [], ◌∷◌, ◌++◌, length, refl, ap, sym, subst, ◌∙◌}
 use Rattle.login_model.specs.declared.fact.Key.{Key}
-use Rattle.login_model.specs.declared.fact.Fact.{Fact}
 use Rattle.login_model.specs.declared.mark.Mark.{Mark}
-use Rattle.login_model.specs.declared.mark.Mark.TheVariants.{Set, Say}
+use Rattle.login_model.specs.declared.mark.Mark.TheVariants.{Say}
 use Rattle.login_model.specs.declared.mark.Whom.{Whom}
 use Rattle.login_model.specs.declared.mark.Notice.{Notice}
 use Rattle.login_model.specs.declared.mark.Entry.{Entry}
-use Rattle.login_model.specs.Same.{same_fact}
-use Rattle.login_model.specs.Trail.{Trail, value, after, put}
+use Rattle.login_model.specs.Trail.{Trail, value, after}
 use Rattle.login_model.specs.Legal.{after_all, trail_of}
+use Rattle.login_table.proofs.Appending.{after-more}
 use Rattle.login_core.specs.inner.Facts.{Tables, TablesStand, StandFor}
 use Rattle.login_core.specs.inner.UnderWay.{so_far}
 use Rattle.login_core.proofs.CountedLaws.{counted-say}
@@ -40,10 +39,6 @@ stand-say f t w n stands = let s = opened f t stands in closed f (Say w n ∷ t)
 })
 
 -- the marks so far
-pub after-more : (t : Trail) (ms : List Mark) (m : Mark) → after t (ms ++ m ∷ []) ≡ m ∷ after t ms
-after-more t [] m = refl
-after-more t (n ∷ ns) m = after-more (n ∷ t) ns m
-
 pub after_all-more : (t : Trail) (es : List Entry) (e : Entry) → after_all t (es ++ e ∷ []) ≡ after (after_all t es) e.marks
 after_all-more t [] e = refl
 after_all-more t (d ∷ ds) e = after_all-more (after t d.marks) ds e
@@ -72,12 +67,3 @@ stand-start f es ms s b c =
     let e : so_far es ms ≡ [] = ap (λ (xs : List Entry). so_far xs ms) b ∙ ap (so_far []) c ∙ so_far-start in
     let P : Trail → Type 0 = StandFor f in
     subst P (sym e) s
-
--- a setting that is left out, and one that is made
-pub put-same : (k : Key) (x : Fact) (t : Trail) → same_fact (value t k) x ≡ true → put k x t ≡ t
-unfolding put
-put-same k x t e = ap (λ (b : Bool). cond b t (Set k x ∷ t)) e
-
-pub put-other : (k : Key) (x : Fact) (t : Trail) → same_fact (value t k) x ≡ false → put k x t ≡ Set k x ∷ t
-unfolding put
-put-other k x t e = ap (λ (b : Bool). cond b t (Set k x ∷ t)) e

@@ -1,6 +1,5 @@
 -- A core before the first event.
 use Rattle.std.proofs.Common.{◌≡◌, ◌≤◌, ◌+◌, ℕ, true, false, None, List, [], length, refl, ap, sym, subst, ◌∙◌, arith}
-use Rattle.login_base.specs.declared.ids.SessId.{SessId}
 use Rattle.login_model.specs.Full.{taken_by, taken_count}
 use Rattle.device_model.specs.Ears.{heard_of}
 use Rattle.device_model.specs.declared.ears.Ear.{Ear}
@@ -16,7 +15,7 @@ use Rattle.login_model.specs.declared.setup.Setup.{Setup}
 use Rattle.login_core.specs.inner.Board.{IsBegun}
 use Rattle.login_core.specs.inner.Ears.{AreEars, heard_evdev}
 use Rattle.login_core.specs.inner.Inside.{IsCore}
-use Rattle.login_core.specs.Kept.{HaveTexts, copies_in}
+use Rattle.login_core.specs.Spares.{HaveTexts}
 use Rattle.login_core.specs.declared.board.Board.{Board}
 use Rattle.login_core.specs.declared.room.texts.Texts.{Texts}
 
@@ -31,12 +30,9 @@ no-need = refl
 false-true : false ≡ true → ⊥
 false-true e = cc
 
-no-texts : (x : Texts) → ((s : SessId) → copies_in x.closing.items s ≡ None) → ((s : SessId) → copies_in x.gone.items s ≡ None) → HaveTexts x []
+no-texts : (x : Texts) → HaveTexts x []
 unfolding value
-no-texts x a b = record {
-  closing = record { kept = λ s e. absurd (false-true e); made = λ s e. a s };
-  gone = record { kept = λ s e. absurd (false-true e); made = λ s e. b s };
-}
+no-texts x = record { closing = record { each = λ s e. absurd (false-true e) }; gone = record { each = λ s e. absurd (false-true e) } }
 
 no-taken : taken_count [] ≡ 0
 unfolding sessions taken_by names
@@ -50,9 +46,8 @@ no-ears es ears rings j q =
     let m = no-taken in
     record { heard = λ h. ap (λ (xs : List Ear). heard_of xs h) q ∙ ap (λ (js : List Entry). heard_evdev js h) (sym j); enough = omega arith }
 
-pub core-new : (U : Setup) (m : Board) (x : Texts) → IsSetup U → m.journal.items ≡ [] → m.draft.trail ≡ [] → m.draft.ears ≡ [] → IsBegun m → 1 ≤ m.journal.entries → ((s : SessId) → copies_in x.closing.items s ≡ None) → ((s : SessId) → copies_in x.gone.items s ≡ None)
-    → IsCore U m x None
-core-new U m x u j k q g n a b =
+pub core-new : (U : Setup) (m : Board) (x : Texts) → IsSetup U → m.journal.items ≡ [] → m.draft.trail ≡ [] → m.draft.ears ≡ [] → IsBegun m → 1 ≤ m.journal.entries → IsCore U m x None
+core-new U m x u j k q g n =
     let P : List Entry → Type 0 = IsLegal U in
     let t : trail_of m.journal.items ≡ [] = ap trail_of j in
     let c = ap (λ (u : Trail). length (connections u)) t ∙ no-connections in
@@ -69,7 +64,7 @@ core-new U m x u j k q g n a b =
       entries = omega arith;
       reach = omega arith;
       ears = no-ears m.journal.items m.draft.ears m.draft.rings j q;
-      kept_texts = subst Q (sym t) (no-texts x a b);
+      kept_texts = subst Q (sym t) (no-texts x);
       few_entries = omega arith;
       few_marks = omega arith;
     }

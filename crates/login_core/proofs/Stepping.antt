@@ -27,7 +27,7 @@ use Rattle.login_core.specs.Fullness.{always_fits}
 use Rattle.login_core.specs.inner.Board.{IsBegun}
 use Rattle.login_core.specs.inner.Ears.{AreEars, heard_evdev, ring_count, settled}
 use Rattle.login_core.specs.inner.Inside.{IsCore, stop_need}
-use Rattle.login_core.specs.Kept.{AreReady, HaveTexts}
+use Rattle.login_core.specs.Spares.{AreReady, HaveTexts}
 use Rattle.login_core.specs.inner.UnderWay.{entry_of}
 use Rattle.login_core.specs.State.{CoreState, IsReady, IsRoomFor, answer_next, stop_next}
 use Rattle.login_core.specs.declared.board.Board.{Board}

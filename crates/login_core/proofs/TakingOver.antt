@@ -15,7 +15,7 @@ use Rattle.login_model.specs.declared.mark.Mark.{Mark}
 use Rattle.login_model.specs.declared.mark.Mark.TheVariants.{Set, Say}
 use Rattle.login_model.specs.declared.mark.Notice.{Notice}
 use Rattle.login_model.specs.declared.mark.Whom.{Whom}
-use Rattle.login_table.specs.Appended.{Appends, HasRoom, LeavesRoom, SetsPlain}
+use Rattle.login_table.specs.Appended.{Appends, LeavesRoom, SetsPlain}
 use Rattle.switch_core.specs.Handles.{HandlesLeft, IsNumbered}
 use Rattle.device_model.specs.declared.ears.Ear.{Ear}
 use Rattle.login_core.specs.declared.board.seating.Seating.{Seating}
@@ -66,9 +66,6 @@ takes-say f s m w n e = record {
 after-append : (t : Trail) (ms ns : List Mark) → after t (ms ++ ns) ≡ after (after t ms) ns
 after-append t [] ns = refl
 after-append t (m ∷ ms) ns = after-append (m ∷ t) ms ns
-
-pub takes-none : (f : Tables) (s : Seating) → TakesOver f s [] f s
-takes-none f s = record { stands = λ t h. h; seated = λ t h a. a; spare = omega arith; ears = refl; rings = refl }
 
 takes-both : (f g h : Tables) (s u v : Seating) (ms ns : List Mark) → TakesOver f s ms g u → TakesOver g u ns h v → TakesOver f s (ms ++ ns) h v
 takes-both f g h s u v ms ns a b =
@@ -132,17 +129,6 @@ fits-inside f es ms facts reach d v h =
     let r = ap (λ (w : DraftState). w.reach) v in
     omega arith
 
--- there is room for its marks
-pub has-room : (f : Trail → Trail) (es : List Entry) (marks : Room Mark) (facts : Tables) (seating : Seating) (made reach : ℕ) (d : DraftState) (t : Trail) → IsDraft (so_far es marks.items) marks facts seating made reach → seen es marks.items facts reach ≡ d
-    → t ≡ so_far es marks.items → Fits f d → HasRoom f t marks.spare
-has-room f es marks facts seating made reach d t draft v e h =
-    let inside = fits-inside f es marks.items facts reach d v h in
-    let counted = draft.counted in
-    let fit = draft.marks_fit in
-    let same = ap (λ (u : Trail). length (f u)) e in
-    let long = ap length e in
-    omega arith
-
 -- the next handle can be numbered behind them
 pub more-numbered : (f : Trail → Trail) (es : List Entry) (marks : Room Mark) (facts : Tables) (seating : Seating) (made reach : ℕ) (d : DraftState) (t : Trail) → IsDraft (so_far es marks.items) marks facts seating made reach → seen es marks.items facts reach ≡ d
     → t ≡ so_far es marks.items → Fits f d → IsNumbered (f t)
@@ -201,10 +187,6 @@ lengths f t old new from a e =
     let s = length-append old a.marks in
     let m = ap length (more f t old new from a e) in
     omega arith
-
-pub more-within : (f : Trail → Trail) (es : List Entry) (marks new : Room Mark) (facts : Tables) (seating : Seating) (made reach : ℕ) (d : DraftState) (from : ℕ) → HasMore f es marks new facts seating made reach d → from ≡ length marks.items
-    → from ≤ length new.items
-more-within f es marks new facts seating made reach d from h e = let n = lengths f (so_far es marks.items) marks.items new.items from h.appends e in omega arith
 
 pub more-can : (f : Trail → Trail) (es : List Entry) (marks new : Room Mark) (facts : Tables) (seating : Seating) (made reach : ℕ) (d : DraftState) (from : ℕ) → HasMore f es marks new facts seating made reach d → from ≡ length marks.items
     → CanTakeOver facts seating (drop from new.items)

@@ -26,7 +26,7 @@ use Rattle.login_table.proofs.Listing.{Kind, all, kind, session_kind, sessions-a
 use Rattle.login_core.specs.declared.board.seating.Seating.{Seating}
 use Rattle.login_core.specs.declared.board.seating.Tally.{Tally}
 use Rattle.login_core.specs.inner.Counts.{one_if, one_there}
-use Rattle.login_core.specs.inner.Seating.{AreLow, AreSeated, AreTallied, CanSeat, CanShift, Seats, Shifts, bucket_of, high_in, is_at, is_none_at, is_one_at, place_under, placed_at, terminal_in, user_in}
+use Rattle.login_core.specs.inner.Seating.{AreLow, AreSeated, AreTallied, CanSeat, CanShift, Seats, Shifts, bucket_of, buckets, high_in, is_at, is_none_at, is_one_at, place_under, placed_at, terminal_in, user_in}
 use Rattle.login_core.proofs.CountLaws.{count-say, fits, follows, kind-list}
 
 -- ---- the sessions of a bucket
@@ -75,7 +75,7 @@ tallied-set place_in none c d k x t a f = record {
 tallied-fit : (place_in : Fact → Option ℕ) → place_in fact.Absent ≡ None → (c : Tally) (k : Key) (x : Fact) (t : Trail) → AreTallied place_in c t → length t + 2 < 2 ^ 32
     → CanShift c (place_under place_in k (value t k)) (place_under place_in k x)
 tallied-fit place_in none c k x t a few =
-    let fit = λ (v : ℕ) (h : v < 64). fits (at place_in v none) (λ (u : Trail). placed_at place_in u v) (at-all place_in v none) (nowhere place_in v none) k x t (slice_index c.counts v) (a.at v h) few in
+    let fit = λ (v : ℕ) (h : v < buckets). fits (at place_in v none) (λ (u : Trail). placed_at place_in u v) (at-all place_in v none) (nowhere place_in v none) k x t (slice_index c.counts v) (a.at v h) few in
     record {
       leaves = λ v h. (let m = fit v h in let e = under place_in k (value t k) v in omega arith);
       comes = λ v h. (let m = fit v h in let e = under place_in k x v in omega arith);
@@ -105,12 +105,12 @@ seated-say s w n t a = record {
   users = tallied-say user_in refl s.users w n t a.users;
 }
 
-tallied-none : (place_in : Fact → Option ℕ) (c : Tally) → ((v : ℕ) → v < 64 → slice_index c.counts v ≡ 0) → AreTallied place_in c []
+tallied-none : (place_in : Fact → Option ℕ) (c : Tally) → ((v : ℕ) → v < buckets → slice_index c.counts v ≡ 0) → AreTallied place_in c []
 unfolding placed_at names
 tallied-none place_in c e = record { at = e }
 
-pub seated-none : (s : Seating) → ((v : ℕ) → v < 64 → slice_index s.terminals.counts v ≡ 0) → ((v : ℕ) → v < 64 → slice_index s.high.counts v ≡ 0)
-    → ((v : ℕ) → v < 64 → slice_index s.users.counts v ≡ 0) → AreSeated s []
+pub seated-none : (s : Seating) → ((v : ℕ) → v < buckets → slice_index s.terminals.counts v ≡ 0) → ((v : ℕ) → v < buckets → slice_index s.high.counts v ≡ 0)
+    → ((v : ℕ) → v < buckets → slice_index s.users.counts v ≡ 0) → AreSeated s []
 seated-none s e h f = record { terminals = tallied-none terminal_in s.terminals e; high = tallied-none high_in s.high h; users = tallied-none user_in s.users f }
 
 -- a fact that was read of the tables, and one that is a copy
@@ -125,8 +125,8 @@ seated-noted s u k x y z t a e f h =
 
 -- ---- no session in a bucket, or one alone
 
-bound : (n : ℕ) → bucket_of n < 64
-bound n = mod_below n 64 (omega arith)
+bound : (n : ℕ) → bucket_of n < buckets
+bound n = mod_below n buckets (omega arith)
 
 equal : (n m : ℕ) → n ≡ m → (n == m) ≡ true
 equal n m e = grind (arith, nat_tests)

@@ -15,7 +15,7 @@ use Rattle.login_model.proofs.InOrder.{IsIn, filter-gives, filter-in, filter-kee
 use Rattle.login_model.proofs.Keys.{both, same-number, test}
 use Rattle.login_core.specs.declared.turning.Way.{Way}
 use Rattle.login_core.specs.inner.Places.{behind, is_before, nearer_place, nearer_terminal}
-use Rattle.login_core.specs.inner.Seating.{AreLow, high_in, is_at}
+use Rattle.login_core.specs.inner.Seating.{AreLow, buckets, high_in, is_at}
 use Rattle.login_core.proofs.NearestPlace.{IsNearest, nearer-nearest, nearest-behind, nearest-same}
 use Rattle.login_core.proofs.SeatPlaces.{terminals-ascending, terminals-came, terminals-in, vt}
 
@@ -182,26 +182,26 @@ high-at true true false p q e = refl
 high-at true false c p q e = cc
 high-at false b c p q e = cc
 
-below-last : (n : ℕ) → nat_le 64 n ≡ false → n < 64
+below-last : (n : ℕ) → nat_le buckets n ≡ false → n < buckets
 below-last n e = grind (arith, nat_tests)
 
-low-terminal : (x : Fact) (v : ℕ) → is_on_terminal (fact.Number v) x ≡ true → is_at (high_in x) 0 ≡ false → v < 64
+low-terminal : (x : Fact) (v : ℕ) → is_on_terminal (fact.Number v) x ≡ true → is_at (high_in x) 0 ≡ false → v < buckets
 low-terminal (fact.Session x) v e n =
     let h = both (is_open_phase x.phase && is_seat0 x.seat) (x.vt == v) e in
     let i = both (is_open_phase x.phase) (is_seat0 x.seat) h.0 in
     let same = same-number x.vt v h.1 in
-    let low = below-last x.vt (high-at (is_open_phase x.phase) (is_seat0 x.seat) (nat_le 64 x.vt) i.0 i.1 n) in
+    let low = below-last x.vt (high-at (is_open_phase x.phase) (is_seat0 x.seat) (nat_le buckets x.vt) i.0 i.1 n) in
     omega arith
 low-terminal _ v e n = cc
 
-all-low : (t : Trail) → AreLow t → (n : ℕ) → IsIn n (open_terminals t) → n < 64
+all-low : (t : Trail) → AreLow t → (n : ℕ) → IsIn n (open_terminals t) → n < buckets
 all-low t a n i =
     let h = in-found t n i in
     low-terminal (value t (Sess h.0)) n h.1.1 (a.low h.0)
 
-pub low-end : (w : Way) (t : Trail) (above best : Option ℕ) → AreLow t → IsNearest (is_before w) (so_low t 64) above best → best ≡ behind w above (open_terminals t)
+pub low-end : (w : Way) (t : Trail) (above best : Option ℕ) → AreLow t → IsNearest (is_before w) (so_low t buckets) above best → best ≡ behind w above (open_terminals t)
 low-end w t above best a h =
-    nearest-behind w above best (so_low t 64) (open_terminals t) (terminals-ascending t (open_on t seat0))
-    (λ n i. (low-is t 64 n i).1)
-    (λ n i. is-low t 64 n (all-low t a n i) i)
+    nearest-behind w above best (so_low t buckets) (open_terminals t) (terminals-ascending t (open_on t seat0))
+    (λ n i. (low-is t buckets n i).1)
+    (λ n i. is-low t buckets n (all-low t a n i) i)
     h

@@ -1,5 +1,5 @@
--- The copies of texts that are kept when a handle closes.
-use Rattle.std.proofs.Common.{◌≡◌, Some, None, List, refl, sym, ap, ◌∙◌, subst}
+-- The copies of texts when a handle closes.
+use Rattle.std.proofs.Common.{ℕ, ◌≡◌, Some, None, List, refl, sym, ap, ◌∙◌, subst}
 use Rattle.login_base.specs.declared.ids.HandleNo.{HandleNo}
 use Rattle.login_base.specs.declared.ids.SessId.{SessId}
 use Rattle.login_model.specs.Direct.{close, close_handle, close_owned}
@@ -12,9 +12,9 @@ use Rattle.login_model.specs.declared.fact.Owner.TheVariants as owner
 use Rattle.login_laws.proofs.Carried.{close-carried}
 use Rattle.login_laws.proofs.Tame.{Tame, tame, tame-unlocks}
 use Rattle.login_model.specs.Facts.{fifo_session}
-use Rattle.login_core.specs.Kept.{AreClosing, copies_in}
-use Rattle.login_core.specs.declared.room.kept.KeptRow.{KeptRow}
-use Rattle.login_core.proofs.ShutLaws.{kept-shut}
+use Rattle.login_core.specs.Spares.{AreClosing}
+use Rattle.login_core.specs.declared.room.copies.Copies.{Copies}
+use Rattle.login_core.proofs.ShutLaws.{copies-shut}
 use Rattle.login_core.proofs.TextsEnd.{OthersStay}
 use Rattle.login_core.proofs.TextsKept.{closing-later}
 
@@ -27,21 +27,14 @@ unfolding close
 close-is h t = refl
 
 -- the handle is a session's fifo, whose copies are taken
-pub closing-fifo : (h : HandleNo) (s : SessId) (t u : Trail) (rows left : List KeptRow) → u ≡ close h t → fifo_session (value t (Owner h)) ≡ Some s → OthersStay s rows left
-    → ((r : SessId) → copies_in rows r ≡ None → copies_in left r ≡ None) → AreClosing rows t → AreClosing left u
-closing-fifo h s t u rows left e f others fewer c =
+pub closing-fifo : (h : HandleNo) (s : SessId) (t u : Trail) (spares left : List (ℕ × Copies)) → u ≡ close h t → fifo_session (value t (Owner h)) ≡ Some s → OthersStay s spares left → AreClosing spares t → AreClosing left u
+closing-fifo h s t u spares left e f others c =
     let v = close_handle h t in
-    let P : Trail → Type 0 = Tame t in
-    let p = subst P (sym e) (close-carried tame tame-unlocks h t) in
     let q = tame.put (Owner h) (Owned owner.Closed) t refl in
-    let d = closing-later rows t v q.sessions c in
-    record {
-      kept = kept-shut s v u rows left (e ∙ close-is h t ∙ fifo-shuts h (value t (Owner h)) s t f) others d.kept;
-      made = λ r n. fewer r (c.made r (sym (p.sessions r).texts ∙ n));
-    }
+    copies-shut s v u spares left (e ∙ close-is h t ∙ fifo-shuts h (value t (Owner h)) s t f) others (closing-later spares t v q.sessions c)
 
 -- it is none
-pub closing-other : (h : HandleNo) (t u : Trail) (rows : List KeptRow) → u ≡ close h t → AreClosing rows t → AreClosing rows u
-closing-other h t u rows e c =
+pub closing-other : (h : HandleNo) (t u : Trail) (spares : List (ℕ × Copies)) → u ≡ close h t → AreClosing spares t → AreClosing spares u
+closing-other h t u spares e c =
     let P : Trail → Type 0 = Tame t in
-    closing-later rows t u (subst P (sym e) (close-carried tame tame-unlocks h t)).sessions c
+    closing-later spares t u (subst P (sym e) (close-carried tame tame-unlocks h t)).sessions c

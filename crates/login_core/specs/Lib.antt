@@ -1,5 +1,5 @@
 pub mod Texts
-pub mod Kept
+pub mod Spares
 pub mod Fullness
 pub mod State
 pub mod inner

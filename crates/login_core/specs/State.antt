@@ -13,7 +13,7 @@ use Rattle.login_model.specs.declared.setup.Setup.{Setup}
 use Rattle.login_model.specs.declared.answer.Answer.TheVariants.{Nothing}
 use Rattle.login_model.specs.declared.count.Count.{Count}
 use Rattle.login_core.specs.Fullness.{always_fits}
-use Rattle.login_core.specs.Kept.{AreReady}
+use Rattle.login_core.specs.Spares.{AreReady}
 use Rattle.login_core.specs.declared.state.Refused.{Refused}
 use Rattle.login_core.specs.declared.state.Refused.TheVariants.{NoMemory, Full, Stopped}
 use Rattle.login_core.specs.declared.room.ready.Ready.{Ready}

@@ -4,7 +4,7 @@ pub mod Counts
 pub mod Holding
 pub mod Ears
 pub mod Facts
-pub mod Told
+pub mod HandedOn
 pub mod Handles
 pub mod Ledger
 pub mod Ending

@@ -1,5 +1,6 @@
 -- What each connection has: the sessions that it controls, its locks, and the fifos of sessions.
-use Rattle.std.specs.Prelude.{ℕ, ◌≡◌, ◌==◌, ◌&&◌, ◌||◌, nat_lt, nat_le, not, Bool, true, false, if◌then◌else◌, Option, Some, None, List, [], ◌∷◌, filter}
+use Rattle.std.specs.Prelude.{ℕ, ◌≡◌, ◌==◌, ◌&&◌, ◌||◌, nat_lt, nat_le, not, Bool, true, false, Option, Some, None, List, filter, find}
+use Rattle.std.specs.Option.{option_map}
 use Rattle.login_base.specs.declared.ids.SessId.{SessId}
 use Rattle.login_base.specs.declared.ids.ConnId.{ConnId}
 use Rattle.login_base.specs.declared.ids.HandleNo.{HandleNo}
@@ -20,11 +21,21 @@ use Rattle.login_core.specs.declared.board.holding.Holding.{Holding}
 
 -- ---- their order
 
--- the rank of a kind of things
+-- the ranks of the kinds
+abbrev pub session_rank : ℕ
+session_rank = 0
+
+abbrev pub lock_rank : ℕ
+lock_rank = 1
+
+abbrev pub fifo_rank : ℕ
+fifo_rank = 2
+
+-- the rank of a thing's kind
 abbrev pub rank : Thing → ℕ
-rank (Session s) = 0
-rank (Lock l) = 1
-rank (Fifo s h) = 2
+rank (Session s) = session_rank
+rank (Lock l) = lock_rank
+rank (Fifo s h) = fifo_rank
 
 -- the number of a thing: that of a fifo is its session's
 abbrev pub number : Thing → ℕ
@@ -142,8 +153,7 @@ pub record AreSuch (t : Trail) (c : ConnId) (p : ℕ) (above : Option ℕ) (xs :
 
 -- the first of some things that stands
 abbrev pub first_standing : Trail → List Holding → Option Thing
-first_standing t [] = None
-first_standing t (x ∷ xs) = if is_standing t x.thing then Some x.thing else first_standing t xs
+first_standing t xs = option_map (λ x. x.thing) (find (λ x. is_standing t x.thing) xs)
 
 -- a connection has a thing of a kind above a number, which stands
 pub record IsSuch (t : Trail) (c : ConnId) (p : ℕ) (above : Option ℕ) (x : Holding) : Type 0 where

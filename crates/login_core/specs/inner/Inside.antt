@@ -6,7 +6,7 @@ use Rattle.login_model.specs.Setups.{IsSetup}
 use Rattle.login_model.specs.Stopping.{stop_from}
 use Rattle.login_model.specs.Where.{connections}
 use Rattle.login_model.specs.declared.setup.Setup.{Setup}
-use Rattle.login_core.specs.Kept.{HaveTexts}
+use Rattle.login_core.specs.Spares.{HaveTexts}
 use Rattle.login_core.specs.inner.Board.{IsBegun}
 use Rattle.login_core.specs.inner.Ears.{AreEars}
 use Rattle.login_core.specs.declared.board.Board.{Board}

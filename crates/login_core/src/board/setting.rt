@@ -3,7 +3,7 @@
 ghost use Rattle.std.specs.Prelude.{◌≡◌};
 ghost use Rattle.login_model.specs.Trail.{value, put, tell_all};
 ghost use Rattle.login_model.specs.Procedure.{tell_controller};
-ghost use Rattle.login_core.specs.inner.Told.{controller_fact};
+ghost use Rattle.login_core.specs.inner.HandedOn.{controller_fact};
 ghost use Rattle.login_model.specs.Facts.{controller_in};
 ghost use Rattle.login_core.specs.inner.Draft.{marked_by, Fits};
 

@@ -1,11 +1,9 @@
 // What granted calls do.
 
-ghost use Rattle.std.specs.Prelude.{◌≡◌, None, true};
+ghost use Rattle.std.specs.Prelude.{◌≡◌, true};
 ghost use Rattle.login_base.specs.Seat.{is_seat_name};
 ghost use Rattle.login_model.specs.Trail.{value};
-ghost use Rattle.login_model.specs.Fresh.{next_session};
 ghost use Rattle.login_model.specs.Facts.{fifo_session};
-ghost use Rattle.login_model.specs.MadeWith.{texts_in};
 ghost use Rattle.login_model.specs.Policy.{meant_user};
 ghost use Rattle.login_model.specs.Procedure.{each, if_some, shut};
 ghost use Rattle.login_model.specs.Turning.{turn_to_next, turn_to_previous};
@@ -13,12 +11,12 @@ ghost use Rattle.login_model.specs.Where.{sessions_on};
 ghost use Rattle.login_model.specs.Direct.{linger, close, direct_call};
 ghost use Rattle.login_model.specs.Named.{named_session};
 ghost use Rattle.login_model.specs.Words.{whom_of};
-ghost use Rattle.login_core.specs.Kept.{AreClosing, AreReadyToCall, HaveTexts};
+ghost use Rattle.login_core.specs.Spares.{AreClosing, AreReadyToCall, HaveTexts};
 ghost use Rattle.login_core.specs.inner.Calls.{IsPlain, NamesRightly, call_on};
 ghost use Rattle.login_core.specs.inner.Draft.{marked_by, Fits};
 
 use crate::board::Draft;
-use crate::room::kept::Spares;
+use crate::room::spares::Spares;
 use crate::room::texts::Texts;
 use login_base::{ConnId, HandleNo, SeatName, SessId, Uid, Word};
 use login_judge::meant_user;
@@ -162,7 +160,6 @@ impl Draft {
 
     /// What a granted call does by itself.
     pub fn direct_call(&mut self, setup: &Setup, who: ConnId, call: &Call, texts: &mut Texts)
-        requires unmade { texts_in (value self.old.trail (Key.Sess (next_session self.old.trail))) ≡ None }
         requires named { NamesRightly call.now }
         requires ready { AreReadyToCall call.now texts.old }
         requires texts { HaveTexts texts.old self.old.trail }

@@ -4,7 +4,7 @@ ghost use Rattle.std.specs.Prelude.{◌≡◌};
 ghost use Rattle.login_model.specs.Trail.{value};
 ghost use Rattle.login_model.specs.Devices.{taken_devices};
 ghost use Rattle.login_model.specs.Direct.{control_from, control, lock_session, unlock_session};
-ghost use Rattle.login_core.specs.inner.Told.{controller_fact};
+ghost use Rattle.login_core.specs.inner.HandedOn.{controller_fact};
 ghost use Rattle.login_core.specs.inner.Draft.{marked_by, Fits};
 
 use crate::board::Draft;

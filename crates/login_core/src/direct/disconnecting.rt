@@ -8,12 +8,12 @@ ghost use Rattle.login_model.specs.declared.fact.Key.TheVariants.{Lock};
 ghost use Rattle.login_model.specs.declared.fact.Fact.TheVariants.{Absent};
 ghost use Rattle.login_laws.proofs.Grows.{put-grows, release-grows};
 ghost use Rattle.login_laws.specs.Sound.{Fifos};
-ghost use Rattle.login_core.specs.Kept.{AreClosing};
+ghost use Rattle.login_core.specs.Spares.{AreClosing};
 ghost use Rattle.login_core.specs.inner.Draft.{marked_by, Fits};
 
 use crate::board::Draft;
 use crate::board::rounds::{ControlledBy, HeldBy, Task};
-use crate::room::kept::Spares;
+use crate::room::spares::Spares;
 use login_base::{ConnId, LockNo, SessId};
 use login_model::Key;
 

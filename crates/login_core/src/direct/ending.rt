@@ -9,12 +9,12 @@ ghost use Rattle.login_model.specs.Procedure.{each, shut};
 ghost use Rattle.login_model.specs.Direct.{end_sessions};
 ghost use Rattle.login_laws.specs.Sound.{Fifos};
 ghost use Rattle.login_core.specs.inner.Chosen.{is_chosen};
-ghost use Rattle.login_core.specs.Kept.{AreClosing};
+ghost use Rattle.login_core.specs.Spares.{AreClosing};
 ghost use Rattle.login_core.specs.inner.Ending.{StaysAbove, StaysShut, is_kept_open_by, sessions_such};
 ghost use Rattle.login_core.specs.inner.Draft.{marked_by, Fits};
 
 use crate::board::Draft;
-use crate::room::kept::Spares;
+use crate::room::spares::Spares;
 use login_base::{ConnId, SeatName, SessId, Uid};
 use login_table::{OfUser, OnSeat, Test};
 

@@ -1,10 +1,9 @@
 // What a granted event does by itself.
 
-ghost use Rattle.std.specs.Prelude.{◌≡◌, None, IfSome, true};
+ghost use Rattle.std.specs.Prelude.{◌≡◌, IfSome, true};
 ghost use Rattle.login_base.specs.SessionId.{session_of};
-ghost use Rattle.login_model.specs.Trail.{Trail, value, put};
+ghost use Rattle.login_model.specs.Trail.{Trail, put};
 ghost use Rattle.login_model.specs.Fresh.{next_session, next_handle};
-ghost use Rattle.login_model.specs.MadeWith.{texts_in};
 ghost use Rattle.login_model.specs.Where.{is_open, is_session};
 ghost use Rattle.login_model.specs.Creating.{create};
 ghost use Rattle.login_model.specs.Direct.{at_session, direct, exit, happen};
@@ -13,7 +12,7 @@ ghost use Rattle.login_model.specs.Policy.{verdict as policy_verdict};
 ghost use Rattle.login_model.specs.declared.rule.Verdict.TheVariants.{Granted};
 ghost use Rattle.login_laws.specs.Sound.{IsSound};
 ghost use Rattle.login_core.specs.inner.Calls.{ExitsHere, HappensPlain};
-ghost use Rattle.login_core.specs.Kept.{AreReady, AreReadyFor, AreReadyToHappen, HasSlots, HaveTexts};
+ghost use Rattle.login_core.specs.Spares.{AreReady, AreReadyFor, AreReadyToHappen, HasSlots, HaveTexts};
 ghost use Rattle.login_core.specs.inner.Draft.{marked_by, Fits};
 
 use crate::board::Draft;
@@ -25,7 +24,6 @@ use login_model::{Creation, DevKind, Event, Fact, Hardware, Key, Setup};
 impl Draft {
     /// A session is created, and the copies for its end are kept.
     pub fn create_session(&mut self, who: ConnId, creation: &Creation, texts: &mut Texts)
-        requires unmade { texts_in (value self.old.trail (Key.Sess (next_session self.old.trail))) ≡ None }
         requires ready { AreReadyFor creation.now texts.old }
         requires texts { HaveTexts texts.old self.old.trail }
         requires room { Fits (λ t. create who creation.now (next_session t) (next_handle t) t) self.old }

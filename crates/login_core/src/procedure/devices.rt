@@ -6,14 +6,14 @@ ghost use Rattle.login_model.specs.Where.{sessions_on};
 ghost use Rattle.login_model.specs.Procedure.{each, revoke, shut};
 ghost use Rattle.login_model.specs.Taking.{add_device, appear_seat, has_graphics, lose_seat, remove_device, takers};
 ghost use Rattle.login_laws.proofs.Grows.{revoke-grows};
-ghost use Rattle.login_core.specs.Kept.{AreClosing};
-ghost use Rattle.login_core.specs.inner.Told.{graphics_fact, graphics_seat};
+ghost use Rattle.login_core.specs.Spares.{AreClosing};
+ghost use Rattle.login_core.specs.inner.HandedOn.{graphics_fact, graphics_seat};
 ghost use Rattle.login_core.specs.inner.Draft.{marked_by, Fits};
 
 use crate::board::Draft;
 use crate::board::rounds::{TakersOf, Task};
-use crate::room::kept::Spares;
 use crate::room::slots::SeatSlots;
+use crate::room::spares::Spares;
 use login_base::{DevNo, SeatName, SessId};
 use login_model::{DevKind, Fact, Key, Look, Notice};
 use login_table::IsGraphicsOn;

@@ -3,7 +3,7 @@
 ghost use Rattle.std.specs.Prelude.{◌≡◌};
 ghost use Rattle.login_model.specs.Trail.{put};
 ghost use Rattle.login_model.specs.Procedure.{tell_new_user, know, forget};
-ghost use Rattle.login_core.specs.inner.Told.{absent_or_known};
+ghost use Rattle.login_core.specs.inner.HandedOn.{absent_or_known};
 ghost use Rattle.login_model.specs.Facts.{is_absent};
 ghost use Rattle.login_core.specs.inner.Draft.{marked_by, Fits};
 

@@ -2,12 +2,12 @@
 
 ghost use Rattle.std.specs.Prelude.{◌≡◌, OnOk, IfOk, Some, None};
 ghost use Rattle.login_base.specs.declared.ids.SessId.{SessId as SessionId};
-ghost use Rattle.login_core.specs.Kept.{AreOf, AreReady, AreReadyFor, AreReadyToCall, AreReadyToHappen, AreFresh, HasLock, copies_in};
+ghost use Rattle.login_core.specs.Spares.{AreOf, AreReady, AreReadyFor, AreReadyToCall, AreReadyToHappen, AreFresh, HasLock, copies_in};
 
 use crate::room::copies::{Copies, copies_of};
-use crate::room::kept::Spares;
 use crate::room::locks::{LockCopies, lock_copies};
 use crate::room::slots::SeatSlots;
+use crate::room::spares::Spares;
 use login_base::NoMemory;
 use login_model::{Call, Creation, Event, Hardware, Inhibition};
 use std::alloc::Global;

@@ -7,14 +7,14 @@ use Rattle.login_core.specs.inner.Handles.{owner_fact, AreForClosing}
 use Rattle.login_model.specs.Facts.{owner_in}
 use Rattle.login_core.specs.inner.Draft.{with_trail}
 use Rattle.login_core.proofs.Growing.{fits}
-use Rattle.login_core.proofs.ClosedHandles.{closed, told-closing}
+use Rattle.login_core.proofs.ClosedHandles.{closed, handed-closing}
 use Rattle.login_core.proofs.board.Draft.close.Goals as goal
 
 pub close_owned-requires-clause-closing : goal.close_owned-requires-clause-closing
 close_owned-requires-clause-closing c =
     let t = c.args.self.now.trail in
     let P : Option OwnerFact → Type 0 = λ o. AreForClosing t (owner_fact o) c.args.closing in
-    subst P (sym (c.owner-owner.ensures ∙ ap owner_in c.fact.ensures)) (told-closing (value t (Owner c.args.handle)) t c.args.closing c.requires.closing)
+    subst P (sym (c.owner-owner.ensures ∙ ap owner_in c.fact.ensures)) (handed-closing (value t (Owner c.args.handle)) t c.args.closing c.requires.closing)
 
 pub close_owned-requires-clause-room : goal.close_owned-requires-clause-room
 unfolding close

@@ -3,9 +3,9 @@ use Rattle.login_base.specs.declared.ids.ConnId.{ConnId}
 use Rattle.login_model.specs.declared.fact.Key.TheVariants.{Ctl}
 use Rattle.login_model.specs.Trail.{value}
 use Rattle.login_model.specs.Direct.{control_from, control}
-use Rattle.login_core.specs.inner.Told.{controller_fact}
+use Rattle.login_core.specs.inner.HandedOn.{controller_fact}
 use Rattle.login_core.specs.inner.Draft.{with_trail}
-use Rattle.login_core.proofs.Told.{taken-from}
+use Rattle.login_core.proofs.HandedOn.{taken-from}
 use Rattle.login_core.proofs.board.Draft.control.Goals as goal
 
 pub returns : goal.returns

@@ -8,14 +8,11 @@ use Rattle.login_model.specs.declared.fact.Key.TheVariants.{Conn, Sess}
 use Rattle.login_model.specs.declared.rule.Verdict.TheVariants.{Granted}
 use Rattle.login_laws.proofs.Carried.{tick-carried}
 use Rattle.login_laws.proofs.Tame.{Tame, tame, tame-clocked, later-along, other}
-use Rattle.login_core.proofs.GrantedLaws.{exits, named, unmade}
+use Rattle.login_core.proofs.GrantedLaws.{exits, named}
 use Rattle.login_core.proofs.TextsKept.{AllLater, going-later, texts-later}
 use Rattle.login_core.proofs.TextsEnd.{disconnect-later}
 use Rattle.login_core.proofs.Growing.{trails}
 use Rattle.login_core.proofs.board.Draft.direct.Goals as goal
-
-pub direct_call-requires-clause-unmade : goal.direct_call-requires-clause-unmade
-direct_call-requires-clause-unmade c = unmade c.args.setup.now c.args.self.now.trail c.requires.sound
 
 pub direct_call-requires-clause-named : goal.direct_call-requires-clause-named
 direct_call-requires-clause-named c =

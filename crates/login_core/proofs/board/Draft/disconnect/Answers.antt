@@ -90,12 +90,12 @@ returns-clause-copies c =
     let t = c.end_sessions.new.self.trail in
     let u = c.drop_locks.new.self.trail in
     let v = c.put_absent.new.self.trail in
-    let rows = c.end_sessions.new.closing.items in
+    let spares = c.end_sessions.new.closing.items in
     let P : Trail → Type 0 = Tame t in
     let p = subst P (sym (trails c.drop_locks.ensures.marked)) (unlock-tame who t) in
     let Q : Trail → Type 0 = AllLater u in
     let q = subst Q (sym (trails c.put_absent.ensures.marked)) (λ s. later-along (value u (Sess s)) (value (put (Conn who) Absent u) (Sess s)) (other (Conn who) (Sess s) Absent u refl)) in
-    closing-later rows u v q (closing-later rows t u p.sessions c.end_sessions.ensures.copies)
+    closing-later spares u v q (closing-later spares t u p.sessions c.end_sessions.ensures.copies)
 
 pub end_sessions-requires-clause-room : goal.end_sessions-requires-clause-room
 end_sessions-requires-clause-room c =

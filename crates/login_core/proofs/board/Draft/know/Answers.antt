@@ -3,10 +3,10 @@ use Rattle.login_model.specs.declared.fact.Key.TheVariants.{User}
 use Rattle.login_model.specs.declared.fact.Fact.TheVariants.{Known}
 use Rattle.login_model.specs.Trail.{value, put}
 use Rattle.login_model.specs.Procedure.{know, tell_new_user}
-use Rattle.login_core.specs.inner.Told.{absent_or_known}
+use Rattle.login_core.specs.inner.HandedOn.{absent_or_known}
 use Rattle.login_model.specs.Facts.{is_absent}
 use Rattle.login_core.specs.inner.Draft.{with_trail, marked_by}
-use Rattle.login_core.proofs.Told.{greeted}
+use Rattle.login_core.proofs.HandedOn.{greeted}
 use Rattle.login_core.proofs.Growing.{fits}
 use Rattle.login_laws.proofs.Carried.{tell_new_user-carried}
 use Rattle.login_laws.proofs.Grows.{grows}

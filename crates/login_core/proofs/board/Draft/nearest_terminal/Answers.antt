@@ -1,5 +1,6 @@
 use Rattle.std.proofs.Common.{◌≡◌, ◌+◌, arith, ℕ, Option, subst, sym}
 use Rattle.login_core.specs.inner.Places.{is_before}
+use Rattle.login_core.specs.inner.Seating.{buckets}
 use Rattle.login_core.proofs.NearestPlace.{IsNearest}
 use Rattle.login_core.proofs.TerminalPlaces.{low-end, low-start, low-step, so_low}
 use Rattle.login_core.proofs.board.Draft.nearest_terminal.Goals as goal
@@ -16,6 +17,6 @@ loop-vt-preserved c =
 pub returns : goal.returns
 returns c =
     let t = c.args.self.now.trail in
-    let last : c.loop-vt.vt ≡ 64 = omega arith in
+    let last : c.loop-vt.vt ≡ buckets = omega arith in
     let P : ℕ → Type 0 = λ v. IsNearest (is_before c.args.way) (so_low t v) c.args.start c.loop-vt.best in
     low-end c.args.way t c.args.start c.loop-vt.best c.requires (subst P last c.loop-vt.invariant)

@@ -6,7 +6,7 @@ use Rattle.login_model.specs.declared.mark.Mark.TheVariants.{Set}
 use Rattle.login_core.specs.inner.Facts.{StandFor}
 use Rattle.login_core.specs.inner.UnderWay.{so_far}
 use Rattle.login_core.specs.inner.Draft.{with_trail}
-use Rattle.login_core.proofs.Standing.{put-same, put-other}
+use Rattle.login_table.proofs.Appending.{put-made, put-same}
 use Rattle.login_core.proofs.TallyLaws.{seated-noted, seated-room}
 use Rattle.login_core.proofs.Drafting.{draft-more, one-more, room-inside, seen-more}
 use Rattle.login_core.proofs.board.Draft.put.Goals as goal
@@ -68,5 +68,5 @@ returns c =
     record {
       marked = seen-more f.journal.value.items f.marks.items c.push.new.self.items f.facts c.set.new.self f.reach (Set c.args.key c.args.fact) d c.self.view_is
           c.push.ensures.items c.set.ensures.ears c.set.ensures.rings
-          ∙ ap (with_trail d) (sym (put-other c.args.key c.args.fact d.trail other));
+          ∙ ap (with_trail d) (sym (put-made c.args.key c.args.fact d.trail other));
     }

@@ -9,10 +9,10 @@ use Rattle.login_laws.proofs.Carried.{each-carried, put-behind, revoke-carried}
 use Rattle.login_laws.proofs.Grows.{lose_seat-grows}
 use Rattle.login_laws.proofs.Tame.{Tame, tame}
 use Rattle.login_core.specs.inner.Draft.{DraftState, with_trail, marked_by}
-use Rattle.login_core.specs.inner.Told.{graphics_fact, graphics_seat}
+use Rattle.login_core.specs.inner.HandedOn.{graphics_fact, graphics_seat}
 use Rattle.login_core.proofs.Growing.{fits, trails}
 use Rattle.login_core.proofs.TextsKept.{closing-later}
-use Rattle.login_core.proofs.Told.{lost}
+use Rattle.login_core.proofs.HandedOn.{lost}
 use Rattle.login_core.proofs.board.Draft.remove_device.Goals as goal
 
 -- the device is absent, and gone from sessions
@@ -27,9 +27,9 @@ dropped-tame d t =
     (put-behind tame (Dev d) Absent refl t a (each-carried tame (λ s u. revoke s d u) (λ s u. revoke-carried tame s d u) (takers t d) t))
 
 -- what the seat of the device loses is what its fact says
-told : (d : DevNo) (o : Option (List ℕ)) (m n : DraftState) → o ≡ graphics_seat (value m.trail (Dev d)) → n ≡ marked_by (dropped d) m → marked_by (lose_seat (graphics_fact o)) n ≡ marked_by (remove_device d) m
+handed-on : (d : DevNo) (o : Option (List ℕ)) (m n : DraftState) → o ≡ graphics_seat (value m.trail (Dev d)) → n ≡ marked_by (dropped d) m → marked_by (lose_seat (graphics_fact o)) n ≡ marked_by (remove_device d) m
 unfolding remove_device
-told d o m n e q =
+handed-on d o m n e q =
     let t = m.trail in
     ap (marked_by (lose_seat (graphics_fact o))) q
     ∙ ap (with_trail m) (ap (λ (x : Option (List ℕ)). lose_seat (graphics_fact x) (dropped d t)) e ∙ lost (value t (Dev d)) (dropped d t))
@@ -54,9 +54,9 @@ lose_seat-requires-clause-room c =
     let m = c.args.self.now in
     let n = c.drop_device.new.self in
     let e = c.graphics_seat-graphics.ensures ∙ ap graphics_seat c.fact.ensures in
-    fits _ _ m n (told c.args.device c.graphics_seat-graphics.result m n e c.drop_device.ensures.marked) c.requires.room
+    fits _ _ m n (handed-on c.args.device c.graphics_seat-graphics.result m n e c.drop_device.ensures.marked) c.requires.room
 
 pub returns-clause-marked : goal.returns-clause-marked
 returns-clause-marked c =
     let e = c.graphics_seat-graphics.ensures ∙ ap graphics_seat c.fact.ensures in
-    c.lose_seat.ensures.marked ∙ told c.args.device c.graphics_seat-graphics.result c.args.self.now c.drop_device.new.self e c.drop_device.ensures.marked
+    c.lose_seat.ensures.marked ∙ handed-on c.args.device c.graphics_seat-graphics.result c.args.self.now c.drop_device.new.self e c.drop_device.ensures.marked

@@ -15,9 +15,9 @@ returns-clause-copies c =
     let t = c.terminate_seat.new.self.trail in
     let u = c.put_absent.new.self.trail in
     let v = c.tell_all.new.self.trail in
-    let rows = c.terminate_seat.new.closing.items in
+    let spares = c.terminate_seat.new.closing.items in
     let P : Trail → Type 0 = Tame t in
     let p = subst P (sym (trails c.put_absent.ensures.marked)) (tame.put (Seat seat) Absent t refl) in
     let Q : Trail → Type 0 = Tame u in
     let q = subst Q (sym (trails c.tell_all.ensures.marked)) (tame.say All (SeatRemoved seat) u) in
-    closing-later rows u v q.sessions (closing-later rows t u p.sessions c.terminate_seat.ensures.copies)
+    closing-later spares u v q.sessions (closing-later spares t u p.sessions c.terminate_seat.ensures.copies)

@@ -5,9 +5,9 @@ use Rattle.login_model.specs.declared.mark.PauseKind.TheVariants as pause
 use Rattle.login_model.specs.declared.mark.Notice.TheVariants.{Pause}
 use Rattle.login_model.specs.Trail.{value}
 use Rattle.login_model.specs.Procedure.{tell_controller, untake}
-use Rattle.login_core.specs.inner.Told.{controller_fact}
+use Rattle.login_core.specs.inner.HandedOn.{controller_fact}
 use Rattle.login_core.specs.inner.Draft.{with_trail, marked_by}
-use Rattle.login_core.proofs.Told.{told}
+use Rattle.switch_core.proofs.HandedOn.{controller-told}
 use Rattle.login_core.proofs.board.Draft.revoke.Goals as goal
 
 pub returns : goal.returns
@@ -18,5 +18,5 @@ returns c =
     record {
       marked = c.untake.ensures.marked
           ∙ ap (marked_by (untake s d)) (c.tell_controller.ensures.marked
-          ∙ ap (with_trail c.args.self.now) (ap (λ (o : Option ConnId). tell_controller (controller_fact o) (Pause s d pause.Gone) t) c.controller-controller.ensures ∙ told (value t (key.Ctl s)) (Pause s d pause.Gone) t));
+          ∙ ap (with_trail c.args.self.now) (ap (λ (o : Option ConnId). tell_controller (controller_fact o) (Pause s d pause.Gone) t) c.controller-controller.ensures ∙ controller-told (value t (key.Ctl s)) (Pause s d pause.Gone) t));
     }

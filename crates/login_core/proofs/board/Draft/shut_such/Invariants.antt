@@ -1,6 +1,6 @@
 use Rattle.std.proofs.Common.{length}
 use Rattle.login_model.specs.Procedure.{shut}
-use Rattle.login_core.specs.Kept.{AreClosing}
+use Rattle.login_core.specs.Spares.{AreClosing}
 use Rattle.login_core.specs.inner.Ending.{sessions_such}
 use Rattle.login_core.proofs.Going.{Going, left}
 use Rattle.login_core.proofs.Sessions.{sessions_that}

@@ -19,7 +19,7 @@ use Rattle.login_core.specs.inner.Board.{IsBegun}
 use Rattle.login_core.specs.inner.Draft.{DraftState, marked_by, with_ears}
 use Rattle.login_core.specs.inner.Ears.{AreEnough, ListenLive, ring_count, settled}
 use Rattle.login_core.specs.inner.Inside.{IsCore}
-use Rattle.login_core.specs.Kept.{HaveTexts}
+use Rattle.login_core.specs.Spares.{HaveTexts}
 use Rattle.login_core.specs.inner.UnderWay.{so_far, entry_of}
 use Rattle.login_core.specs.State.{CoreState, IsReady, answer_next, stop_next}
 use Rattle.login_core.specs.declared.board.Board.{Board}

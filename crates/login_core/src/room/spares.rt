@@ -1,41 +1,30 @@
-// Copies of sessions' texts, kept for the end of each session.
+// Copies of sessions' texts, spare for the end of each session.
 
-ghost use Rattle.std.specs.Prelude.{◌≡◌, ◌+◌, ◌==◌, ◌<◌, ◌≤◌, false, Some, None, OnOk, position};
-ghost use Rattle.login_core.specs.Kept.{is_row_of, copies_in};
+ghost use Rattle.std.specs.Prelude.{◌≡◌, ◌==◌, ◌<◌, ◌≤◌, false, Some, None, OnOk};
+ghost use Rattle.login_core.specs.Spares.{copies_in};
 
 use crate::room::copies::Copies;
+use indexmap::IndexMap;
 use login_base::{NoMemory, SessId};
 use std::alloc::Global;
 use std::marker::Model;
 
-/// The copies of one session's texts.
-#[derive(Drop)]
-pub struct KeptRow {
-    pub session: SessId,
-    pub copies: Copies,
-}
-
 /// Copies of the texts of sessions. A session ends without memory, so they are made when it is created.
 #[derive(Drop)]
 pub struct Spares {
-    rows: Vec<KeptRow>,
+    /// By the numbers of their sessions, in a hash table: a session that ends costs the others nothing.
+    copies: IndexMap<u32, Copies>,
 }
 
 impl Model for Spares {
-    ghost use Rattle.std.specs.Prelude.{◌-◌, vec_len, vec_capacity};
+    ghost use Rattle.std.specs.Prelude.{ℕ};
+    ghost use Rattle.indexmap.specs.IndexMap.{spare};
     ghost use Rattle.login_base.specs.Room.{Room};
-    ghost use Rattle.login_core.specs.declared.room.kept.KeptRow.{KeptRow};
+    ghost use Rattle.login_core.specs.declared.room.copies.Copies.{Copies};
 
-    ghost Value = { Room KeptRow };
+    ghost Value = { Room (ℕ × Copies) };
 
-    ghost view = { λ k. record { items = k.rows.items; spare = vec_capacity k.rows - vec_len k.rows } };
-}
-
-/// The place of a session's copies.
-fn place_of(rows: &[KeptRow], session: SessId) -> Option<usize>
-    ensures { result ≡ position (is_row_of session) rows.now }
-{
-    rows.iter().position(|row| row.session.0 == session.0)
+    ghost view = { λ s. record { items = s.copies.entries; spare = spare s.copies } };
 }
 
 impl Spares {
@@ -44,7 +33,7 @@ impl Spares {
         ensures { (s : SessId) → copies_in result.items s ≡ None }
     {
         Spares {
-            rows: Vec::new(alloc),
+            copies: IndexMap::new(alloc),
         }
     }
 
@@ -53,18 +42,18 @@ impl Spares {
         ensures ok { OnOk result (0 < self.new.spare) }
         ensures items { self.new.items ≡ self.old.items }
     {
-        self.rows.reserve(1)?;
+        self.copies.reserve(1)?;
         Ok(())
     }
 
     /// Keeps the copies of a session's texts. It takes no memory.
     pub fn keep(&mut self, session: SessId, copies: Copies)
         requires { 0 < self.old.spare }
-        ensures own { copies_in self.old.items session ≡ None → copies_in self.new.items session ≡ Some copies }
+        ensures own { copies_in self.new.items session ≡ Some copies }
         ensures others { (s : SessId) → (s.0 == session.0) ≡ false → copies_in self.new.items s ≡ copies_in self.old.items s }
     {
-        match self.rows.push(KeptRow { session, copies }) {
-            Ok(()) => {}
+        match self.copies.insert(session.0, copies) {
+            Ok(before) => drop(before),
             Err(_) => unreachable!(),
         }
     }
@@ -72,11 +61,10 @@ impl Spares {
     /// Takes the copies of a session's texts. It takes no memory.
     pub fn take(&mut self, session: SessId) -> Option<Copies>
         ensures value { result ≡ copies_in self.old.items session }
+        ensures own { copies_in self.new.items session ≡ None }
         ensures others { (s : SessId) → (s.0 == session.0) ≡ false → copies_in self.new.items s ≡ copies_in self.old.items s }
-        ensures fewer { (s : SessId) → copies_in self.old.items s ≡ None → copies_in self.new.items s ≡ None }
         ensures spare { self.old.spare ≤ self.new.spare }
     {
-        let at = place_of(&self.rows, session)?;
-        Some(self.rows.remove(at).copies)
+        self.copies.swap_remove(&session.0)
     }
 }

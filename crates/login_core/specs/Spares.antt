@@ -1,5 +1,6 @@
--- Copies of texts: of sessions, kept for the end of each, and of the lock that stands next.
-use Rattle.std.specs.Prelude.{◌≡◌, ◌==◌, ◌<◌, Bool, true, if◌then◌else◌, Option, Some, None, List, [], ◌∷◌}
+-- Copies of texts: of sessions, spare for the end of each, and of the lock that stands next.
+use Rattle.std.specs.Prelude.{ℕ, ◌≡◌, ◌==◌, ◌<◌, Bool, true, Option, Some, None, List}
+use Rattle.std.specs.Map.{lookup}
 use Rattle.login_base.specs.declared.ids.SessId.{SessId}
 use Rattle.login_model.specs.declared.call.Call.{Call}
 use Rattle.login_model.specs.declared.call.Call.TheVariants.{Create, Inhibit}
@@ -10,42 +11,30 @@ use Rattle.login_model.specs.declared.event.Event.TheVariants.{Call as Calls, Ha
 use Rattle.login_model.specs.declared.fact.Key.TheVariants.{Sess}
 use Rattle.login_model.specs.declared.hardware.Hardware.{Hardware}
 use Rattle.login_model.specs.declared.hardware.Hardware.TheVariants.{Add}
-use Rattle.login_model.specs.MadeWith.{texts_in}
 use Rattle.login_model.specs.Trail.{Trail, value}
 use Rattle.login_model.specs.Where.{is_open, is_session}
 use Rattle.login_core.specs.declared.room.copies.Copies.{Copies}
-use Rattle.login_core.specs.declared.room.kept.KeptRow.{KeptRow}
 use Rattle.login_core.specs.declared.room.locks.LockCopies.{LockCopies}
 use Rattle.login_core.specs.declared.room.slots.SeatSlots.{SeatSlots}
 use Rattle.login_core.specs.declared.room.texts.FreshTexts.{FreshTexts}
 use Rattle.login_core.specs.declared.room.texts.Texts.{Texts}
 use Rattle.login_core.specs.Texts.{AreSome, lock_texts, session_texts}
 
-abbrev pub is_row_of : SessId → KeptRow → Bool
-is_row_of s row = row.session.0 == s.0
+-- the copies of a session, by its number, if there are any
+abbrev pub copies_in : List (ℕ × Copies) → SessId → Option Copies
+copies_in spares s = lookup (λ number. s.0 == number) spares
 
--- the copies that are kept for a session, if there are any
-unfoldable pub copies_in : List KeptRow → SessId → Option Copies
-copies_in [] s = None
-copies_in (row ∷ rows) s = if is_row_of s row then Some row.copies else copies_in rows s
-
--- for each of these sessions there are copies of its texts
-abbrev pub AreKept : (Trail → SessId → Bool) → List KeptRow → Trail → Type 0
-AreKept there rows t = (s : SessId) → there t s ≡ true → AreSome (value t (Sess s)) (copies_in rows s)
-
--- none are kept for a session that was never made
-abbrev pub AreMade : List KeptRow → Trail → Type 0
-AreMade rows t = (s : SessId) → texts_in (value t (Sess s)) ≡ None → copies_in rows s ≡ None
+-- each of these sessions has copies of its texts
+pub record HaveCopies (there : Trail → SessId → Bool) (spares : List (ℕ × Copies)) (t : Trail) : Type 0 where
+  pub each : (s : SessId) → there t s ≡ true → AreSome (value t (Sess s)) (copies_in spares s)
 
 -- there are the copies with which each open session closes
-pub record AreClosing (rows : List KeptRow) (t : Trail) : Type 0 where
-  pub kept : AreKept is_open rows t
-  pub made : AreMade rows t
+abbrev pub AreClosing : List (ℕ × Copies) → Trail → Type 0
+AreClosing spares t = HaveCopies is_open spares t
 
 -- there are the copies with which each session goes that is not gone
-pub record AreGoing (rows : List KeptRow) (t : Trail) : Type 0 where
-  pub kept : AreKept is_session rows t
-  pub made : AreMade rows t
+abbrev pub AreGoing : List (ℕ × Copies) → Trail → Type 0
+AreGoing spares t = HaveCopies is_session spares t
 
 pub record HaveTexts (texts : Texts) (t : Trail) : Type 0 where
   pub closing : AreClosing texts.closing.items t
@@ -60,7 +49,7 @@ abbrev pub AreFresh : Creation → Option FreshTexts → Type 0
 AreFresh x None = ⊥
 AreFresh x (Some f) = AreOf x f.created × (AreOf x f.closing × AreOf x f.gone)
 
--- the copies for a creation are there, and room for those that are kept
+-- the copies for a creation are there, and room to keep those for its end
 pub record AreReadyFor (x : Creation) (texts : Texts) : Type 0 where
   pub fresh : AreFresh x texts.fresh
   pub closing : 0 < texts.closing.spare

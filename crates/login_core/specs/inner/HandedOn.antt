@@ -3,7 +3,7 @@ use Rattle.std.specs.Prelude.{ℕ, Bool, true, false, Option, Some, None, List}
 use Rattle.login_model.specs.declared.fact.Fact.{Fact}
 use Rattle.login_model.specs.declared.fact.Fact.TheVariants.{Absent, Device, Known}
 use Rattle.login_model.specs.declared.hardware.DevKind.TheVariants.{Drm}
-pub use Rattle.switch_core.specs.inner.Told.{controller_fact}
+pub use Rattle.switch_core.specs.inner.HandedOn.{controller_fact}
 
 -- the seat of a graphics device
 abbrev pub graphics_seat : Fact → Option (List ℕ)

@@ -5,19 +5,14 @@ use Rattle.login_base.specs.declared.ids.Uid.{Uid}
 use Rattle.login_model.specs.declared.fact.Fact.{Fact}
 use Rattle.login_model.specs.declared.fact.Fact.TheVariants.{Absent, Controller, Device, Owned}
 use Rattle.login_model.specs.declared.hardware.DevKind.TheVariants.{Evdev, Drm}
-use Rattle.login_model.specs.declared.mark.Notice.{Notice}
 use Rattle.login_model.specs.Trail.{Trail}
-use Rattle.login_model.specs.Procedure.{tell_controller, tell_new_user}
+use Rattle.login_model.specs.Procedure.{tell_new_user}
 use Rattle.login_model.specs.Taking.{lose_seat, set_mode}
 use Rattle.login_model.specs.Direct.{control_from}
 use Rattle.login_base.specs.declared.ids.ConnId.{ConnId}
 use Rattle.login_core.specs.inner.Handles.{owner_fact}
-use Rattle.login_core.specs.inner.Told.{controller_fact, graphics_fact, graphics_seat, absent_or_known}
+use Rattle.login_core.specs.inner.HandedOn.{controller_fact, graphics_fact, graphics_seat, absent_or_known}
 use Rattle.login_model.specs.Facts.{controller_in, is_absent, owner_in}
-
-pub told : (f : Fact) (n : Notice) (t : Trail) → tell_controller (controller_fact (controller_in f)) n t ≡ tell_controller f n t
-told (Controller c) n t = refl
-told _ n t = refl
 
 pub greeted : (u : Uid) (f : Fact) (t : Trail) → tell_new_user u (absent_or_known (is_absent f)) t ≡ tell_new_user u f t
 greeted u Absent t = refl
