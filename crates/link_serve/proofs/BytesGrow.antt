@@ -77,17 +77,17 @@ events-next old new text piece told h is = by (is_begun u guid text) refl
         ∙ ap (λ (x : Bool). events_heard c u guid text ++ (connect x ++ map Calls told.calls)) (sym (begins-as true true b n)))))
     by false b = by-now (is_begun u guid (text ++ piece)) refl
       where
-        told-calls : calls c u guid (text ++ piece) ≡ told.calls
-        told-calls = h.calls text is ∙ ap (λ (rs : List Request). rs ++ told.calls) (unbegun-calls c u guid text b)
+        calls-heard : calls c u guid (text ++ piece) ≡ told.calls
+        calls-heard = h.calls text is ∙ ap (λ (rs : List Request). rs ++ told.calls) (unbegun-calls c u guid text b)
 
         by-now : (now : Bool) → is_begun u guid (text ++ piece) ≡ now → events_heard c u guid (text ++ piece) ≡ events_heard c u guid text ++ new_events c u told
         by-now true n =
             events-begun c u guid (text ++ piece) n
-            ∙ (ap (λ (rs : List Request). Connect c u ∷ map Calls rs) told-calls
+            ∙ (ap (λ (rs : List Request). Connect c u ∷ map Calls rs) calls-heard
             ∙ (ap (λ (x : Bool). connect x ++ map Calls told.calls) (sym (begins-as false true b n))
             ∙ ap (λ (es : List Event). es ++ new_events c u told) (sym (events-unbegun c u guid text b))))
         by-now false n =
-            let none : told.calls ≡ [] = sym told-calls ∙ unbegun-calls c u guid (text ++ piece) n in
+            let none : told.calls ≡ [] = sym calls-heard ∙ unbegun-calls c u guid (text ++ piece) n in
             events-unbegun c u guid (text ++ piece) n
             ∙ (ap (λ (rs : List Request). connect false ++ map Calls rs) (sym none)
             ∙ (ap (λ (x : Bool). connect x ++ map Calls told.calls) (sym (begins-as false false b n))

@@ -25,7 +25,7 @@ use Rattle.link_serve.specs.Serving.{Came, Causes, FaultsAt, IsShort, Prompt, Sa
 use Rattle.link_serve.specs.inner.Standing.{CloseTells, Moment, Stops, who_of}
 use Rattle.link_serve.specs.inner.Turning.{Begins, moment}
 use Rattle.link_serve.specs.Turned.{Acts}
-use Rattle.link_serve.proofs.Exchanged.{Grew-none, came-none, prompt-longer, stop-longer, told-longer}
+use Rattle.link_serve.proofs.Exchanged.{Grew-none, came-none, prompt-longer, stop-longer, through-longer}
 use Rattle.link_serve.proofs.LetIn.{open-is-let-in}
 use Rattle.link_serve.proofs.OwnEntries.{own-append, own-one}
 
@@ -63,7 +63,7 @@ said-longer c u guid J more made text spoken true h =
       h.1 ∙ (front-longer h.0 (R ++ wire c J) due
           ∙ ap (take (min h.0 (length (R ++ wire c J)))) (append_assoc R (wire c J) due ∙ ap (λ (z : List ℕ). R ++ z) (sym (wire_grows c J more)))),
     )
-said-longer c u guid J more made text spoken false h = told-longer c u guid J more made text spoken h
+said-longer c u guid J more made text spoken false h = through-longer c u guid J more made text spoken h
 
 -- what leaves something unsaid leaves it unsaid
 pub short-longer : (c : ConnId) (u : Uid) (guid : List ℕ) (J more : List Entry) (text spoken : List ℕ) → IsShort c u guid J text spoken → IsShort c u guid (J ++ more) text spoken

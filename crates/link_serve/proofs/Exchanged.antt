@@ -8,7 +8,7 @@ use Rattle.login_model.specs.Stopping.{is_stop, stop_from}
 use Rattle.login_model.specs.declared.event.Event.{Event}
 use Rattle.login_model.specs.declared.mark.Entry.{Entry}
 use Rattle.link_serve.specs.Owners.{events_heard}
-use Rattle.link_serve.specs.Serving.{Came, Prompt, Told, ToldUnstopped, has_hung_up}
+use Rattle.link_serve.specs.Serving.{Came, Prompt, SaidThrough, SaidUnstopped, has_hung_up}
 
 -- a stop is found in each journal that goes on
 pub stop-longer : (n k : ℕ) (J more : List Entry) → stop_from n J ≡ Some k → stop_from n (J ++ more) ≡ Some k
@@ -77,8 +77,8 @@ pub hung-same : (x y : List Exchange) → has_hung_up x ≡ false → OnlySaid y
 hung-same x y is o = hung-append x y ∙ (ap (λ (b : Bool). b || has_hung_up y) is ∙ hung-only y o)
 
 module _ (c : ConnId) (u : Uid) (guid : List ℕ) where
-  abbrev pub told-longer : (J more : List Entry) (events : List Event) (text spoken : List ℕ) → Told c u guid J events text spoken → Told c u guid (J ++ more) events text spoken
-  told-longer J more events text spoken t = record {
+  abbrev pub through-longer : (J more : List Entry) (events : List Event) (text spoken : List ℕ) → SaidThrough c u guid J events text spoken → SaidThrough c u guid (J ++ more) events text spoken
+  through-longer J more events text spoken t = record {
     front = t.front;
     rest = t.rest ++ more;
     journal_is = ap (λ (z : List Entry). z ++ more) t.journal_is ∙ append_assoc t.front t.rest more;
@@ -86,12 +86,12 @@ module _ (c : ConnId) (u : Uid) (guid : List ℕ) where
     said_is = t.said_is;
   }
 
-  unstopped-longer : (J more : List Entry) (events : List Event) (text spoken : List ℕ) → ToldUnstopped c u guid J events text spoken → ToldUnstopped c u guid (J ++ more) events text spoken
-  unstopped-longer J more events text spoken t = record { told = told-longer J more events text spoken t.told; no_stop = t.no_stop }
+  unstopped-longer : (J more : List Entry) (events : List Event) (text spoken : List ℕ) → SaidUnstopped c u guid J events text spoken → SaidUnstopped c u guid (J ++ more) events text spoken
+  unstopped-longer J more events text spoken t = record { through = through-longer J more events text spoken t.through; no_stop = t.no_stop }
 
-  -- what was told by a journal without the stop
-  pub unstopped : (J : List Entry) (events : List Event) (text spoken : List ℕ) → Told c u guid J events text spoken → stop_from 1 J ≡ None → ToldUnstopped c u guid J events text spoken
-  unstopped J events text spoken t none = record { told = t; no_stop = front-unstopped t.front t.rest (sym (ap (stop_from 1) t.journal_is) ∙ none) }
+  -- what was said through a journal without the stop
+  pub unstopped : (J : List Entry) (events : List Event) (text spoken : List ℕ) → SaidThrough c u guid J events text spoken → stop_from 1 J ≡ None → SaidUnstopped c u guid J events text spoken
+  unstopped J events text spoken t none = record { through = t; no_stop = front-unstopped t.front t.rest (sym (ap (stop_from 1) t.journal_is) ∙ none) }
 
   pub prompt-longer : (J more : List Entry) (text spoken : List ℕ) (ts : List Exchange) → Prompt c u guid J text spoken ts → Prompt c u guid (J ++ more) text spoken ts
   prompt-longer J more text spoken [] p = tt

@@ -28,13 +28,14 @@ use Rattle.login_office.specs.declared.end.LinkEnd.TheVariants as end
 use Rattle.wire_out.specs.Mail.{wire}
 use Rattle.link_serve.specs.Acting.{MakesOne}
 use Rattle.link_serve.specs.Owners.{entries_of, entry_who, event_who, events_heard, is_open, was_denied}
-use Rattle.link_serve.specs.Serving.{Told}
+use Rattle.link_serve.specs.Serving.{SaidThrough}
 use Rattle.link_serve.specs.inner.Standing.{Goes, Moment, Stands, Stops, who_of}
 use Rattle.link_serve.specs.Turned.{Acts}
 use Rattle.link_serve.specs.declared.acts.Made.{Made}
-use Rattle.link_serve.proofs.Exchanged.{told-longer}
-use Rattle.link_serve.proofs.OwnEntries.{events-append, no-events, no-mail, no-mail-yet, own-before, own-front}
+use Rattle.link_serve.proofs.Exchanged.{through-longer}
+use Rattle.link_serve.proofs.OwnEntries.{no-events, no-mail, no-mail-yet, own-before, own-front}
 use Rattle.link_serve.proofs.Telling.{fetched-front, goes-still}
+use Rattle.login_office.proofs.Entries.{events-append}
 
 -- a connect is denied for one rule alone
 denied-by : (b : Bool) → is_granted (first_broken (broken_if b (Limit Links) ∷ [])) ≡ false → first_broken (broken_if b (Limit Links) ∷ []) ≡ Denied (Limit Links)
@@ -79,7 +80,7 @@ call-made u start old new teller text made s before own a e later entry one is n
       calls = front-next made (events_heard c u s.setup.guid text) later e next;
       made_is = ap events_of a.mine_is ∙ (events-append old.view.mine own ∙ (ap (λ (z : List Event). z ++ events_of own) s.made_is
           ∙ (ap (λ (z : List Entry). made ++ events_of z) one ∙ ap (λ (z : Event). made ++ z ∷ []) is)));
-      said = subst (λ (j : List Entry). Told c u s.setup.guid j made text (said_of s.talk)) (sym later-seen) (told-longer c u s.setup.guid (entries old.view.seen) (a.others ++ own) made text (said_of s.talk) s.said);
+      said = subst (λ (j : List Entry). SaidThrough c u s.setup.guid j made text (said_of s.talk)) (sym later-seen) (through-longer c u s.setup.guid (entries old.view.seen) (a.others ++ own) made text (said_of s.talk) s.said);
       fetched = s.fetched;
       rest = s.rest ++ (a.others ++ own);
       seen_is = fetched-front u start old new teller text made made s before own a;
@@ -123,8 +124,8 @@ module _ (u : Uid) (start old new : Moment) (teller : TellerState) (text : List 
   events-now : events_of new.view.mine ≡ Connect (who_of start) u ∷ []
   events-now = ap events_of mine-now ∙ ap (λ (z : Event). z ∷ []) is
 
-  told-now : Told (who_of start) u s.setup.guid (entries new.view.seen) (Connect (who_of start) u ∷ []) text (said_of s.talk)
-  told-now = record {
+  through-now : SaidThrough (who_of start) u s.setup.guid (entries new.view.seen) (Connect (who_of start) u ∷ []) text (said_of s.talk)
+  through-now = record {
     front = entries new.view.seen;
     rest = [];
     journal_is = sym (append-nil (entries new.view.seen));
@@ -144,7 +145,7 @@ module _ (u : Uid) (start old new : Moment) (teller : TellerState) (text : List 
     stepped = 1;
     calls = sym (ap (take 1) next);
     made_is = events-now;
-    said = told-now;
+    said = through-now;
     fetched = s.fetched;
     rest = s.rest ++ (a.others ++ own);
     seen_is = fetched-front u start old new teller text [] [] s before own a;
@@ -169,8 +170,8 @@ module _ (u : Uid) (start old new : Moment) (teller : TellerState) (text : List 
     goes = goes-now;
     stepped = 1;
     calls = events-now ∙ (sym (ap (take 1) next) ∙ ap (λ (x : List ℕ). take 1 (events_heard (who_of start) u s.setup.guid x)) (sym s.text_is));
-    said = subst (λ (es : List Event). Told (who_of start) u s.setup.guid (entries new.view.seen) es (heard_of s.talk) (said_of s.talk)) (sym events-now)
-        (subst (λ (x : List ℕ). Told (who_of start) u s.setup.guid (entries new.view.seen) (Connect (who_of start) u ∷ []) x (said_of s.talk)) (sym s.text_is) told-now);
+    said = subst (λ (es : List Event). SaidThrough (who_of start) u s.setup.guid (entries new.view.seen) es (heard_of s.talk) (said_of s.talk)) (sym events-now)
+        (subst (λ (x : List ℕ). SaidThrough (who_of start) u s.setup.guid (entries new.view.seen) (Connect (who_of start) u ∷ []) x (said_of s.talk)) (sym s.text_is) through-now);
     cause = (entry, mine-now, denied-for-links U t (who_of start) u entry.verdict (judged ∙ ap (verdict U t) is) denied);
     shown = λ shown p q. inr (inr refl);
     unsaid = λ k. absurd (let z : ⊥ = cc in z);

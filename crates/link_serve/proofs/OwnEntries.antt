@@ -14,8 +14,8 @@ use Rattle.login_model.specs.declared.mark.Entry.{Entry}
 use Rattle.desk.specs.History.{of_who}
 use Rattle.desk.specs.inner.Appended.{of_who_append}
 use Rattle.bus_message.specs.declared.message.Message.{Message}
-use Rattle.wire_out.specs.Mail.{behind_connect, before_disconnect, bytes_of, connects, is_connect, is_disconnect, mail, messages_of, numbered, told, wire}
-use Rattle.wire_out.proofs.Connected.{told_later, told_none}
+use Rattle.wire_out.specs.Mail.{behind_connect, before_disconnect, bytes_of, connects, is_connect, is_disconnect, mail, messages_of, numbered, messages_to, wire}
+use Rattle.wire_out.proofs.Connected.{messages_later, messages_none}
 use Rattle.link_serve.specs.Owners.{entries_of, entry_who, event_who, is_let_in, is_open, is_open_after}
 
 pub own-append : (c : ConnId) (xs ys : List Entry) → entries_of c (xs ++ ys) ≡ entries_of c xs ++ entries_of c ys
@@ -44,10 +44,6 @@ pub no-events : (es : List Entry) → events_of es ≡ [] → es ≡ []
 no-events [] e = refl
 no-events (x ∷ es) e = absurd (let k : ⊥ = cc in k)
 
-pub events-append : (xs ys : List Entry) → events_of (xs ++ ys) ≡ events_of xs ++ events_of ys
-events-append [] ys = refl
-events-append (x ∷ xs) ys = ap (λ (z : List Event). x.event ∷ z) (events-append xs ys)
-
 -- ---- nobody connects who has no entry
 
 is-not-connect : (c : ConnId) (e : Event) → (event_who e == c.0) ≡ false → is_connect c e ≡ false
@@ -67,21 +63,21 @@ not-connected c (e ∷ es) none = by (entry_who e == c.0) refl none (not-connect
     by false is none later =
         ap (λ (b : Bool). (b && is_granted e.verdict) || list_any (connects c) es) (is-not-connect c e.event is) ∙ later none
 
-no-wire : (c : ConnId) (J : List Entry) → told c J ≡ [] → wire c J ≡ []
+no-wire : (c : ConnId) (J : List Entry) → messages_to c J ≡ [] → wire c J ≡ []
 unfolding mail
 no-wire c J none = ap (λ (ms : List Message). bytes_of (numbered 1 ms)) none
 
 -- such a connection has no mail
 pub no-mail : (c : ConnId) (J : List Entry) → entries_of c J ≡ [] → wire c J ≡ []
-no-mail c J none = no-wire c J (told_none c J (not-connected c J none))
+no-mail c J none = no-wire c J (messages_none c J (not-connected c J none))
 
-told-alone : (c : ConnId) (e : Entry) (b : Bool) → connects c e ≡ b → told c (e ∷ []) ≡ []
-told-alone c e true is = ap (λ (b : Bool). flat_map (messages_of c) (before_disconnect c (cond b [] []))) is
-told-alone c e false is = ap (λ (b : Bool). flat_map (messages_of c) (before_disconnect c (cond b [] []))) is
+messages-alone : (c : ConnId) (e : Entry) (b : Bool) → connects c e ≡ b → messages_to c (e ∷ []) ≡ []
+messages-alone c e true is = ap (λ (b : Bool). flat_map (messages_of c) (before_disconnect c (cond b [] []))) is
+messages-alone c e false is = ap (λ (b : Bool). flat_map (messages_of c) (before_disconnect c (cond b [] []))) is
 
 -- nor has one whose only entry is the last
 pub no-mail-yet : (c : ConnId) (J : List Entry) (e : Entry) → entries_of c J ≡ [] → wire c (J ++ e ∷ []) ≡ []
-no-mail-yet c J e none = no-wire c (J ++ e ∷ []) (told_later c J (e ∷ []) (not-connected c J none) ∙ told-alone c e (connects c e) refl)
+no-mail-yet c J e none = no-wire c (J ++ e ∷ []) (messages_later c J (e ∷ []) (not-connected c J none) ∙ messages-alone c e (connects c e) refl)
 
 -- ---- whether a connection is open by its entries
 

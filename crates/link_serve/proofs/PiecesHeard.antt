@@ -26,7 +26,7 @@ use Rattle.login_office.specs.declared.teller.HeardPiece.{HeardPiece}
 use Rattle.wire_out.specs.Mail.{bytes_of, mail, wire}
 use Rattle.wire_out.proofs.Growing.{wire_grows}
 use Rattle.link_serve.specs.Owners.{entries_of, events_heard, is_let_in}
-use Rattle.link_serve.specs.Serving.{Came, Causes, FaultsAt, IsShort, Prompt, SaidAt, Told, ToldUnstopped, has_hung_up, is_cut, is_hang_up, is_too_many}
+use Rattle.link_serve.specs.Serving.{Came, Causes, FaultsAt, IsShort, Prompt, SaidAt, SaidThrough, SaidUnstopped, has_hung_up, is_cut, is_hang_up, is_too_many}
 use Rattle.link_serve.specs.inner.Standing.{Goes, Moment, Rests, Stands, Stops, hung_up_end, new_events, who_of}
 use Rattle.link_serve.specs.inner.Turning.{IsHeard, moment}
 use Rattle.link_serve.specs.declared.serving.Progress.{Progress}
@@ -54,14 +54,14 @@ module _ (u : Uid) (start : Moment) (view : View Setup Entry) (t0 : Option (List
   here = r.stands
 
   -- all that is due was said
-  told-here : ToldUnstopped (who_of start) u here.setup.guid (entries view.seen) (events_heard (who_of start) u here.setup.guid (heard_of here.talk)) (heard_of here.talk) (said_of here.talk)
-  told-here =
+  unstopped-here : SaidUnstopped (who_of start) u here.setup.guid (entries view.seen) (events_heard (who_of start) u here.setup.guid (heard_of here.talk)) (heard_of here.talk) (said_of here.talk)
+  unstopped-here =
       let c = who_of start in
       let g = here.setup.guid in
       let all : r.made ≡ events_heard c u g (heard_of here.talk) = r.made_is ∙ ap (events_heard c u g) (sym here.text_is) in
       unstopped c u g (entries view.seen) (events_heard c u g (heard_of here.talk)) (heard_of here.talk) (said_of here.talk)
-      (subst (λ (x : List ℕ). Told c u g (entries view.seen) (events_heard c u g (heard_of here.talk)) x (said_of here.talk)) (sym here.text_is)
-      (subst (λ (es : List Event). Told c u g (entries view.seen) es r.text (said_of here.talk)) all here.said))
+      (subst (λ (x : List ℕ). SaidThrough c u g (entries view.seen) (events_heard c u g (heard_of here.talk)) x (said_of here.talk)) (sym here.text_is)
+      (subst (λ (es : List Event). SaidThrough c u g (entries view.seen) es r.text (said_of here.talk)) all here.said))
       unstopped-yet
 
   -- nothing came of what is left
@@ -143,7 +143,7 @@ module _ (u : Uid) (start : Moment) (view : View Setup Entry) (t0 : Option (List
       record {
         text = r.text;
         made = r.made;
-        stands = stands-heard t1 l1 f1 (quiet ∷ []) p.teller r.text [] grew (came-still l1 left) (told-here, tt) (sym (append-nil r.text)) refl (sym (append-nil (replies u g r.text))) (λ b. refl) here.link refl here.heard refl same;
+        stands = stands-heard t1 l1 f1 (quiet ∷ []) p.teller r.text [] grew (came-still l1 left) (unstopped-here, tt) (sym (append-nil r.text)) refl (sym (append-nil (replies u g r.text))) (λ b. refl) here.link refl here.heard refl same;
         made_is = r.made_is;
         going = r.going;
         open_is = r.open_is;
@@ -158,17 +158,17 @@ module _ (u : Uid) (start : Moment) (view : View Setup Entry) (t0 : Option (List
       let g = here.setup.guid in
       let text-now : heard_of (here.talk ++ x) ≡ r.text = heard_of-append here.talk x ∙ (ap (λ (z : List ℕ). heard_of here.talk ++ z) deaf ∙ (append-nil (heard_of here.talk) ∙ here.text_is)) in
       let said-now : said_of (here.talk ++ x) ≡ said_of here.talk = said_of-append here.talk x ∙ (ap (λ (z : List ℕ). said_of here.talk ++ z) mute ∙ append-nil (said_of here.talk)) in
-      let told : Told c u g (entries view.seen) (events_of view.mine) (heard_of (here.talk ++ x)) (said_of (here.talk ++ x)) =
-      subst (λ (es : List Event). Told c u g (entries view.seen) es (heard_of (here.talk ++ x)) (said_of (here.talk ++ x))) (sym here.made_is)
-      (subst (λ (t : List ℕ). Told c u g (entries view.seen) r.made t (said_of (here.talk ++ x))) (sym text-now)
-      (subst (λ (t : List ℕ). Told c u g (entries view.seen) r.made r.text t) (sym said-now) here.said)) in
+      let through : SaidThrough c u g (entries view.seen) (events_of view.mine) (heard_of (here.talk ++ x)) (said_of (here.talk ++ x)) =
+      subst (λ (es : List Event). SaidThrough c u g (entries view.seen) es (heard_of (here.talk ++ x)) (said_of (here.talk ++ x))) (sym here.made_is)
+      (subst (λ (t : List ℕ). SaidThrough c u g (entries view.seen) r.made t (said_of (here.talk ++ x))) (sym text-now)
+      (subst (λ (t : List ℕ). SaidThrough c u g (entries view.seen) r.made r.text t) (sym said-now) here.said)) in
       record {
         setup = here.setup;
         talk = here.talk ++ x;
         goes = goes-with t1 l1 f1 x grew (subst (Came l0 l1) (sym deaf) (came-still l1 left)) prompt;
         stepped = here.stepped;
         calls = here.made_is ∙ (here.calls ∙ ap (λ (t : List ℕ). take here.stepped (events_heard c u g t)) (sym text-now));
-        said = subst (SaidAt c u g (entries view.seen) (events_of view.mine) (heard_of (here.talk ++ x)) (said_of (here.talk ++ x))) (sym cut) told;
+        said = subst (SaidAt c u g (entries view.seen) (events_of view.mine) (heard_of (here.talk ++ x)) (said_of (here.talk ++ x))) (sym cut) through;
         cause = cause (heard_of (here.talk ++ x)) text-now;
         shown = λ shown q all. absurd (none-shown shown (sym r.going ∙ (ap (end_heard u g) (sym text-now) ∙ q)));
         hung_up = hung-append here.talk x ∙ (ap (λ (b : Bool). b || has_hung_up x) here.going ∙ hang);
@@ -206,11 +206,11 @@ module _ (u : Uid) (start : Moment) (view : View Setup Entry) (t0 : Option (List
       by : (b : Bool) → p.is_open ≡ b → Stops u start (moment view t1 l1 f1) (hung_up_end p.is_open)
       by true b =
           subst (λ (x : Bool). Stops u start (moment view t1 l1 f1) (hung_up_end x)) (sym b)
-          (stops-here t1 l1 f1 (ended ∷ []) end.Closed grew left (told-here, tt) refl refl
+          (stops-here t1 l1 f1 (ended ∷ []) end.Closed grew left (unstopped-here, tt) refl refl
           (λ text is. (let-in (sym r.open_is ∙ b), all-made text is, ap (end_heard u here.setup.guid) is ∙ r.going)) refl refl refl (λ k. nothing-left) (same ∙ here.faults))
       by false b =
           subst (λ (x : Bool). Stops u start (moment view t1 l1 f1) (hung_up_end x)) (sym b)
-          (stops-here t1 l1 f1 (ended ∷ []) (end.NotBegun HungUp) grew left (told-here, tt) refl refl
+          (stops-here t1 l1 f1 (ended ∷ []) (end.NotBegun HungUp) grew left (unstopped-here, tt) refl refl
           (λ text is. (ap (is_begun u here.setup.guid) is ∙ (sym r.open_is ∙ b), ap (end_heard u here.setup.guid) is ∙ r.going)) refl refl refl (λ k. nothing-left) (same ∙ here.faults))
 
   -- a piece was heard, and its replies were said
@@ -227,7 +227,7 @@ module _ (u : Uid) (start : Moment) (view : View Setup Entry) (t0 : Option (List
       let nothing : heard_of x ≡ piece = ap (λ (z : List ℕ). piece ++ z) (heard_of-only say.more say.only) ∙ append-nil piece in
       let stands : Stands u start (moment view t1 l1 f1) p1.teller (r.text ++ piece) r.made r.made =
       stands-heard t1 l1 f1 x p1.teller (r.text ++ piece) told.replies (Grew-more t0 tm t1 (heard piece ∷ []) say.more grew say.grew) (subst (Came l0 l1) (sym nothing) came)
-      (told-here, prompt-only c u g (entries view.seen) (heard_of here.talk ++ piece) (said_of here.talk) say.more say.only)
+      (unstopped-here, prompt-only c u g (entries view.seen) (heard_of here.talk ++ piece) (said_of here.talk) say.more say.only)
       (ap (λ (z : List ℕ). r.text ++ z) (sym nothing)) spoken
       (in-terms (λ b v k. replies v k (r.text ++ piece) ≡ replies v k r.text ++ told.replies) (h.replies r.text here.heard))
       (λ b. no-more-replies p.teller p1.teller r.text piece told h here.heard (in-terms-back (λ d v k. is_begun v k r.text ≡ true) b))
@@ -353,7 +353,7 @@ module _ (u : Uid) (start : Moment) (view : View Setup Entry) (t0 : Option (List
       record {
         setup = here.setup;
         talk = here.talk ++ x;
-        goes = goes-with t1 l1 f1 x grew (subst (Came l0 l1) (sym (ap (λ (z : List ℕ). piece ++ z) (heard_of-only more only) ∙ append-nil piece)) came) (told-here, prompt-only c u g (entries view.seen) (heard_of here.talk ++ piece) (said_of here.talk) more only);
+        goes = goes-with t1 l1 f1 x grew (subst (Came l0 l1) (sym (ap (λ (z : List ℕ). piece ++ z) (heard_of-only more only) ∙ append-nil piece)) came) (unstopped-here, prompt-only c u g (entries view.seen) (heard_of here.talk ++ piece) (said_of here.talk) more only);
         stepped = length r.made + 0;
         calls = here.made_is ∙ (front-of r.made grown.0 (events_heard c u g (r.text ++ piece)) (grown.1 ∙ ap (λ (es : List Event). es ++ grown.0) (sym r.made_is))
             ∙ ap (λ (t : List ℕ). take (length r.made + 0) (events_heard c u g t)) (sym text-now));

@@ -19,10 +19,10 @@ use Rattle.login_office.specs.Hearing.{TellerState}
 use Rattle.login_office.specs.declared.end.LinkEnd.{LinkEnd}
 use Rattle.login_office.specs.declared.end.LinkEnd.TheVariants as end
 use Rattle.link_serve.specs.Owners.{entries_of, events_heard, was_denied}
-use Rattle.link_serve.specs.Serving.{Causes, FaultsAt, IsFullFor, IsShown, SaidAt, Told, is_cut, is_hang_up, is_too_many}
+use Rattle.link_serve.specs.Serving.{Causes, FaultsAt, IsFullFor, IsShown, SaidAt, SaidThrough, is_cut, is_hang_up, is_too_many}
 use Rattle.link_serve.specs.inner.Standing.{Moment, Stands, Stops, refused_end, who_of}
 use Rattle.link_serve.specs.Turned.{Acts}
-use Rattle.link_serve.proofs.Exchanged.{told-longer}
+use Rattle.link_serve.proofs.Exchanged.{through-longer}
 use Rattle.link_serve.proofs.Telling.{goes-still}
 
 -- what refused is the stop, or a full journal
@@ -66,14 +66,14 @@ module _ (u : Uid) (start old new : Moment) (teller : TellerState) (text : List 
   seen-later : entries new.view.seen ≡ entries old.view.seen ++ a.others
   seen-later = a.seen_is ∙ (append-nil before ∙ a.before_is)
 
-  still-told : Told (who_of start) u s.setup.guid (entries new.view.seen) (events_of new.view.mine) (heard_of s.talk) (said_of s.talk)
-  still-told =
+  still-through : SaidThrough (who_of start) u s.setup.guid (entries new.view.seen) (events_of new.view.mine) (heard_of s.talk) (said_of s.talk)
+  still-through =
       let c = who_of start in
       let g = s.setup.guid in
-      let there = told-longer c u g (entries old.view.seen) a.others made text (said_of s.talk) s.said in
-      subst (λ (j : List Entry). Told c u g j (events_of new.view.mine) (heard_of s.talk) (said_of s.talk)) (sym seen-later)
-      (subst (λ (es : List Event). Told c u g (entries old.view.seen ++ a.others) es (heard_of s.talk) (said_of s.talk)) (sym made-same)
-      (subst (λ (t : List ℕ). Told c u g (entries old.view.seen ++ a.others) made t (said_of s.talk)) (sym s.text_is) there))
+      let there = through-longer c u g (entries old.view.seen) a.others made text (said_of s.talk) s.said in
+      subst (λ (j : List Entry). SaidThrough c u g j (events_of new.view.mine) (heard_of s.talk) (said_of s.talk)) (sym seen-later)
+      (subst (λ (es : List Event). SaidThrough c u g (entries old.view.seen ++ a.others) es (heard_of s.talk) (said_of s.talk)) (sym made-same)
+      (subst (λ (t : List ℕ). SaidThrough c u g (entries old.view.seen ++ a.others) made t (said_of s.talk)) (sym s.text_is) there))
 
   -- it stops with an end that cuts nothing, which the bytes, its events and the journal show
   pub stops-with : (x : LinkEnd) → new.talk ≡ old.talk → new.left ≡ old.left → Causes s.setup (who_of start) u (entries new.view.seen) new.view.mine (heard_of s.talk) x
@@ -85,7 +85,7 @@ module _ (u : Uid) (start old new : Moment) (teller : TellerState) (text : List 
     goes = goes-still u start old new s.setup s.talk before [] s.goes a same left;
     stepped = s.stepped;
     calls = made-same ∙ (s.calls ∙ ap (λ (t : List ℕ). take s.stepped (events_heard (who_of start) u s.setup.guid t)) (sym s.text_is));
-    said = subst (SaidAt (who_of start) u s.setup.guid (entries new.view.seen) (events_of new.view.mine) (heard_of s.talk) (said_of s.talk)) (sym cut) still-told;
+    said = subst (SaidAt (who_of start) u s.setup.guid (entries new.view.seen) (events_of new.view.mine) (heard_of s.talk) (said_of s.talk)) (sym cut) still-through;
     cause = cause;
     shown = shown;
     unsaid = λ k. absurd (let b : false ≡ true = sym cut ∙ ap is_cut k in cc);

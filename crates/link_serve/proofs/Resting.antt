@@ -22,7 +22,7 @@ use Rattle.login_office.specs.declared.teller.HeardPiece.{HeardPiece}
 use Rattle.wire_out.specs.Mail.{wire}
 use Rattle.wire_out.specs.Places.{IsPlaceIn, place_of}
 use Rattle.link_serve.specs.Owners.{entries_of, events_heard, is_let_in, was_denied}
-use Rattle.link_serve.specs.Serving.{Causes, FaultsAt, IsShown, SaidAt, Told, is_cut, is_hang_up, is_too_many}
+use Rattle.link_serve.specs.Serving.{Causes, FaultsAt, IsShown, SaidAt, SaidThrough, is_cut, is_hang_up, is_too_many}
 use Rattle.link_serve.specs.inner.Standing.{Moment, Rests, Stands, Stops, who_of}
 use Rattle.link_serve.specs.inner.Turning.{Begins, HasRested, Hears, IsHeard, Tells}
 use Rattle.link_serve.specs.declared.serving.Progress.{Progress}
@@ -47,12 +47,12 @@ pub one-setup : (u : Uid) (start old new : Moment) (t r : TellerState) (x y : Li
 one-setup u start old new t r x y made told making telling s z = some-one (sym z.goes.setup_is ∙ s.goes.setup_is)
 
 module _ (u : Uid) (start now : Moment) (teller : TellerState) (text : List ℕ) (made : List Event) (s : Stands u start now teller text made made) where
-  told-now : Told (who_of start) u s.setup.guid (entries now.view.seen) (events_of now.view.mine) (heard_of s.talk) (said_of s.talk)
-  told-now =
+  through-now : SaidThrough (who_of start) u s.setup.guid (entries now.view.seen) (events_of now.view.mine) (heard_of s.talk) (said_of s.talk)
+  through-now =
       let c = who_of start in
       let g = s.setup.guid in
-      subst (λ (es : List Event). Told c u g (entries now.view.seen) es (heard_of s.talk) (said_of s.talk)) (sym s.made_is)
-      (subst (λ (t : List ℕ). Told c u g (entries now.view.seen) made t (said_of s.talk)) (sym s.text_is) s.said)
+      subst (λ (es : List Event). SaidThrough c u g (entries now.view.seen) es (heard_of s.talk) (said_of s.talk)) (sym s.made_is)
+      (subst (λ (t : List ℕ). SaidThrough c u g (entries now.view.seen) made t (said_of s.talk)) (sym s.text_is) s.said)
 
   -- a link stops with an end that cuts nothing, which the bytes, its events and the journal show
   pub stands-stop : (x : LinkEnd) → Causes s.setup (who_of start) u (entries now.view.seen) now.view.mine text x → IsShown s.setup (who_of start) u (entries now.view.seen) now.view.mine text x
@@ -63,7 +63,7 @@ module _ (u : Uid) (start now : Moment) (teller : TellerState) (text : List ℕ)
     goes = s.goes;
     stepped = s.stepped;
     calls = s.made_is ∙ (s.calls ∙ ap (λ (t : List ℕ). take s.stepped (events_heard (who_of start) u s.setup.guid t)) (sym s.text_is));
-    said = subst (SaidAt (who_of start) u s.setup.guid (entries now.view.seen) (events_of now.view.mine) (heard_of s.talk) (said_of s.talk)) (sym cut) told-now;
+    said = subst (SaidAt (who_of start) u s.setup.guid (entries now.view.seen) (events_of now.view.mine) (heard_of s.talk) (said_of s.talk)) (sym cut) through-now;
     cause = subst (λ (t : List ℕ). Causes s.setup (who_of start) u (entries now.view.seen) now.view.mine t x) (sym s.text_is) cause;
     shown = subst (λ (t : List ℕ). IsShown s.setup (who_of start) u (entries now.view.seen) now.view.mine t x) (sym s.text_is) shown;
     unsaid = λ k. absurd (let b : false ≡ true = sym cut ∙ ap is_cut k in cc);

@@ -28,7 +28,7 @@ use Rattle.wire_out.specs.Mail.{bytes_of, mail, wire}
 use Rattle.wire_out.specs.Places.{IsPlaceIn, Place, place_of}
 use Rattle.wire_out.proofs.Growing.{place_grows, wire_grows}
 use Rattle.link_serve.specs.Owners.{entries_of, events_heard, was_denied}
-use Rattle.link_serve.specs.Serving.{Came, Causes, FaultsAt, Prompt, SaidAt, Told, has_hung_up, is_cut, is_hang_up, is_too_many}
+use Rattle.link_serve.specs.Serving.{Came, Causes, FaultsAt, Prompt, SaidAt, has_hung_up, is_cut, is_hang_up, is_too_many}
 use Rattle.link_serve.specs.inner.Standing.{Goes, Moment, Stands, Stops, who_of}
 use Rattle.link_serve.specs.Turned.{Acts}
 use Rattle.link_serve.specs.inner.Turning.{moment}

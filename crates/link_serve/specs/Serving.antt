@@ -29,7 +29,7 @@ use Rattle.link_serve.specs.Owners.{ending, entries_of, events_heard, is_let_in,
 module _ (c : ConnId) (u : Uid) (guid : List ℕ) where
   -- what was said is the replies to the bytes that were heard, and all mail by a front of the journal in which the link has
   -- just these events
-  pub record Told (J : List Entry) (events : List Event) (text spoken : List ℕ) : Type 0 where
+  pub record SaidThrough (J : List Entry) (events : List Event) (text spoken : List ℕ) : Type 0 where
     pub front : List Entry
     pub rest : List Entry
     pub journal_is : J ≡ front ++ rest
@@ -37,19 +37,19 @@ module _ (c : ConnId) (u : Uid) (guid : List ℕ) where
     pub said_is : spoken ≡ replies u guid text ++ wire c front
 
   -- this front is one in which the stop is not
-  pub record ToldUnstopped (J : List Entry) (events : List Event) (text spoken : List ℕ) : Type 0 where
-    pub told : Told J events text spoken
-    pub no_stop : stop_from 1 told.front ≡ None
+  pub record SaidUnstopped (J : List Entry) (events : List Event) (text spoken : List ℕ) : Type 0 where
+    pub through : SaidThrough J events text spoken
+    pub no_stop : stop_from 1 through.front ≡ None
 
   -- before each piece that was heard, and before each answer without bytes, all was said that is due to the bytes before:
   -- the replies, and the mail through the entry of the last call that these bytes make, and no stop was seen. This text was
   -- heard and this was said before these exchanges
   abbrev pub Prompt : List Entry → (text spoken : List ℕ) → List Exchange → Type 0
   Prompt J text spoken [] = Unit {0}
-  Prompt J text spoken (heard piece ∷ es) = ToldUnstopped J (events_heard c u guid text) text spoken × Prompt J (text ++ piece) spoken es
+  Prompt J text spoken (heard piece ∷ es) = SaidUnstopped J (events_heard c u guid text) text spoken × Prompt J (text ++ piece) spoken es
   Prompt J text spoken (said piece ∷ es) = Prompt J text (spoken ++ piece) es
-  Prompt J text spoken (quiet ∷ es) = ToldUnstopped J (events_heard c u guid text) text spoken × Prompt J text spoken es
-  Prompt J text spoken (ended ∷ es) = ToldUnstopped J (events_heard c u guid text) text spoken × Prompt J text spoken es
+  Prompt J text spoken (quiet ∷ es) = SaidUnstopped J (events_heard c u guid text) text spoken × Prompt J text spoken es
+  Prompt J text spoken (ended ∷ es) = SaidUnstopped J (events_heard c u guid text) text spoken × Prompt J text spoken es
 
   -- a front of the replies and of the mail
   abbrev pub IsFront : List Entry → (text spoken : List ℕ) → Type 0
@@ -135,7 +135,7 @@ module _ (U : Setup) (c : ConnId) (u : Uid) (J own : List Entry) (text : List �
 -- what was said at an end: of a text that was cut off a front, else all that was due to the events that were made
 abbrev pub SaidAt : ConnId → Uid → List ℕ → List Entry → List Event → (text spoken : List ℕ) → Bool → Type 0
 SaidAt c u guid J made text spoken true = IsFront c u guid J text spoken
-SaidAt c u guid J made text spoken false = Told c u guid J made text spoken
+SaidAt c u guid J made text spoken false = SaidThrough c u guid J made text spoken
 
 -- a link was served under a number: by this journal, of which these entries are its own
 pub record ServedBy (U : Setup) (c : ConnId) (u : Uid) (J mine : List Entry) (old new : Option (List Exchange)) (had has : Option (List ℕ)) (before now : ℕ) (e : LinkEnd) : Type 0 where

@@ -1,9 +1,9 @@
 // What calls that only ask are answered.
 
-use crate::{Answered, Front, Piece};
+use crate::{Answered, Beginning, Piece};
 
 /// Nobody has a session.
-const NOBODY: Front = Front {
+const NOBODY: Beginning = Beginning {
     piece: (
         "\
 login-recording 1
@@ -36,7 +36,7 @@ const OF_NOBODY: [(&str, &str); 5] = [
 ];
 
 /// A session on a terminal, one of root without a seat, and a user who lingers without a session.
-const SOME: Front = Front {
+const SOME: Beginning = Beginning {
     piece: (
         "\
 login-recording 1

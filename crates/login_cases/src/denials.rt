@@ -1,9 +1,9 @@
 // What each rule denies, with its printed detail, and which of several comes first.
 
-use crate::{Answered, Front, Piece};
+use crate::{Answered, Beginning, Piece};
 
 /// A session on a terminal that connection 2 controls, a session without a seat, and a clock that was set.
-const SESSIONS: Front = Front {
+const SESSIONS: Beginning = Beginning {
     piece: (
         "\
 login-recording 1
@@ -232,7 +232,7 @@ const ORDER: [(&str, &str); 18] = [
 ];
 
 /// A session that is closing, since its fifo was closed.
-const CLOSING: Front = Front {
+const CLOSING: Beginning = Beginning {
     piece: (
         "\
 login-recording 1

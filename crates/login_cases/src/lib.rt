@@ -32,9 +32,9 @@ pub struct Case {
     pub pieces: &'static [Piece],
 }
 
-/// The front of a recording through some of its events, and how many these are.
+/// What a recording begins with, through some of its events, and how many these are.
 #[derive(Clone, Copy)]
-pub struct Front {
+pub struct Beginning {
     pub piece: Piece,
     pub entries: u32,
 }
@@ -43,7 +43,7 @@ pub struct Front {
 #[derive(Clone, Copy)]
 pub struct Answered {
     pub name: &'static str,
-    pub front: Front,
+    pub front: Beginning,
     pub lines: &'static [(&'static str, &'static str)],
 }
 

@@ -1,10 +1,10 @@
 // Properties: each of each object once, those that there are not, and that none can be set; and the bus's own calls.
 
-use crate::{Answered, Front, Piece};
+use crate::{Answered, Beginning, Piece};
 
 /// A session on a terminal of seat0, one on a seat without terminals, one of root without a seat, two locks and an
 /// operation that waits.
-pub const SOME: Front = Front {
+pub const SOME: Beginning = Beginning {
     piece: (
         "\
 login-recording 1
@@ -310,7 +310,7 @@ const SEAT: [(&str, &str); 6] = [
 
 /// A session that is active and another one of its user, one of a user who has no other, and two that are closing: of a
 /// user who lingers, and of one who doesn't. A seat has no session.
-const CLOSING: Front = Front {
+const CLOSING: Beginning = Beginning {
     piece: (
         "\
 login-recording 1

@@ -6,3 +6,4 @@ pub mod Tellers
 pub mod Mails
 pub mod Connected
 pub mod MoreBytes
+pub mod Entries

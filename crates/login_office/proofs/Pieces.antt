@@ -104,7 +104,7 @@ nothing_came who told s old new heard is nothing unsaid goes fed r =
       end = b.3 ∙ sym goes;
     }
 
-came_to : (who : ConnId) (told : AuthState) (s : State) (old new : Stream) (heard : HeardPiece) → told ≡ handshake.told s → HasFed old []
+came_to : (who : ConnId) (told : AuthState) (s : State) (old new : Stream) (heard : HeardPiece) → told ≡ handshake.shown s → HasFed old []
     → ReadsBehind who told old new heard → CameTo who s new heard
 came_to who told WaitingForNul old new heard is fed r = nothing_came who told WaitingForNul old new heard is refl refl refl fed r
 came_to who told (Talking talk line) old new heard is fed r = nothing_came who told (Talking talk line) old new heard is refl refl refl fed r

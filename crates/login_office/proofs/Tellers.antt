@@ -1,5 +1,5 @@
 -- The tellers of an office, by their numbers.
-use Rattle.std.proofs.Common.{◌≡◌, ◌≢◌, ℕ, zero, suc, ◌≤◌, List, [], ◌∷◌, ◌++◌, length, take, refl, ap, sym, subst, ◌∙◌, arith, Bool, true, false, cond, Option, Some, None, Result, Ok, Err, IfOk, OnOk, OnErr}
+use Rattle.std.proofs.Common.{◌≡◌, ◌≢◌, ◌↔◌, ℕ, zero, suc, ◌≤◌, List, [], ◌∷◌, ◌++◌, length, take, refl, ap, sym, subst, ◌∙◌, arith, Bool, true, false, cond, Option, Some, None, Result, Ok, Err, IfOk, OnOk, OnErr}
 use Rattle.std.proofs.lemmas.Bool.Decides.{nat_tests}
 use Rattle.std.proofs.lemmas.List.{take_all, length-take}
 use Rattle.std.specs.BTreeMap.{is_at}
@@ -32,6 +32,16 @@ apart k q other = grind (arith, nat_tests)
 
 abbrev pub Tellers : Type 0
 Tellers = List (ℕ × TellerState)
+
+first : (k : ℕ) (t : TellerState) (rest : Tellers) → teller_at k ((k, t) ∷ rest) ≡ Some t
+first k t rest =
+    let here : is_at (nat_cmp k) k ≡ true = grind (arith, nat_tests) in
+    ap (λ (b : Bool). cond b (Some t) (teller_at k rest)) here
+
+-- no connection has a teller just where there are no rows
+pub none_open : (rows : Tellers) → (length rows ≡ 0) ↔ ((c : ConnId) → teller_at c.0 rows ≡ None)
+none_open [] = (λ _ c. refl, λ _. refl)
+none_open ((k, t) ∷ rest) = (λ e. absurd (omega arith), λ none. absurd (let gone : Some t ≡ None = sym (first k t rest) ∙ none (record { 0 = k }) in cc))
 
 -- the tellers are as before, but for this one of a number
 abbrev pub UpdatesAt : ℕ → Tellers → Tellers → Option TellerState → Type 0

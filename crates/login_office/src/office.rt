@@ -4,6 +4,7 @@ ghost use Rattle.std.specs.Prelude.{◌≡◌, ◌≢◌, ◌↔◌, ◌++◌, [
 ghost use Rattle.std.specs.Option.{IsSome};
 ghost use Rattle.std.specs.Borrow.{sem};
 ghost use Rattle.std.specs.Io.BufRead.{Rests};
+ghost use Rattle.login_base.specs.declared.ids.ConnId.{ConnId as AnyConn};
 ghost use Rattle.login_core.specs.Fullness.{always_fits};
 ghost use Rattle.login_core.specs.State.{IsReady, RoomGives};
 ghost use Rattle.login_laws.specs.Lawful.{IsLawful};
@@ -85,6 +86,13 @@ impl Office {
         ensures { IsTrue result ↔ IsSome (teller_of self.now c) }
     {
         self.tellers.contains_key(&c.0)
+    }
+
+    /// Whether no link is open, that is, whether none was opened that is not forgotten.
+    pub fn has_no_links(&self) -> bool
+        ensures { IsTrue result ↔ ((c : AnyConn) → teller_of self.now c ≡ None) }
+    {
+        self.tellers.is_empty()
     }
 
     /// Hears what the client of a link sent next, as its teller does.

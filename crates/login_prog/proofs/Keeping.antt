@@ -27,6 +27,7 @@ use Rattle.login_prog.specs.declared.serve.troubles.Troubles.{Troubles}
 use Rattle.login_prog.specs.inner.Endings.{with_refused}
 use Rattle.login_prog.specs.inner.House.{Door, Far, FaultsSay, FaultsSayOne, FullForTick, HasTicked, HasTrouble, Held, IsListed, IsUntold, KeepsAt, MayStop, NoMore, Since, WasAsked, all_out, stopped_now, tick}
 use Rattle.login_prog.specs.inner.Jobs.{PassOfCore}
+use Rattle.login_prog.proofs.ReaderPass.{by_count, by_stop}
 use Rattle.login_prog.proofs.GoingOn.{SeesMore, acts-more, entries-on, first-acts, full-on, placed-on, stopped-on}
 use Rattle.login_prog.proofs.StopSeen.{ticked-once, ticked-stopped, ticks-alone}
 
@@ -155,16 +156,6 @@ tick-none (Some n) f e = absurd (let k : ⊥ = cc in k)
 tick-none None (Some c) e = absurd (let k : ⊥ = cc in k)
 tick-none None None e = refl
 
-tick-full : (s : Option ℕ) (f : Option Count) (count : Count) → refusal s f ≡ Some (refused.Full count) → (s ≡ None) × (f ≡ Some count)
-tick-full (Some n) f count e = absurd (let k : ⊥ = cc in k)
-tick-full None (Some other) count e = (refl, ap Some (let same : other ≡ count = cc in same))
-tick-full None None count e = absurd (let k : ⊥ = cc in k)
-
-tick-stopped : (s : Option ℕ) (f : Option Count) (n : ℕ) → refusal s f ≡ Some (refused.Stopped n) → s ≡ Some n
-tick-stopped (Some m) f n e = ap Some (let same : m ≡ n = cc in same)
-tick-stopped None (Some count) n e = absurd (let k : ⊥ = cc in k)
-tick-stopped None None n e = absurd (let k : ⊥ = cc in k)
-
 stop-of-tick : (J : List Entry) (m : Millis) → stopped J (Tick m) ≡ stop_from 1 J
 unfolding stopped
 stop-of-tick J m = refl
@@ -236,7 +227,7 @@ module _ {L N P : Type 0} (number : L → ℕ) (talk : L → Option (List Exchan
     full-so : (r : Refused) → StepGives s.setup (Tick m) s.before (entries w.seen) (Err r) → (count : Count) → (with_refused r house.troubles).full ≡ Some count → FullForTick x.setup w.seen t.ticks m count
     full-so refused.NoMemory g count e = absurd (not-full count e)
     full-so (refused.Full other) g count e =
-        let f = tick-full (stopped s.before (Tick m)) (full s.setup s.before (Tick m)) other g.1 in
+        let f = by_count (stopped s.before (Tick m)) (full s.setup s.before (Tick m)) other g.1 in
         let is : other ≡ count = same_Some other count e in
         let none : stop_from 1 s.before ≡ None = sym (stop-of-tick s.before m) ∙ f.0 in
         record {
@@ -254,7 +245,7 @@ module _ {L N P : Type 0} (number : L → ℕ) (talk : L → Option (List Exchan
     reason refused.NoMemory g = inl (inl refl)
     reason (refused.Full count) g = inl (inr (inl refl))
     reason (refused.Stopped n) g =
-        inr (inr (ap is_some (ap (stop_from 1) g.0 ∙ (sym (stop-of-tick s.before m) ∙ tick-stopped (stopped s.before (Tick m)) (full s.setup s.before (Tick m)) n g.1))))
+        inr (inr (ap is_some (ap (stop_from 1) g.0 ∙ (sym (stop-of-tick s.before m) ∙ by_stop (stopped s.before (Tick m)) (full s.setup s.before (Tick m)) n g.1))))
 
     pub refused-reason : (now : Troubles) → now ≡ with_refused why house.troubles → MayStop now t.is_alone w.seen
     refused-reason now is = subst (λ (z : Troubles). MayStop z t.is_alone w.seen) (sym is) (reason why gives)

@@ -52,7 +52,7 @@ untold-so : (all after : Option (List ℕ)) (s : Setup) (wrong : List Diagnostic
 untold-so all None s wrong count w e = refl
 untold-so all (Some rest) s wrong count w e = absurd (let is : None ≡ Some (joined w.read.written ++ rest) = sym e ∙ w.read.split in let z : ⊥ = cc in z)
 
-pub is-ready : (all left : Option (List ℕ)) (s : Setup) (wrong : List Diagnostic) (count : ℕ) (ready : Ready) → WasSetUp all s wrong count (left_to ready.lines left) → IsSetup s → ready.pass.desk ≡ ready.desk → ready.pass.view ≡ first_view s → ready.count ≡ count → IsReady all left ready
+pub is-ready : (all left : Option (List ℕ)) (s : Setup) (wrong : List Diagnostic) (count : ℕ) (ready : Ready) → WasSetUp all s wrong count (left_to ready.lines left) → IsSetup s → ready.pass.desk ≡ ready.desk → ready.pass.view ≡ first_view s → ready.lines_read ≡ count → IsReady all left ready
 is-ready all left s wrong count ready w set desk view same = record {
   setup = s;
   set_up = set;
@@ -161,7 +161,7 @@ module _ {L : Type 0} (all left output old new : Option (List ℕ)) (faults now 
       refused = λ h. absurd (omega (arith, h));
       broken = λ h. absurd (omega (arith, h));
       said = record { wrong_words = λ h. absurd (omega (arith, h)); read_fault = λ h. absurd (omega (arith, h)); write_fault = λ h. absurd (omega (arith, h)); no_memory = λ h. absurd (omega (arith, h)); listener_or_clock_fault = λ h. said };
-      opened = λ h. if-on all (λ text. (rest : List ℕ) × (left_to ready.lines left ≡ Some rest) × IsOpened text r.setup ready.count rest) (λ text. (U : Setup) × (count : ℕ) × (rest : List ℕ) × IsOpened text U count rest) (λ text o. (r.setup, ready.count, o.0, o.2)) r.opened;
+      opened = λ h. if-on all (λ text. (rest : List ℕ) × (left_to ready.lines left ≡ Some rest) × IsOpened text r.setup ready.lines_read rest) (λ text. (U : Setup) × (count : ℕ) × (rest : List ℕ) × IsOpened text U count rest) (λ text o. (r.setup, ready.lines_read, o.0, o.2)) r.opened;
       input_steady = λ h. steady;
       listener_steady = λ h. absurd (h refl);
     };
@@ -182,7 +182,7 @@ module _ {L : Type 0} (all left output old new : Option (List ℕ)) (faults now 
 -- ---- the reading of the preamble, by a reader that has read nothing
 
 module _ (r : Reading) (all left : Option (List ℕ)) (held : r.held ≡ []) where
-  pub ready-new : (s : Setup) (wrong : List Diagnostic) (count : ℕ) (ready : Ready) → WasSetUp (left_to r all) s wrong count (left_to ready.lines left) → IsSetup s → ready.pass.desk ≡ ready.desk → ready.pass.view ≡ first_view s → ready.count ≡ count → IsReady all left ready
+  pub ready-new : (s : Setup) (wrong : List Diagnostic) (count : ℕ) (ready : Ready) → WasSetUp (left_to r all) s wrong count (left_to ready.lines left) → IsSetup s → ready.pass.desk ≡ ready.desk → ready.pass.view ≡ first_view s → ready.lines_read ≡ count → IsReady all left ready
   ready-new s wrong count ready w set desk view same = is-ready all left s wrong count ready (subst (λ (o : Option (List ℕ)). WasSetUp o s wrong count (left_to ready.lines left)) (left-new r all held) w) set desk view same
 
   pub refused-new : (number : ℕ) (cause : Cause) → IfSome (left_to r all) (λ text. (out : Option (List ℕ)) → RefusedAt number cause text out out) → IfSome all (λ text. RefusedAt number cause text (Some []) (Some []))

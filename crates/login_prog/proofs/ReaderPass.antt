@@ -20,7 +20,7 @@ use Rattle.login_model.specs.declared.setup.Setup.{Setup}
 use Rattle.recording.specs.EventSpelling.{FitsHardware}
 use Rattle.replay.specs.Recording.{most_lines}
 use Rattle.replay.specs.Written.{WereRead}
-use Rattle.replay.proofs.Written.{is_line, nothing_read, read_on}
+use Rattle.replay.proofs.Written.{TextTold, is_line, nothing_read, read_on}
 use Rattle.desk.specs.History.{entries, of_pass}
 use Rattle.desk.specs.declared.view.Numbered.{Numbered}
 use Rattle.desk.specs.declared.view.View.{View}
@@ -32,8 +32,8 @@ use Rattle.login_prog.specs.inner.Input.{Ended, FaultsOf, HasMade, HasRead, MayS
 use Rattle.login_prog.specs.declared.serve.reader_job.ReaderEnd.{ReaderEnd}
 use Rattle.login_prog.specs.declared.serve.reader_job.ReaderEnd.TheVariants as end
 use Rattle.login_prog.proofs.GoingOn.{stop-stays}
-use Rattle.login_prog.proofs.StopSeen.{events-append}
-use Rattle.login_prog.proofs.LinesRead.{Told, cut_behind, cut_here, lines_append, nothing_yet, up_to_behind}
+use Rattle.login_prog.proofs.LinesRead.{cut_behind, cut_here, lines_append, nothing_yet, up_to_behind}
+use Rattle.login_office.proofs.Entries.{events-append}
 
 -- ---- events that a line gives
 
@@ -43,7 +43,7 @@ hardware_fits (Exit id) f = ((f, tt), refl)
 hardware_fits _ f = (tt, refl)
 
 -- an event of the hardware that was read may be stepped
-pub read_fits : (before after : Told) (x : Hardware) → WereRead before (hardware_line x ∷ []) after → FitsAlone (Happens x)
+pub read_fits : (before after : TextTold) (x : Hardware) → WereRead before (hardware_line x ∷ []) after → FitsAlone (Happens x)
 read_fits before after x r = hardware_fits x (is_line before (hardware_line x) after r)
 
 -- ---- what a pass has made
@@ -76,12 +76,12 @@ hardware_on v m w xs ys a b = subst (λ (es : List Event). HasMade v w es) (sym 
 -- ---- the stepping of an event of the hardware
 
 -- what refused is the stop, or a full journal
-by_stop : (s : Option ℕ) (f : Option Count) (n : ℕ) → refusal s f ≡ Some (refused.Stopped n) → s ≡ Some n
+pub by_stop : (s : Option ℕ) (f : Option Count) (n : ℕ) → refusal s f ≡ Some (refused.Stopped n) → s ≡ Some n
 by_stop (Some m) f n e = ap Some (let same : m ≡ n = cc in same)
 by_stop None (Some count) n e = absurd (let k : ⊥ = cc in k)
 by_stop None None n e = absurd (let k : ⊥ = cc in k)
 
-by_count : (s : Option ℕ) (f : Option Count) (count : Count) → refusal s f ≡ Some (refused.Full count) → (s ≡ None) × (f ≡ Some count)
+pub by_count : (s : Option ℕ) (f : Option Count) (count : Count) → refusal s f ≡ Some (refused.Full count) → (s ≡ None) × (f ≡ Some count)
 by_count (Some m) f count e = absurd (let k : ⊥ = cc in k)
 by_count None (Some other) count e = (refl, ap Some (let same : other ≡ count = cc in same))
 by_count None None count e = absurd (let k : ⊥ = cc in k)
@@ -104,7 +104,7 @@ one_event U e v w before own made a g =
     ap events_of own_is ∙ ap (λ (x : Event). x ∷ []) g.event_is
 
 -- a line of the hardware whose entry was made
-pub line_made : (v w : View Setup Entry) (all left : Told) (faults now : ℕ) (x : Hardware) (b : Bool) → WereRead all (hardware_line x ∷ []) left → now ≡ faults
+pub line_made : (v w : View Setup Entry) (all left : TextTold) (faults now : ℕ) (x : Hardware) (b : Bool) → WereRead all (hardware_line x ∷ []) left → now ≡ faults
     → StepTells (Happens x) v w (Ok b) → HasRead v w all left faults now (x ∷ [])
 line_made v w all left faults now x b r steady s = by s.gave s.gives s.result_is
   where
@@ -117,7 +117,7 @@ line_made v w all left faults now x b r steady s = by s.gave s.gives s.result_is
     by (Err why) g e = absurd (let k : ⊥ = cc in k)
 
 -- why an event of the hardware has no entry
-why_refused : (number : ℕ) (v w : View Setup Entry) (all left : Told) (x : Hardware) (why : Refused) (U : Setup) (before own : List Entry) → number < most_lines → v.setup ≡ Some U
+why_refused : (number : ℕ) (v w : View Setup Entry) (all left : TextTold) (x : Hardware) (why : Refused) (U : Setup) (before own : List Entry) → number < most_lines → v.setup ≡ Some U
     → WereRead all (hardware_line x ∷ []) left → Acts v w before own → HasMade v w [] → of_pass v.number v.seen ≡ v.mine → entries w.seen ≡ before → StepGives U (Happens x) before (entries w.seen) (Err why)
     → WhyEnded (refused_end why) number v w all []
 why_refused number v w all left x refused.NoMemory U before own within u r a m known same g = tt
@@ -140,7 +140,7 @@ why_refused number v w all left x (refused.Stopped n) U before own within u r a 
     let is : stop_from 1 (entries w.seen) ≡ Some n = ap (stop_from 1) same ∙ (stop_there before x ∙ by_stop (stopped before (Happens x)) (full U before (Happens x)) n g.1) in
     rw is refl
 
-text_refused : (all left now : Told) (x : Hardware) (number : ℕ) (why : Refused) → number < most_lines → WereRead all (hardware_line x ∷ []) left
+text_refused : (all left now : TextTold) (x : Hardware) (number : ℕ) (why : Refused) → number < most_lines → WereRead all (hardware_line x ∷ []) left
     → IfSome all (λ text. ReadUpTo (refused_end why) number text now [])
 text_refused None left now x number why within r = tt
 text_refused (Some text) left now x number refused.NoMemory within r = record { rest = text; begins = nothing_yet text }
@@ -153,7 +153,7 @@ refused_faults (refused.Full count) before now e = e
 refused_faults (refused.Stopped n) before now e = e
 
 -- a line of the hardware whose event was refused
-pub line_refused : (number : ℕ) (v w : View Setup Entry) (all left rest : Told) (faults now : ℕ) (x : Hardware) (why : Refused) → number < most_lines → WereRead all (hardware_line x ∷ []) left
+pub line_refused : (number : ℕ) (v w : View Setup Entry) (all left rest : TextTold) (faults now : ℕ) (x : Hardware) (why : Refused) → number < most_lines → WereRead all (hardware_line x ∷ []) left
     → now ≡ faults → of_pass v.number v.seen ≡ v.mine → StepTells (Happens x) v w (Err why) → Ended number v w all rest faults now (refused_end why)
 line_refused number v w all left rest faults now x why within r steady known s = by s.gave s.gives s.result_is
   where
@@ -175,7 +175,7 @@ line_refused number v w all left rest faults now x why within r steady known s =
 -- ---- a line that is none of the hardware
 
 -- nothing is made where reading ended at a line
-pub line_ended : (e : ReaderEnd) (number : ℕ) (v : View Setup Entry) (all after left : Told) (faults now : ℕ) → NextIs number all after left (Err e) → FaultsOf e faults now → Ended number v v all left faults now e
+pub line_ended : (e : ReaderEnd) (number : ℕ) (v : View Setup Entry) (all after left : TextTold) (faults now : ℕ) → NextIs number all after left (Err e) → FaultsOf e faults now → Ended number v v all left faults now e
 line_ended end.Stop number v all after left faults now n f = record { made = []; passed = made_none v; text = n; faults = f; why = tt }
 line_ended (end.Script line cause) number v all after left faults now n f = record { made = []; passed = made_none v; text = n; faults = f; why = tt }
 line_ended (end.Full count) number v all after left faults now n f = absurd n
@@ -185,10 +185,10 @@ line_ended end.NoMemory number v all after left faults now n f = record { made =
 
 -- ---- all lines
 
-pub read_none : (v : View Setup Entry) (all : Told) (faults : ℕ) → HasRead v v all all faults faults []
+pub read_none : (v : View Setup Entry) (all : TextTold) (faults : ℕ) → HasRead v v all all faults faults []
 read_none v all faults = record { passed = made_none v; text = nothing_read all; steady = refl }
 
-pub read_more : (v m w : View Setup Entry) (all mid left : Told) (faults half now : ℕ) (xs ys : List Hardware) → HasRead v m all mid faults half xs → HasRead m w mid left half now ys
+pub read_more : (v m w : View Setup Entry) (all mid left : TextTold) (faults half now : ℕ) (xs ys : List Hardware) → HasRead v m all mid faults half xs → HasRead m w mid left half now ys
     → HasRead v w all left faults now (xs ++ ys)
 read_more v m w all mid left faults half now xs ys a b = record {
   passed = hardware_on v m w xs ys a.passed b.passed;
@@ -196,7 +196,7 @@ read_more v m w all mid left faults half now xs ys a b = record {
   steady = b.steady ∙ a.steady;
 }
 
-why_behind : (e : ReaderEnd) (before : ℕ) (v m w : View Setup Entry) (all mid : Told) (xs ys : List Hardware) → HasMade v m (map Happens xs) → WereRead all (hardware_lines xs) mid
+why_behind : (e : ReaderEnd) (before : ℕ) (v m w : View Setup Entry) (all mid : TextTold) (xs ys : List Hardware) → HasMade v m (map Happens xs) → WereRead all (hardware_lines xs) mid
     → WhyEnded e (before + length xs) m w mid ys → WhyEnded e before v w all (xs ++ ys)
 why_behind end.Stop before v m w all mid xs ys a r y = tt
 why_behind (end.Script line cause) before v m w all mid xs ys a r y = tt
@@ -219,7 +219,7 @@ why_behind end.Stopped before v m w all mid xs ys a r y = y
 why_behind end.ReadFault before v m w all mid xs ys a r y = tt
 why_behind end.NoMemory before v m w all mid xs ys a r y = tt
 
-pub ends_behind : (e : ReaderEnd) (before : ℕ) (v m w : View Setup Entry) (all mid left : Told) (faults half now : ℕ) (xs : List Hardware) → HasRead v m all mid faults half xs
+pub ends_behind : (e : ReaderEnd) (before : ℕ) (v m w : View Setup Entry) (all mid left : TextTold) (faults half now : ℕ) (xs : List Hardware) → HasRead v m all mid faults half xs
     → Ended (before + length xs) m w mid left half now e → Ended before v w all left faults now e
 ends_behind e before v m w all mid left faults half now xs a b = record {
   made = xs ++ b.made;
@@ -237,7 +237,7 @@ seen_later m w before own a = a.seen_is ∙ (ap (λ (es : List Entry). es ++ own
 still_stopped : (m w : View Setup Entry) (before own : List Entry) → Acts m w before own → IsSome (stop_from 1 (entries m.seen)) → IsSome (stop_from 1 (entries w.seen))
 still_stopped m w before own a there = rw (ap (stop_from 1) (seen_later m w before own a)) (stop-stays 1 (entries m.seen) (a.others ++ own) there)
 
-why_later : (e : ReaderEnd) (number : ℕ) (v m w : View Setup Entry) (all : Told) (xs : List Hardware) (before own : List Entry) → Acts m w before own → WhyEnded e number v m all xs
+why_later : (e : ReaderEnd) (number : ℕ) (v m w : View Setup Entry) (all : TextTold) (xs : List Hardware) (before own : List Entry) → Acts m w before own → WhyEnded e number v m all xs
     → WhyEnded e number v w all xs
 why_later end.Stop number v m w all xs before own a y = tt
 why_later (end.Script line cause) number v m w all xs before own a y = tt
@@ -275,11 +275,11 @@ not_again m w before own a there (inr made) =
     let none : stop_from 1 (entries m.seen ++ a.others) ≡ None = ap (stop_from 1) (sym a.before_is) ∙ made.3 in
     absurd (let k : false ≡ true = rw none at stays in cc)
 
-at_stopped : (e : ReaderEnd) (number : ℕ) (v m : View Setup Entry) (all : Told) (xs : List Hardware) → e ≡ end.Stopped → WhyEnded e number v m all xs → IsSome (stop_from 1 (entries m.seen))
+at_stopped : (e : ReaderEnd) (number : ℕ) (v m : View Setup Entry) (all : TextTold) (xs : List Hardware) → e ≡ end.Stopped → WhyEnded e number v m all xs → IsSome (stop_from 1 (entries m.seen))
 at_stopped e number v m all xs is y = subst (λ (x : ReaderEnd). WhyEnded x number v m all xs) is y
 
 -- the input was read, and the stop is there
-pub was_read : (e : ReaderEnd) (number : ℕ) (v m w : View Setup Entry) (all left : Told) (faults now : ℕ) → Ended number v m all left faults now e → StopTells m w → WasRead number v w all left faults now e
+pub was_read : (e : ReaderEnd) (number : ℕ) (v m w : View Setup Entry) (all left : TextTold) (faults now : ℕ) → Ended number v m all left faults now e → StopTells m w → WasRead number v w all left faults now e
 was_read e number v m w all left faults now d s = record {
   made = d.made;
   last = events_of s.own;

@@ -82,12 +82,12 @@ module _ (t : Troubles) where
 
   -- the journal was full
   pub record SaysFull (last : List ℕ) : Type 0 where
-    pub count : Count
-    pub full : t.full ≡ Some count
-    pub said : last ≡ full_line count
+    pub full_count : Count
+    pub full : t.full ≡ Some full_count
+    pub said : last ≡ full_line full_count
 
   pub full : (e : ServeEnd) → EndsSo t e → status_of e ≡ 6 → SaysFull (last_line e)
-  full (end.Full count) s h = record { count = count; full = s.3; said = refl }
+  full (end.Full count) s h = record { full_count = count; full = s.3; said = refl }
   full (end.Script number cause) s h = absurd (omega (arith, h))
   full end.ReadFault s h = absurd (omega (arith, h))
   full end.NoMemory s h = absurd (omega (arith, h))
@@ -236,10 +236,10 @@ gains-whole a b x g = subst (Gains a b) (sym (take_whole x)) g
 
 module _ (U : Setup) (J : List Entry) (ends : List (Option LinkEnd)) (t : Troubles) (output errors : Change (Option (List ℕ))) (status : ℕ) (f : Finishes U J ends t output errors status) where
   -- the troubles at last
-  abbrev pub told : Troubles
-  told = with_written f.lines_end f.recorded
+  abbrev pub last_troubles : Troubles
+  last_troubles = with_written f.lines_end f.recorded
 
-  pub later : IsLater t told
+  pub later : IsLater t last_troubles
   later = written-later t f.recorded f.lines_end (recorded-later U J output.old output.new output.before output.now t f.recorded f.writes)
 
   -- of the recording
@@ -253,7 +253,7 @@ module _ (U : Setup) (J : List Entry) (ends : List (Option LinkEnd)) (t : Troubl
       by : Writes U J output.old output.new output.before output.now t f.recorded → WroteRecording (status_of f.end) U J output
       by (inl h) = inl (h.1, h.0)
       by (inr (inl h)) = inr (inl h.1, h.0)
-      by (inr (inr h)) = inr (inr (five told f.end f.ends_so (memory-stays f.lines_end (ap (λ (z : Troubles). z.no_memory) h.2))), h.0)
+      by (inr (inr h)) = inr (inr (five last_troubles f.end f.ends_so (memory-stays f.lines_end (ap (λ (z : Troubles). z.no_memory) h.2))), h.0)
 
   -- of the lines on the errors
   reported : (old new : Option (List ℕ)) (before now : ℕ) (e : ServeEnd) → ReportsEnd old new before now e → Reported old new before now (last_line e)
@@ -310,7 +310,7 @@ module _ (U : Setup) (J : List Entry) (ends : List (Option LinkEnd)) (t : Troubl
   wrote-lines = lines-by f.lines_end f.between f.faults (link_lines 1 ends) (last_line f.end) f.lines f.rises says
 
   -- where the status is that of a fault of writing, the output has failed, or the errors
-  pub why-unwritten : t.write_fault ≡ false → told.write_fault ≡ true → HasFailed output ⊎ HasFailed errors
+  pub why-unwritten : t.write_fault ≡ false → last_troubles.write_fault ≡ true → HasFailed output ⊎ HasFailed errors
   why-unwritten none some = by f.lines_end f.rises some
     where
       of-recording : f.recorded.write_fault ≡ true → Writes U J output.old output.new output.before output.now t f.recorded → HasFailed output ⊎ HasFailed errors
@@ -323,7 +323,7 @@ module _ (U : Setup) (J : List Entry) (ends : List (Option LinkEnd)) (t : Troubl
       by written.Fault r is = inr (rose-on errors.before f.faults errors.now r (counted f.between errors.new f.faults errors.now (last_line f.end) says))
 
   -- where all was done, neither has
-  pub all-steady : f.end ≡ end.Done → told.write_fault ≡ false → told.no_memory ≡ false → IsSteady output × IsSteady errors
+  pub all-steady : f.end ≡ end.Done → last_troubles.write_fault ≡ false → last_troubles.no_memory ≡ false → IsSteady output × IsSteady errors
   all-steady done none memory = (by f.lines_end none memory, last (subst (ReportsEnd f.between errors.new f.faults errors.now) done f.says) (lines-steady f.lines_end f.rises none))
     where
       of-recording : f.recorded.write_fault ≡ false → f.recorded.no_memory ≡ false → Writes U J output.old output.new output.before output.now t f.recorded → IsSteady output

@@ -14,6 +14,7 @@ use Rattle.link_serve.specs.Turned.{Acts, StopTells}
 use Rattle.login_prog.specs.declared.serve.troubles.Troubles.{Troubles}
 use Rattle.login_prog.specs.inner.House.{HasTicked, HasTrouble, MayStop, tick}
 use Rattle.login_prog.proofs.GoingOn.{stop-stays}
+use Rattle.login_office.proofs.Entries.{events-append}
 
 -- whether the stop is there does not hang on where counting starts
 stop-found : (n m : ℕ) (es : List Entry) → IsSome (stop_from n es) → IsSome (stop_from m es)
@@ -63,10 +64,6 @@ ticks-alone t ticks alone v others own h none = ⊎_elim
     let there : IsSome (stop_from 1 (entries v.seen ++ others)) = stop-stays 1 (entries v.seen) others seen in
     let k : false ≡ true = subst (λ (o : Option ℕ). IsSome o) none there in absurd (cc))
     h.stop
-
-pub events-append : (xs ys : List Entry) → events_of (xs ++ ys) ≡ events_of xs ++ events_of ys
-events-append [] ys = refl
-events-append (x ∷ xs) ys = ap (λ (z : List Event). x.event ∷ z) (events-append xs ys)
 
 -- the pass has seen to the stop
 pub ticked-stopped : (t : Troubles) (ticks : List ℕ) (alone : Bool) (v w : View Setup Entry) → of_pass 0 v.seen ≡ v.mine → MayStop t alone v.seen → StopTells v w → HasTicked t ticks alone v.mine → HasTicked t ticks alone w.mine

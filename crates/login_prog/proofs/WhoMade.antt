@@ -17,6 +17,7 @@ use Rattle.link_serve.specs.Owners.{entry_who, event_who}
 use Rattle.login_prog.specs.Served.{happened, hardware_of, ticked, ticks_of}
 use Rattle.login_prog.specs.inner.House.{tick}
 use Rattle.login_prog.specs.inner.Input.{MayStop}
+use Rattle.login_prog.proofs.GoingOn.{there-still}
 
 -- ---- events that are of one pass alone
 
@@ -59,11 +60,6 @@ are-of c (e ∷ es) h = (h.0, are-of c es h.1)
 pub all-events : (P : Event → Type 0) (es : List Entry) → AllByRecursion P (events_of es) → AllByRecursion (λ (e : Entry). P e.event) es
 all-events P [] h = tt
 all-events P (e ∷ es) h = (h.0, all-events P es h.1)
-
-pub in-front : {A : Type 0} (xs ys : List A) (k : ℕ) (x : A) → get_elem? xs k ≡ some x → get_elem? (xs ++ ys) k ≡ some x
-in-front [] ys k x e = absurd (some-ne-none x (sym e))
-in-front (z ∷ xs) ys zero x e = e
-in-front (z ∷ xs) ys (suc k) x e = in-front xs ys k x e
 
 -- a member of a list with one more is in the list, or the one more
 pub in-push : {A : Type 0} (xs : List A) (y : A) (k : ℕ) (x : A) → get_elem? (xs ++ y ∷ []) k ≡ some x → (get_elem? xs k ≡ some x) ⊎ (y ≡ x)
@@ -179,14 +175,14 @@ module _ (v by : View Setup Entry) (ticks : List ℕ) (xs : List Hardware) (hous
 
   -- in each front the events of the hardware are those of the reader, and the ticks those of the first pass
   pub hardware-in : (front later : List (Numbered Entry)) → v.seen ≡ front ++ later → hardware_of (entries front) ≡ hardware_of (of_pass by.number front)
-  hardware-in front later is = only-of happened by.number front (λ k l e. by-whose k l (subst (λ (z : List (Numbered Entry)). get_elem? z k ≡ some l) (sym is) (in-front front later k l e)))
+  hardware-in front later is = only-of happened by.number front (λ k l e. by-whose k l (subst (λ (z : List (Numbered Entry)). get_elem? z k ≡ some l) (sym is) (there-still front later k l e)))
     where
       by-whose : (k : ℕ) (l : Numbered Entry) → get_elem? v.seen k ≡ some l → (l.number ≡ by.number) ⊎ (happened l.entry.event ≡ [])
       by-whose k l e = ⊎_elim (λ z. inr (none-first happened (ticks-no-hardware ticks house a.first_stop) k l e z))
           (λ z. ⊎_elim (λ y. inl y) (λ y. inr (link-at k l e y.0).no_hardware) z) (a.whose k l e)
 
   pub ticks-in : (front later : List (Numbered Entry)) → v.seen ≡ front ++ later → ticks_of (entries front) ≡ ticks_of (of_pass 0 front)
-  ticks-in front later is = only-of ticked 0 front (λ k l e. by-whose k l (subst (λ (z : List (Numbered Entry)). get_elem? z k ≡ some l) (sym is) (in-front front later k l e)))
+  ticks-in front later is = only-of ticked 0 front (λ k l e. by-whose k l (subst (λ (z : List (Numbered Entry)). get_elem? z k ≡ some l) (sym is) (there-still front later k l e)))
     where
       by-whose : (k : ℕ) (l : Numbered Entry) → get_elem? v.seen k ≡ some l → (l.number ≡ 0) ⊎ (ticked l.entry.event ≡ [])
       by-whose k l e = ⊎_elim (λ z. inl z)

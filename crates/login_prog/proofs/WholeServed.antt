@@ -262,7 +262,7 @@ module _ {L N P : Type 0} (number : L → ℕ) (talk : L → Option (List Exchan
 
   module _ (output errors : Change (Option (List ℕ))) (status : ℕ) (F : Finishes x.setup J house.ends.items house.troubles output errors status) where
     abbrev at_last : Troubles
-    at_last = says.told x.setup J house.ends.items house.troubles output errors status F
+    at_last = says.last_troubles x.setup J house.ends.items house.troubles output errors status F
 
     later : says.IsLater house.troubles at_last
     later = says.later x.setup J house.ends.items house.troubles output errors status F
@@ -381,7 +381,7 @@ module _ {L N P : Type 0} (number : L → ℕ) (talk : L → Option (List Exchan
                     behind = picked ∙ (same ∙ sym hardware-is);
                     line = behind (λ b rest hs. CutAt rest hs b w.next) (subst (λ (hs : List Hardware). IfSome input.old (λ text. CutAt text hs count w.next)) same w.there);
                   });
-                  count = d;
+                  full_count = d;
                   full_is = subst (λ (U : Setup). full U (entries front) (Happens w.next) ≡ Some d) (sym (some-same x.setup U setup)) w.full_is;
                   said = said ∙ ap full_line (count-is d is);
                 }
@@ -418,7 +418,7 @@ module _ {L N P : Type 0} (number : L → ℕ) (talk : L → Option (List Exchan
           journal_is = journal-parted f.front rest parted;
           going_on = f.going_on;
           whose = inr (record { moment = k.0; event_is = refl; behind = picked ∙ sym ticks-are; read = last-reading k.0 k.1 });
-          count = c;
+          full_count = c;
           full_is = f.full_is;
           said = said;
         }
@@ -426,8 +426,8 @@ module _ {L N P : Type 0} (number : L → ℕ) (talk : L → Option (List Exchan
     pub was-full : n ≡ 6 → WasFull x.setup J (last_line F.end) all (change x.readings readings x.clock_faults clock_faults)
     was-full h =
         let f = says.full at_last F.end F.ends_so h in
-        ⊎_elim (λ r. line-full f.count H.reader_end H.took r f.said refl) (λ o. tick-full f.count o f.said)
-        (taken.full x.setup count input H.by own house.troubles keeps.untold f.count H.reader_end troubles-are (sym later.full ∙ f.full))
+        ⊎_elim (λ r. line-full f.full_count H.reader_end H.took r f.said refl) (λ o. tick-full f.full_count o f.said)
+        (taken.full x.setup count input H.by own house.troubles keeps.untold f.full_count H.reader_end troubles-are (sym later.full ∙ f.full))
 
     -- ---- the clock, the links, the loop
 

@@ -142,9 +142,9 @@ pub record WasFull (U : Setup) (J : List Entry) (last : List ℕ) (input : Optio
   pub journal_is : J ≡ front ++ later
   pub going_on : stop_from 1 front ≡ None
   pub whose : IsNextLine U J front event input ⊎ IsNextTick J front event clock
-  pub count : Count
-  pub full_is : full U front event ≡ Some count
-  pub said : last ≡ full_line count
+  pub full_count : Count
+  pub full_is : full U front event ≡ Some full_count
+  pub said : last ≡ full_line full_count
 
 -- the lines of the input that were read have these events: through `stop`, or before a line that was read and has no entry
 abbrev pub IsWellRead : List ℕ → List Hardware → ℕ → Type 0

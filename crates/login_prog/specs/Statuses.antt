@@ -16,9 +16,9 @@ pub record RefusedSo (all before after old new : Option (List ℕ)) (fault now :
 -- an event of a line finds the journal full, and the errors say by which count; the transcript of the lines
 -- before it was written, and the blocks of the entries that the line made
 pub record FullSo (all before after old new : Option (List ℕ)) (fault now : ℕ) : Type 0 where
-  pub count : Count
-  pub said : Reported old new fault now (full_line count)
-  pub line : IfSome all (λ text. FullAt count text before after)
+  pub full_count : Count
+  pub said : Reported old new fault now (full_line full_count)
+  pub line : IfSome all (λ text. FullAt full_count text before after)
 
 -- the line of a status on the errors; that of a refusal names its line, and that of a full journal its count
 pub record Says (status : ℕ) (old new : Option (List ℕ)) (before now : ℕ) : Type 0 where

@@ -2,7 +2,7 @@
 
 use crate::running::{compare_case, push, push_all};
 use login_base::NoMemory;
-use login_cases::Front;
+use login_cases::Beginning;
 use login_cases::messages::{BUSCTL, DBUS_SEND, Exchange, GDBUS, MORE};
 use login_cases::properties::SOME;
 use std::alloc::Global;
@@ -30,7 +30,7 @@ fn accept_messages<R: Abort + Wait + Threads + Sync>(
     rt: &R,
     alloc: Global,
     name: &str,
-    front: &Front,
+    front: &Beginning,
     messages: &[Exchange],
 ) -> Result<(), Fail> {
     let mut recording = Vec::from_slice(alloc, front.piece.0.as_bytes())?;

@@ -3,7 +3,7 @@
 ghost use Rattle.std.specs.Prelude.{◌≡◌, [], IfOk};
 
 use login_base::{Bytes, Items, Millis, NoMemory, Word};
-use login_cases::{Answered, Case, Front, Refused};
+use login_cases::{Answered, Beginning, Case, Refused};
 use login_edge::{MemClock, MemListener, MemSink, MemSource, MemSpawner, OpenGate, Source};
 use login_prog::{Outside, run};
 use std::alloc::{AllocError, Global};
@@ -231,7 +231,7 @@ fn answer<R: Abort + Wait + Threads + Sync>(
     rt: &R,
     alloc: Global,
     name: &str,
-    front: &Front,
+    front: &Beginning,
     lines: &[(&str, &str)],
 ) -> Result<(), Fail> {
     let mut recording = Vec::from_slice(alloc, front.piece.0.as_bytes())?;

@@ -24,7 +24,7 @@ use Rattle.recording.specs.declared.line.Line.TheVariants as line
 use Rattle.replay.specs.Links.{ending, events_of_user, heard, is_hung_up, is_let_in, is_open_link, line_events, link_events, link_line_events, link_user, was_let_in}
 use Rattle.replay.specs.Played.{Played, played_lines, journal_of}
 use Rattle.replay.specs.Recording.{AreTurns, AreTurnsAfter, MayCome}
-use Rattle.replay.specs.Told.{CallsAreOfBytes, calls_among, calls_by, calls_due, link_calls}
+use Rattle.replay.specs.LinkLaws.{CallsAreOfBytes, calls_among, calls_by, calls_due, link_calls}
 use Rattle.replay.specs.inner.Apart.{AreApart}
 use Rattle.replay.specs.inner.Making.{turns_of}
 use Rattle.replay.proofs.Connections.{apart-let-in, let-in-append, unused-let-in}

@@ -131,7 +131,7 @@ was_setup before s wrong count left h = subst IsSetup (sym h.setup_is) (preamble
 
 -- a setup that was read meets the conditions of one
 pub opens_set_up : (before after left : Option (List ℕ)) (r : Result Opening Early) → Opens before after left r → IfOk r (λ opening. IsSetup opening.setup)
-opens_set_up before after left (Ok opening) h = was_setup before opening.setup opening.wrong opening.count after h
+opens_set_up before after left (Ok opening) h = was_setup before opening.setup opening.wrong opening.lines_read after h
 opens_set_up before after left (Err e) h = tt
 
 -- and it is what its texts say
@@ -148,5 +148,5 @@ was_from_texts : (before : Option (List ℕ)) (s : Setup) (wrong : List Diagnost
 was_from_texts before s wrong count left h = subst (IsFromTexts s) (sym h.wrong_is) (texts_say h.preamble s h.setup_is h.table)
 
 pub opens_from_texts : (before after left : Option (List ℕ)) (r : Result Opening Early) → Opens before after left r → IfOk r (λ opening. IsFromTexts opening.setup opening.wrong)
-opens_from_texts before after left (Ok opening) h = was_from_texts before opening.setup opening.wrong opening.count after h
+opens_from_texts before after left (Ok opening) h = was_from_texts before opening.setup opening.wrong opening.lines_read after h
 opens_from_texts before after left (Err e) h = tt

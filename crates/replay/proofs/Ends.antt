@@ -54,7 +54,7 @@ ends_refused f (Some text) (Some rest) before after number cause h a within stop
       rest = rest;
       is_front = h;
       read = s;
-      count = c ∙ sym is;
+      number_is = c ∙ sym is;
       refused = refused_next f text rest h s (omega (arith, c, within)) stop;
       caused = why;
       wrote = w;
@@ -303,7 +303,7 @@ ends_full f (Some text) (Some rest) before after cause h a full not_ended why is
       rest = rest;
       is_front = h;
       read = s;
-      count = omega (arith, full, past_line cause f rest is);
+      number_is = omega (arith, full, past_line cause f rest is);
       refused = refused_full f text rest h s full (λ e. stops_early f rest e not_ended);
       caused = why;
       wrote = w;
@@ -391,7 +391,7 @@ untabled_here f number line (Some text) (Some rest) (Some behind) start held h a
       rest = rest;
       is_front = h;
       read = s;
-      count = is;
+      number_is = is;
       refused = refused_next f text rest h s (omega (arith, count, within)) (stops_untabled f rest behind go stage refused);
       caused = record {
         own = λ k. record { in_preamble = stage; go = first_is_read rest Go behind go; refused = refused };

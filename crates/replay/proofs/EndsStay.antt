@@ -18,7 +18,7 @@ use Rattle.recording.specs.declared.line.Line.TheVariants as line
 use Rattle.replay.specs.Links.{begins, end_by, events_of_user, heard, is_hung_up, line_events, link_end, link_line_events, link_user, said, said_to, shown_or, was_let_in}
 use Rattle.replay.specs.Played.{Played, played_lines, journal_of}
 use Rattle.replay.specs.Recording.{AreTurns, AreTurnsAfter, IsTurn, MayCome}
-use Rattle.replay.specs.Told.{EndsForGood, StaysEnded}
+use Rattle.replay.specs.LinkLaws.{EndsForGood, StaysEnded}
 use Rattle.replay.specs.inner.Apart.{AreApart}
 use Rattle.replay.proofs.HeardPieces.{open-hung}
 use Rattle.replay.proofs.LinkLines.{brought, heard-more, journal-append, journal-more, lines-append, turns-more, user-more}

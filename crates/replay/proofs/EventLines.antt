@@ -22,14 +22,12 @@ use Rattle.replay.specs.inner.Apart.{AreApart}
 use Rattle.replay.specs.inner.Making.{AllMade, AreMade, blocks_behind}
 use Rattle.replay.specs.inner.Player.{AreUsed, HasTeller, PlayerState, StandsBehind, Uses, user_at}
 use Rattle.replay.specs.inner.Playing.{LineMade}
+use Rattle.replay.proofs.Written.{TextTold}
 use Rattle.replay.proofs.LinkStanding.{SaysNothing, event-apart, event-unsaid, no-entries, unsaid-heard, unsaid-hung, unsaid-user}
 use Rattle.replay.proofs.MadeLines.{LineLinks, end-more, end-stays, line-made, teller-stays}
 
-abbrev Told : Type 0
-Told = Option (List ℕ)
-
 -- entries that were made behind a journal
-pub record MadeAt (U : Setup) (J : List Entry) (events : List Event) (new : OfficeState) (tellers : List (ℕ × TellerState)) (held now : Told) : Type 0 where
+pub record MadeAt (U : Setup) (J : List Entry) (events : List Event) (new : OfficeState) (tellers : List (ℕ × TellerState)) (held now : TextTold) : Type 0 where
   pub made : List Entry
   pub are_made : AreMade U J events made []
   pub setup : new.core.setup ≡ U
@@ -37,7 +35,7 @@ pub record MadeAt (U : Setup) (J : List Entry) (events : List Event) (new : Offi
   pub same : new.tellers ≡ tellers
   pub wrote : Gains held now (blocks_behind J made)
 
-pub made-at : (old new : OfficeState) (J : List Entry) (events : List Event) (held now : Told) → old.core.journal ≡ J → AllMade old events new held now
+pub made-at : (old new : OfficeState) (J : List Entry) (events : List Event) (held now : TextTold) → old.core.journal ≡ J → AllMade old events new held now
     → MadeAt old.core.setup J events new old.tellers held now
 made-at old new J events held now is h = record {
   made = h.made;
@@ -86,7 +84,7 @@ module _ (U : Setup) (played : List Played) (l : Line) (made : List Entry) where
   }
 
 -- an event's line
-pub event-made : (old new : PlayerState) (played : List Played) (e : Event) (held now : Told) → StandsBehind old played → IsLine (line.Event e) → MayCome played (line.Event e)
+pub event-made : (old new : PlayerState) (played : List Played) (e : Event) (held now : TextTold) → StandsBehind old played → IsLine (line.Event e) → MayCome played (line.Event e)
     → AllMade old.office (e ∷ []) new.office held now → Uses old.used e new.used → new.links ≡ old.links → LineMade old.office.core.setup played (line.Event e) new None held now
 event-made old new played e held now s is may all uses same =
     let U = old.office.core.setup in

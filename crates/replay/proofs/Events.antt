@@ -1,5 +1,5 @@
 -- How a replay goes on behind `go`.
-use Rattle.std.proofs.Common.{◌≡◌, ◌<◌, ℕ, ◌+◌, true, false, List, [], ◌∷◌, ◌++◌, length, refl, arith, ap, sym, ◌∙◌, subst, append_assoc, append-nil, length-append, Option, Some, Result, Ok, Err, ◌⊎◌, inl, inr}
+use Rattle.std.proofs.Common.{◌≡◌, ◌<◌, ℕ, ◌+◌, true, false, List, [], ◌∷◌, ◌++◌, length, refl, arith, ap, sym, ◌∙◌, subst, append_assoc, append-nil, length-append, Some, Result, Ok, Err, ◌⊎◌, inl, inr}
 use Rattle.std.specs.Option.{IfSome}
 use Rattle.login_edge.specs.Texts.{Gains, GainsFront}
 use Rattle.login_edge.proofs.Gained.{Gains-nothing, Gains-more, Gains-front-more}
@@ -31,14 +31,11 @@ use Rattle.replay.specs.declared.early.Early.{Early}
 use Rattle.replay.specs.declared.early.Early.TheVariants as early
 use Rattle.replay.specs.declared.cause.Cause.TheVariants.{WrongPlace}
 use Rattle.replay.specs.declared.run.Turn.TheVariants.{Next}
-use Rattle.replay.proofs.Written.{read_on}
+use Rattle.replay.proofs.Written.{TextTold, read_on}
 use Rattle.replay.proofs.PlayedLines.{IsNoEnd, lines_push}
 use Rattle.replay.proofs.Recordings.{nothing_played, take_may}
 use Rattle.replay.proofs.Ends.{ends_filled, ends_front, ends_under_way, behind_here, past_here, misplaced_here, writes_here, going_front}
 use Rattle.replay.proofs.LinkLines.{turns-after}
-
-abbrev Told : Type 0
-Told = Option (List ℕ)
 
 lines_more : (ls : List Line) (ps : List Played) (p : Played) → lines_at going ls (ps ++ p ∷ []) ≡ lines_at going ls ps ++ p.line ∷ []
 lines_more ls ps p = simp (lines_push ps p, append_assoc)
@@ -60,7 +57,7 @@ text_more ls ps p =
     ∙ sym (append_assoc (transcript_start ls) (turns_text (setup_of ls) [] ps) (turn_text (setup_of ls) ps p))
 
 -- the line of a turn was read
-read_turn : (ls : List Line) (ps : List Played) (p : Played) (all left after : Told) → WereRead all (lines_at going ls ps) left → WereRead left (p.line ∷ []) after
+read_turn : (ls : List Line) (ps : List Played) (p : Played) (all left after : TextTold) → WereRead all (lines_at going ls ps) left → WereRead left (p.line ∷ []) after
     → WereRead all (lines_at going ls (ps ++ p ∷ [])) after
 read_turn ls ps p all left after h r =
     subst (λ (x : List Line). WereRead all x after) (sym (lines_more ls ps p)) (read_on all (lines_at going ls ps) left (p.line ∷ []) after h r)
@@ -77,7 +74,7 @@ unfolding turns_text
 start_alone ls = sym (append-nil (transcript_start ls))
 
 -- a setup was read, and the first line of the transcript is not written whole
-pub setup_ends : (setup : Setup) (wrong : List Diagnostic) (first : ℕ) (all left now held after : Told) (e : Early) → WasSetUp all setup wrong first left → IfSome left (λ text. Partly text now)
+pub setup_ends : (setup : Setup) (wrong : List Diagnostic) (first : ℕ) (all left now held after : TextTold) (e : Early) → WasSetUp all setup wrong first left → IfSome left (λ text. Partly text now)
     → Writes held after (start_of wrong) (Err e) → EndsEarly all now held after e
 setup_ends setup wrong first all left now held after e s part w =
     let ls = s.preamble in
@@ -85,7 +82,7 @@ setup_ends setup wrong first all left now held after e s part w =
     (sym (start_alone ls)) (Gains-nothing held) (subst (λ (t : List ℕ). Writes held after t (Err e)) (ap start_of s.wrong_is) w)
 
 -- a text whose setup was read
-pub set_up : (player : PlayerState) (wrong : List Diagnostic) (first : ℕ) (all left start held : Told) → StandsBehind player [] → WasSetUp all player.office.core.setup wrong first left
+pub set_up : (player : PlayerState) (wrong : List Diagnostic) (first : ℕ) (all left start held : TextTold) → StandsBehind player [] → WasSetUp all player.office.core.setup wrong first left
     → Gains start held (start_of wrong) → SoFar going player first all left start held
 set_up player wrong first all left start held stands s w = record {
   preamble = s.preamble;
@@ -93,7 +90,7 @@ set_up player wrong first all left start held stands s w = record {
   stands = stands;
   setup_is = s.setup_is;
   is_front = record { play = nothing_played s.preamble s.is_preamble; stage_fits = s.table; room = tt };
-  count = s.count_is;
+  number_is = s.count_is;
   read = s.read;
   wrote = subst (λ (t : List ℕ). Gains start held t) (ap start_of s.wrong_is ∙ start_alone s.preamble) w;
 }
@@ -111,7 +108,7 @@ front_more U ls ps line made setup f m =
     }
 
 -- one more line was played
-pub so_far_more : (old new : PlayerState) (number : ℕ) (all left after start held now : Told) (line : Line) → (s : SoFar going old number all left start held) → WereRead left (line ∷ []) after
+pub so_far_more : (old new : PlayerState) (number : ℕ) (all left after start held now : TextTold) (line : Line) → (s : SoFar going old number all left start held) → WereRead left (line ∷ []) after
     → LinePlayed old.office.core.setup s.played line new held now → SoFar going new (number + 1) all after start now
 so_far_more old new number all left after start held now line s r step =
     let ls = s.preamble in
@@ -126,13 +123,13 @@ so_far_more old new number all left after start held now line s r step =
       stands = step.stands;
       setup_is = setup;
       is_front = front_more old.office.core.setup ls ps line step.made s.setup_is s.is_front step.is_made;
-      count = count_more ls ps p number s.count;
+      number_is = count_more ls ps p number s.number_is;
       read = read_turn ls ps p all left after s.read r;
       wrote = subst (λ (t : List ℕ). Gains start now t) (sym (text_more ls ps p)) (Gains-more start held now (text_at going ls ps) (turn_text U ps p) s.wrote wrote);
     }
 
 -- the line `end` was read
-pub so_far_ended : (player : PlayerState) (number : ℕ) (all left after start held : Told) (l : Line) → SoFar going player number all left start held → WereRead left (l ∷ []) after → l ≡ End
+pub so_far_ended : (player : PlayerState) (number : ℕ) (all left after start held : TextTold) (l : Line) → SoFar going player number all left start held → WereRead left (l ∷ []) after → l ≡ End
     → SoFar ended player (number + 1) all after start held
 so_far_ended player number all left after start held l s r is =
     let ls = s.preamble in
@@ -144,27 +141,27 @@ so_far_ended player number all left after start held l s r is =
       stands = s.stands;
       setup_is = s.setup_is;
       is_front = record { play = s.is_front.play; stage_fits = s.is_front.stage_fits; room = s.is_front.room };
-      count = count_end ls ps number s.count;
+      number_is = count_end ls ps number s.number_is;
       read = subst (λ (x : List Line). WereRead all x after) more (read_on all (lines_at going ls ps) left (l ∷ []) after s.read r);
       wrote = s.wrote;
     }
 
 -- how it ends where no line follows, or more lines than there may be
-pub events_behind : (player : PlayerState) (number : ℕ) (all left now start held : Told) (e : Early) → SoFar going player number all left start held → number < most_lines → EndsBehind number left now e
+pub events_behind : (player : PlayerState) (number : ℕ) (all left now start held : TextTold) (e : Early) → SoFar going player number all left start held → number < most_lines → EndsBehind number left now e
     → EndsEarly all now start held e
 events_behind player number all left now start held e s within b =
-    behind_here (going_front s.preamble s.played) number all left now start held e s.is_front s.read s.count within (λ k. cc) s.wrote b
+    behind_here (going_front s.preamble s.played) number all left now start held e s.is_front s.read s.number_is within (λ k. cc) s.wrote b
 
-pub events_past : (player : PlayerState) (number : ℕ) (all left now start held : Told) (e : Early) → SoFar going player number all left start held → number ≡ most_lines → EndsPast left now e
+pub events_past : (player : PlayerState) (number : ℕ) (all left now start held : TextTold) (e : Early) → SoFar going player number all left start held → number ≡ most_lines → EndsPast left now e
     → EndsEarly all now start held e
 events_past player number all left now start held e s full b =
-    past_here (going_front s.preamble s.played) all left now start held e s.is_front s.read (sym s.count ∙ full) (λ k. cc) s.wrote b
+    past_here (going_front s.preamble s.played) all left now start held e s.is_front s.read (sym s.number_is ∙ full) (λ k. cc) s.wrote b
 
 -- where a line follows that may not stand there
-pub events_misplaced : (player : PlayerState) (number : ℕ) (all left after start held : Told) (l : Line) → (s : SoFar going player number all left start held) → number < most_lines
+pub events_misplaced : (player : PlayerState) (number : ℕ) (all left after start held : TextTold) (l : Line) → (s : SoFar going player number all left start held) → number < most_lines
     → WereRead left (l ∷ []) after → (Takes (going_front s.preamble s.played) l → ⊥) → IfSome all (λ text. RefusedAt (number + 1) WrongPlace text start held)
 events_misplaced player number all left after start held l s within r bars =
-    misplaced_here (going_front s.preamble s.played) number all left after start held l s.is_front s.read s.count within s.wrote r bars
+    misplaced_here (going_front s.preamble s.played) number all left after start held l s.is_front s.read s.number_is within s.wrote r bars
 
 -- a line that is under way
 way_of : (U : Setup) (ls : List Line) (ps : List Played) (line : Line) (made : List Entry) (more : List AnEvent) → U ≡ setup_of ls → IsFront (going_front ls ps) → MayCome ps line → MadeSoFar U ps line made more
@@ -173,17 +170,17 @@ way_of U ls ps line made more setup f may m =
     let there : MadeSoFar (setup_of ls) ps line made more = subst (λ (v : Setup). MadeSoFar v ps line made more) setup m in
     record { going_on = refl; may_come = may; events = there.events; legal = there.legal; room = there.room f.room }
 
-line_full : (old : PlayerState) (number : ℕ) (all left after start held now : Told) (line : Line) (count : Count) → (s : SoFar going old number all left start held) → number < most_lines
+line_full : (old : PlayerState) (number : ℕ) (all left after start held now : TextTold) (line : Line) (count : Count) → (s : SoFar going old number all left start held) → number < most_lines
     → WereRead left (line ∷ []) after → MayCome s.played line → LineFull count old.office.core.setup s.played line held now → EndsEarly all now start now (early.Full count)
 line_full old number all left after start held now line count s within r may h =
     let ls = s.preamble in
     let ps = s.played in
     let found : full (setup_of ls) (journal_of ps ++ h.made) h.event ≡ Some count = subst (λ (v : Setup). full v (journal_of ps ++ h.made) h.event ≡ Some count) s.setup_is h.full in
-    ends_filled (going_front ls ps) all left after start now count line h.made h.event h.more s.is_front s.read (omega (arith, within, s.count)) r
+    ends_filled (going_front ls ps) all left after start now count line h.made h.event h.more s.is_front s.read (omega (arith, within, s.number_is)) r
     (way_of old.office.core.setup ls ps line h.made (h.event ∷ h.more) s.setup_is s.is_front may h.so_far) found
     (Gains-more start held now (text_at going ls ps) (entries_text ps h.made) s.wrote h.wrote)
 
-line_broken : (old new : PlayerState) (number : ℕ) (all left after source start held now : Told) (line : Line) → (s : SoFar going old number all left start held) → WereRead left (line ∷ []) after
+line_broken : (old new : PlayerState) (number : ℕ) (all left after source start held now : TextTold) (line : Line) → (s : SoFar going old number all left start held) → WereRead left (line ∷ []) after
     → IfSome after (λ text. Partly text source) → MayCome s.played line → EntriesBroken old.office.core.setup s.played line held now ⊎ LineBroken old.office.core.setup s.played line held now
     → IfSome all (λ text. Fronted text source start now)
 line_broken old new number all left after source start held now line s r part may (inl h) =
@@ -201,12 +198,12 @@ line_broken old new number all left after source start held now line s r part ma
     (subst (λ (t : List ℕ). GainsFront start now t) (sym (text_more ls ps p)) (Gains-front-more start held now (text_at going ls ps) (turn_text (setup_of ls) ps p) s.wrote wrote))
 
 -- a line that may come next was played, or not whole
-pub plays_turn : (old new : PlayerState) (number : ℕ) (line : Line) (held now : Told) (u : Unit {0}) → ((ps : List Played) → StandsBehind old ps → MayCome ps line)
+pub plays_turn : (old new : PlayerState) (number : ℕ) (line : Line) (held now : TextTold) (u : Unit {0}) → ((ps : List Played) → StandsBehind old ps → MayCome ps line)
     → PlaysLine old line new held now (Ok u) → TakesTurn old new line number held now (Ok Next)
 plays_turn old new number line held now u may h = λ before after source r part all start s.
     so_far_more old new number all before after start held now line s r (h s.played s.stands (may s.played s.stands))
 
-pub plays_early : (old new : PlayerState) (number : ℕ) (line : Line) (held now : Told) (e : Early) → number < most_lines → ((ps : List Played) → StandsBehind old ps → MayCome ps line)
+pub plays_early : (old new : PlayerState) (number : ℕ) (line : Line) (held now : TextTold) (e : Early) → number < most_lines → ((ps : List Played) → StandsBehind old ps → MayCome ps line)
     → PlaysLine old line new held now (Err e) → TakesTurn old new line number held now (Err e)
 plays_early old new number line held now (early.Full count) within may h = λ before after source r part all start s.
     line_full old number all before after start held now line count s within r (may s.played s.stands) (h s.played s.stands (may s.played s.stands))
@@ -218,7 +215,7 @@ plays_early old new number line held now early.ReadFault within may h = λ befor
 plays_early old new number line held now (early.Script at cause) within may h = λ before after source r part all start s. absurd (h s.played s.stands (may s.played s.stands))
 
 -- a line that may not come next
-pub plays_not : (old new : PlayerState) (number : ℕ) (line : Line) (held : Told) → number < most_lines → IsNoEnd line → ((ps : List Played) → StandsBehind old ps → MayCome ps line → ⊥)
+pub plays_not : (old new : PlayerState) (number : ℕ) (line : Line) (held : TextTold) → number < most_lines → IsNoEnd line → ((ps : List Played) → StandsBehind old ps → MayCome ps line → ⊥)
     → TakesTurn old new line number held held (Err (early.Script (number + 1) WrongPlace))
 plays_not old new number line held within other bars = λ before after source r part all start s.
     events_misplaced old number all before after start held line s within r (λ t. bars s.played s.stands (take_may s.preamble s.played line other t))
@@ -241,7 +238,7 @@ pub not_at_end : (l : Line) → is_end l ≡ false → IsNoEnd l
 not_at_end l e h = let wrong : true ≡ false = ap is_end (sym h) ∙ e in cc
 
 -- the end that is answered
-pub gives_end : (all left before after : Told) (r : Result (Unit {0}) Early) → RunGives all left before after r → ReplayGives all left before after (end_of r)
+pub gives_end : (all left before after : TextTold) (r : Result (Unit {0}) Early) → RunGives all left before after r → ReplayGives all left before after (end_of r)
 gives_end all left before after (Ok u) h = h
 gives_end all left before after (Err (early.Script line cause)) h = h
 gives_end all left before after (Err (early.Full count)) h = h

@@ -15,19 +15,19 @@ use Rattle.replay.specs.PreambleLines.{table_in, action_lines, number_at_fault, 
 use Rattle.replay.specs.Refused.{IsActionLine}
 
 -- the line that a fault names
-abbrev told : Option TableFault → Option ℕ
-told fault = option_and_then line_of_fault fault
+abbrev named_line : Option TableFault → Option ℕ
+named_line fault = option_and_then line_of_fault fault
 
 name_told : (n : ℕ) (before : List AnAction) (action : Option AnAction) (fault : TableFault) → name_fault n before action ≡ Some fault → Some n ≡ line_of_fault fault
-name_told n before None fault e = ap told e
+name_told n before None fault e = ap named_line e
 name_told n before (Some action) fault e = by (is_among action before) e
   where
     by : (among : Bool) → cond among (Some (Repeated n)) None ≡ Some fault → Some n ≡ line_of_fault fault
-    by true h = ap told h
+    by true h = ap named_line h
     by false h = cc
 
 fault_told : (n : ℕ) (before : List AnAction) (said : Option Saying) (fault : TableFault) → fault_of n before said ≡ Some fault → Some n ≡ line_of_fault fault
-fault_told n before None fault e = ap told e
+fault_told n before None fault e = ap named_line e
 fault_told n before (Some said) fault e = name_told n before (action_named said.name) fault e
 
 -- a fault names one of these lines, behind so many

@@ -1,5 +1,5 @@
 -- A line of bytes that a link heard, whose entries were made.
-use Rattle.std.proofs.Common.{◌≡◌, ℕ, ◌==◌, ◌&&◌, ◌||◌, not, if◌then◌else◌, Bool, true, false, List, [], ◌∷◌, ◌++◌, refl, ap, sym, ◌∙◌, subst, append-nil, Option, Some, None}
+use Rattle.std.proofs.Common.{◌≡◌, ℕ, ◌==◌, ◌&&◌, ◌||◌, not, if◌then◌else◌, Bool, true, false, List, [], ◌∷◌, ◌++◌, refl, ap, sym, ◌∙◌, subst, append-nil, Some, None}
 use Rattle.std.specs.BTreeSet.{BTreeSet}
 use Rattle.std.specs.Option.{is_some}
 use Rattle.std.proofs.lemmas.Bool.{eq-eqb}
@@ -32,6 +32,7 @@ use Rattle.replay.specs.declared.own.Own.{Own}
 use Rattle.replay.specs.inner.Making.{AllMade, end_then, heard_events, is_in_then}
 use Rattle.replay.specs.inner.Player.{AreUsed, HasTeller, PlayerState, StandsBehind, Tells, user_at}
 use Rattle.replay.specs.inner.Playing.{LineMade}
+use Rattle.replay.proofs.Written.{TextTold}
 use Rattle.replay.proofs.Connections.{let-in-append, unused-let-in}
 use Rattle.replay.proofs.EventLines.{MadeAt, made-at}
 use Rattle.replay.proofs.HeardPieces.{events-by, if_begins, in-hung, open-hung, piece-events, piece-heard}
@@ -70,11 +71,8 @@ heard-teller U told lines c bytes was now h going t hears keeps = record {
   fetched = ap (λ (p : Place). p.fetched) keeps.place ∙ t.fetched;
 }
 
-abbrev Told : Type 0
-Told = Option (List ℕ)
-
 -- entries made in an office with the same core
-pub mid-made : (old mid new : OfficeState) (J : List Entry) (F : Setup → List Entry → List Event) (held now : Told) → mid.core ≡ old.core → old.core.journal ≡ J
+pub mid-made : (old mid new : OfficeState) (J : List Entry) (F : Setup → List Entry → List Event) (held now : TextTold) → mid.core ≡ old.core → old.core.journal ≡ J
     → AllMade mid (F mid.core.setup mid.core.journal) new held now → MadeAt old.core.setup J (F old.core.setup J) new mid.tellers held now
 mid-made old mid new J F held now core at all =
     subst (λ (j : List Entry). MadeAt old.core.setup j (F old.core.setup j) new mid.tellers held now) at
@@ -82,17 +80,17 @@ mid-made old mid new J F held now core at all =
     (made-at mid new mid.core.journal (F mid.core.setup mid.core.journal) held now refl all))
 
 -- bytes say nothing of who has a link, and end no input
-in-user : (lines : List Line) (b : ConnId) (bytes : List ℕ) (c : ConnId) → link_user (lines ++ line.In b bytes ∷ []) c ≡ link_user lines c
+pub in-user : (lines : List Line) (b : ConnId) (bytes : List ℕ) (c : ConnId) → link_user (lines ++ line.In b bytes ∷ []) c ≡ link_user lines c
 in-user lines b bytes c = user-more lines (line.In b bytes) c ∙ or-else-none (link_user lines c)
 
-in-still : (lines : List Line) (b : ConnId) (bytes : List ℕ) (c : ConnId) → is_hung_up (lines ++ line.In b bytes ∷ []) c ≡ is_hung_up lines c
+pub in-still : (lines : List Line) (b : ConnId) (bytes : List ℕ) (c : ConnId) → is_hung_up (lines ++ line.In b bytes ∷ []) c ≡ is_hung_up lines c
 in-still lines b bytes c = hung-more lines (line.In b bytes) c ∙ or-none (is_hung_up lines c)
 
-if-not : {T : Type 0} (t : Bool) (x y : T) → t ≡ false → (if t then x else y) ≡ y
+pub if-not : {T : Type 0} (t : Bool) (x y : T) → t ≡ false → (if t then x else y) ≡ y
 if-not true x y e = absurd (let k : true ≡ false = e in cc)
 if-not false x y e = refl
 
-if-so : {T : Type 0} (t : Bool) (x y : T) → t ≡ true → (if t then x else y) ≡ x
+pub if-so : {T : Type 0} (t : Bool) (x y : T) → t ≡ true → (if t then x else y) ≡ x
 if-so true x y e = refl
 if-so false x y e = absurd (let k : false ≡ true = e in cc)
 
@@ -136,7 +134,7 @@ piece-ends U played b bytes u h made is_in turns legal going may user so after e
 
 -- ---- the line
 
-pub heard-made : (old new : PlayerState) (mid : OfficeState) (played : List Played) (b : ConnId) (bytes : List ℕ) (was nowt : TellerState) (h : HeardPiece) (is_in : Bool) (held now : Told)
+pub heard-made : (old new : PlayerState) (mid : OfficeState) (played : List Played) (b : ConnId) (bytes : List ℕ) (was nowt : TellerState) (h : HeardPiece) (is_in : Bool) (held now : TextTold)
     → (s : StandsBehind old played) → IsLine (line.In b bytes) → MayCome played (line.In b bytes) → has_stop (played_lines played) ≡ false
     → (t : Tells old.office.core.setup (journal_of played) (played_lines played) b was) → link_end old.office.core.setup played b ≡ None
     → ((c : ConnId) → (b.0 == c.0) ≡ false → teller_of mid c ≡ teller_of old.office c) → teller_of mid b ≡ Some nowt → Hears was bytes nowt h → KeepsLink was nowt

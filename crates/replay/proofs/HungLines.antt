@@ -29,6 +29,8 @@ use Rattle.replay.specs.declared.early.Early.{Early}
 use Rattle.replay.specs.inner.Making.{AllMade, Makes, turns_of}
 use Rattle.replay.specs.inner.Player.{AreUsed, HasTeller, PlayerState, StandsBehind, Tells, open_user, user_at}
 use Rattle.replay.specs.inner.Playing.{EntriesGive, LineMade}
+use Rattle.replay.proofs.HeardLines.{if-not, if-so}
+use Rattle.replay.proofs.Written.{TextTold}
 use Rattle.replay.proofs.Connections.{let-in-append}
 use Rattle.replay.proofs.EventLines.{MadeAt, made-at}
 use Rattle.replay.proofs.HeardPieces.{open-hung}
@@ -37,9 +39,6 @@ use Rattle.replay.proofs.LinkLines.{has_stop, heard-more, hung-more, user-more}
 use Rattle.replay.proofs.LinkStanding.{hangup-unsaid, link-standing, malformed-end, no-entries, no-piece, open-user, or-else-none, or-none, turns-run, unsaid-hung}
 use Rattle.replay.proofs.MadeLines.{early-line, end-more, line-made}
 use Rattle.replay.proofs.OwnLines.{EndAt, apart-others, end-hung, own-links, used-still}
-
-abbrev Told : Type 0
-Told = Option (List ℕ)
 
 abbrev no_bytes : List ℕ
 no_bytes = []
@@ -107,14 +106,6 @@ hang-ends U played b u made turns legal may user e old =
 
 -- ---- the line
 
-if-not : {T : Type 0} (t : Bool) (x y : T) → t ≡ false → (if t then x else y) ≡ y
-if-not true x y e = absurd (let k : true ≡ false = e in cc)
-if-not false x y e = refl
-
-if-so : {T : Type 0} (t : Bool) (x y : T) → t ≡ true → (if t then x else y) ≡ x
-if-so true x y e = refl
-if-so false x y e = absurd (let k : false ≡ true = e in cc)
-
 if-same : {T : Type 0} (t : Bool) (x : T) → (if t then x else x) ≡ x
 if-same true x = refl
 if-same false x = refl
@@ -139,7 +130,7 @@ hang-open lines b c false test o e = e ∙ sym (λ k. if unsaid-hung lines (line
         by false is = is
         by true is = absurd (let z : true ≡ false = sym (eq-eqb c.0 b.0 (sym (ap (λ (x : ConnId). x.0) (same-conn b c is)))) ∙ e in cc)
 
-pub hang-made : (old new : PlayerState) (played : List Played) (b : ConnId) (was : TellerState) (held now : Told)
+pub hang-made : (old new : PlayerState) (played : List Played) (b : ConnId) (was : TellerState) (held now : TextTold)
     → (s : StandsBehind old played) → IsLine (line.Hangup b) → MayCome played (line.Hangup b)
     → (t : Tells old.office.core.setup (journal_of played) (played_lines played) b was) → teller_of old.office b ≡ Some was → link_end old.office.core.setup played b ≡ None
     → MadeAt old.office.core.setup (journal_of played) (hang_events (is_connected (trail_of (journal_of played)) b) b) new.office old.office.tellers held now
@@ -206,7 +197,7 @@ hang-made old new played b was held now s is may t there none m used links =
 abbrev pub end_events : OfficeState → ConnId → List Event
 end_events office b = hang_events (is_connected (trail_of office.core.journal) b) b
 
-pub hang-done : (old new : PlayerState) (office : OfficeState) (played : List Played) (b : ConnId) (own : Own) (held now : Told)
+pub hang-done : (old new : PlayerState) (office : OfficeState) (played : List Played) (b : ConnId) (own : Own) (held now : TextTold)
     → StandsBehind old played → IsLine (line.Hangup b) → MayCome played (line.Hangup b) → IsSome (teller_of old.office b) → office ≡ old.office
     → AllMade office (end_events office b) new.office held now → own.who ≡ b → own.replies ≡ [] → own.end ≡ Some (hung_end (is_connected (trail_of office.core.journal) b))
     → new.used ≡ old.used → ((n : ℕ) → user_at n new.links ≡ (if n == b.0 then None else user_at n old.links))
@@ -229,7 +220,7 @@ hang-done old new office played b own held now s is may some same made who repli
         subst (λ (x : Own). LineMade U played (line.Hangup b) new (Some x) held now) (sym mine)
         (hang-made old new played b was held now s is may here.0 there here.1 (made-at old.office new.office J (hang_events k b) held now s.journal all) used links)
 
-pub hang-early : (old player : PlayerState) (office new : OfficeState) (played : List Played) (b : ConnId) (held now : Told) (e : Early)
+pub hang-early : (old player : PlayerState) (office new : OfficeState) (played : List Played) (b : ConnId) (held now : TextTold) (e : Early)
     → StandsBehind old played → MayCome played (line.Hangup b) → office ≡ old.office → Makes office (end_events office b) new held now (Err e)
     → EntriesGive old.office.core.setup played (line.Hangup b) player held now (Err e)
 hang-early old player office new played b held now e s may same h =

@@ -20,6 +20,7 @@ use Rattle.login_office.specs.Links.{calls, is_begun, malformed}
 use Rattle.wire_calls.specs.Laws.{MayStand}
 use Rattle.replay.specs.Links.{begins, is_let_in, link_events}
 use Rattle.replay.specs.inner.Making.{turns_of}
+use Rattle.login_office.proofs.Entries.{events-append}
 use Rattle.login_office.proofs.Connected.{connected-more, connected_by}
 use Rattle.replay.proofs.LinkLines.{stop-found, stops}
 use Rattle.replay.proofs.LinkStanding.{LinkStands}
@@ -60,10 +61,6 @@ stops-append (x ∷ xs) ys = ap (λ (b : Bool). is_stop x || b) (stops-append xs
     or-assoc : (a b c : Bool) → (a || b) || c ≡ a || (b || c)
     or-assoc true b c = refl
     or-assoc false b c = refl
-
-events-append : (xs ys : List Entry) → events_of (xs ++ ys) ≡ events_of xs ++ events_of ys
-events-append [] ys = refl
-events-append (x ∷ xs) ys = ap (λ (t : List Event). x.event ∷ t) (events-append xs ys)
 
 -- an entry that is not the stop's
 not-stopped-more : (J : List Entry) (e : Entry) → NotStopped J → stops (e.event ∷ []) ≡ false → NotStopped (J ++ e ∷ [])

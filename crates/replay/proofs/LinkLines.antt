@@ -18,6 +18,7 @@ use Rattle.recording.specs.declared.line.Line.TheVariants as line
 use Rattle.replay.specs.Links.{ending, events_of_user, heard, is_hung_up, line_events, link_user, begins, is_let_in}
 use Rattle.replay.specs.Played.{Played, played_lines, journal_of}
 use Rattle.replay.specs.Recording.{AreTurns, AreTurnsAfter, IsTurn}
+use Rattle.login_office.proofs.Entries.{events-append}
 
 -- ---- lists of lines that were played
 
@@ -154,10 +155,6 @@ stop-first : (l : Line) (lines : List Line) → has_stop (l ∷ lines) ≡ has_s
 stop-first (line.Event event.Stop) lines = refl
 stop-first (line.Event e) lines = refl
 stop-first _ lines = refl
-
-events-append : (xs ys : List Entry) → events_of (xs ++ ys) ≡ events_of xs ++ events_of ys
-events-append [] ys = refl
-events-append (x ∷ xs) ys = ap (λ (t : List Event). x.event ∷ t) (events-append xs ys)
 
 stops-after : (U : Setup) (before ps : List Played) → AreTurnsAfter U before ps → stops (events_of (journal_of ps)) ≡ has_stop (played_lines ps)
 stops-after U before [] h = refl

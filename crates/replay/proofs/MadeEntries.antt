@@ -1,5 +1,5 @@
 -- How entries are made one after the other.
-use Rattle.std.proofs.Common.{◌≡◌, ℕ, ◌+◌, List, [], ◌∷◌, ◌++◌, length, refl, ap, sym, ◌∙◌, subst, append_assoc, append-nil, length-append, arith, Option, Some, None, Result, Ok, Err}
+use Rattle.std.proofs.Common.{◌≡◌, ℕ, ◌+◌, List, [], ◌∷◌, ◌++◌, length, refl, ap, sym, ◌∙◌, subst, append_assoc, append-nil, length-append, arith, Some, None, Result, Ok, Err}
 use Rattle.login_edge.specs.Texts.{Gains, GainsFront}
 use Rattle.login_edge.proofs.Gained.{Gains-more, Gains-front-more, Gains-nothing, Gains-whole}
 use Rattle.login_model.specs.declared.event.Event.{Event}
@@ -14,14 +14,9 @@ use Rattle.replay.specs.Recording.{HasRoomAfter}
 use Rattle.replay.specs.declared.early.Early.{Early}
 use Rattle.replay.specs.declared.early.Early.TheVariants as early
 use Rattle.replay.specs.inner.Making.{AllMade, AreMade, CutOff, Makes, MakesRoom, blocks_behind}
+use Rattle.replay.proofs.Written.{TextTold}
 use Rattle.replay.proofs.Journals.{legal_behind}
-
-abbrev Told : Type 0
-Told = Option (List ℕ)
-
-pub events-append : (xs ys : List Entry) → events_of (xs ++ ys) ≡ events_of xs ++ events_of ys
-events-append [] ys = refl
-events-append (x ∷ xs) ys = ap (λ (t : List Event). x.event ∷ t) (events-append xs ys)
+use Rattle.login_office.proofs.Entries.{events-append}
 
 pub legal-append : (U : Setup) (before xs ys : List Entry) → IsLegalAfter U before xs → IsLegalAfter U (before ++ xs) ys → IsLegalAfter U before (xs ++ ys)
 legal-append U before [] ys h k = subst (λ (b : List Entry). IsLegalAfter U b ys) (append-nil before) k
@@ -76,7 +71,7 @@ made-early U before xs ys a more h = record {
 }
 
 -- nothing to make
-pub makes-none : (office : OfficeState) (held : Told) → Makes office [] office held held (Ok tt)
+pub makes-none : (office : OfficeState) (held : TextTold) → Makes office [] office held held (Ok tt)
 makes-none office held = record {
   made = [];
   are_made = none-made office.core.setup office.core.journal;
@@ -87,12 +82,12 @@ makes-none office held = record {
 }
 
 -- what was made is the journal now
-behind-made : (old mid : OfficeState) (xs ys : List Event) (held there : Told) (h : AllMade old xs mid held there) (b : List Entry) (more : List Event)
+behind-made : (old mid : OfficeState) (xs ys : List Event) (held there : TextTold) (h : AllMade old xs mid held there) (b : List Entry) (more : List Event)
     → AreMade mid.core.setup mid.core.journal ys b more → AreMade old.core.setup (old.core.journal ++ h.made) ys b more
 behind-made old mid xs ys held there h b more k =
     subst (λ (U : Setup). AreMade U (old.core.journal ++ h.made) ys b more) h.setup (subst (λ (j : List Entry). AreMade mid.core.setup j ys b more) h.journal k)
 
-wrote-then : (old mid : OfficeState) (xs : List Event) (held there now : Told) (h : AllMade old xs mid held there) (b : List Entry)
+wrote-then : (old mid : OfficeState) (xs : List Event) (held there now : TextTold) (h : AllMade old xs mid held there) (b : List Entry)
     → Gains there now (blocks_behind mid.core.journal b) → Gains held now (blocks_behind old.core.journal (h.made ++ b))
 wrote-then old mid xs held there now h b w =
     let J = old.core.journal in
@@ -100,7 +95,7 @@ wrote-then old mid xs held there now h b w =
     (Gains-more held there now (blocks_behind J h.made) (blocks_behind (J ++ h.made) b) h.wrote
     (subst (λ (j : List Entry). Gains there now (blocks_behind j b)) h.journal w))
 
-wrote-front-then : (old mid : OfficeState) (xs : List Event) (held there now : Told) (h : AllMade old xs mid held there) (b : List Entry)
+wrote-front-then : (old mid : OfficeState) (xs : List Event) (held there now : TextTold) (h : AllMade old xs mid held there) (b : List Entry)
     → GainsFront there now (blocks_behind mid.core.journal b) → GainsFront held now (blocks_behind old.core.journal (h.made ++ b))
 wrote-front-then old mid xs held there now h b w =
     let J = old.core.journal in
@@ -108,7 +103,7 @@ wrote-front-then old mid xs held there now h b w =
     (Gains-front-more held there now (blocks_behind J h.made) (blocks_behind (J ++ h.made) b) h.wrote
     (subst (λ (j : List Entry). GainsFront there now (blocks_behind j b)) h.journal w))
 
-cut-then : (old mid : OfficeState) (xs ys : List Event) (held there now : Told) → AllMade old xs mid held there → CutOff mid ys there now → CutOff old (xs ++ ys) held now
+cut-then : (old mid : OfficeState) (xs ys : List Event) (held there now : TextTold) → AllMade old xs mid held there → CutOff mid ys there now → CutOff old (xs ++ ys) held now
 cut-then old mid xs ys held there now h k = record {
   made = h.made ++ k.made;
   more = k.more;
@@ -117,7 +112,7 @@ cut-then old mid xs ys held there now h k = record {
 }
 
 -- these events, and then others
-pub makes-then : (old mid new : OfficeState) (xs ys : List Event) (held there now : Told) (r : Result (Unit {0}) Early)
+pub makes-then : (old mid new : OfficeState) (xs ys : List Event) (held there now : TextTold) (r : Result (Unit {0}) Early)
     → AllMade old xs mid held there → Makes mid ys new there now r → Makes old (xs ++ ys) new held now r
 makes-then old mid new xs ys held there now (Ok u) h k = record {
   made = h.made ++ k.made;
@@ -141,7 +136,7 @@ makes-then old mid new xs ys held there now (Err early.NoMemory) h k = cut-then 
 makes-then old mid new xs ys held there now (Err early.ReadFault) h k = absurd k
 makes-then old mid new xs ys held there now (Err (early.Script line cause)) h k = absurd k
 
-cut-early : (old : OfficeState) (xs ys : List Event) (held now : Told) → CutOff old xs held now → CutOff old (xs ++ ys) held now
+cut-early : (old : OfficeState) (xs ys : List Event) (held now : TextTold) → CutOff old xs held now → CutOff old (xs ++ ys) held now
 cut-early old xs ys held now k = record {
   made = k.made;
   more = k.more ++ ys;
@@ -150,7 +145,7 @@ cut-early old xs ys held now k = record {
 }
 
 -- these events, one of which was not made: others behind them were not, either
-pub makes-early : (old new other : OfficeState) (xs ys : List Event) (held now : Told) (e : Early) → Makes old xs new held now (Err e) → Makes old (xs ++ ys) other held now (Err e)
+pub makes-early : (old new other : OfficeState) (xs ys : List Event) (held now : TextTold) (e : Early) → Makes old xs new held now (Err e) → Makes old (xs ++ ys) other held now (Err e)
 makes-early old new other xs ys held now (early.Full count) k = record {
   made = k.made;
   event = k.event;
@@ -174,7 +169,7 @@ one-made U J x e is lawful room = record {
   room = (ap (full U J) is ∙ room, tt);
 }
 
-pub step-made : (old new : OfficeState) (x : Entry) (e : Event) (held now : Told) → x.event ≡ e → IsLawful old.core.setup (old.core.journal ++ x ∷ []) → full old.core.setup old.core.journal e ≡ None
+pub step-made : (old new : OfficeState) (x : Entry) (e : Event) (held now : TextTold) → x.event ≡ e → IsLawful old.core.setup (old.core.journal ++ x ∷ []) → full old.core.setup old.core.journal e ≡ None
     → Appends old x new → Gains held now (block (length old.core.journal + 1) x) → AllMade old (e ∷ []) new held now
 step-made old new x e held now is lawful room h w = record {
   made = x ∷ [];
@@ -185,7 +180,7 @@ step-made old new x e held now is lawful room h w = record {
   wrote = subst (λ (t : List ℕ). Gains held now t) (sym (blocks-one old.core.journal x)) w;
 }
 
-pub step-cut : (old : OfficeState) (x : Entry) (e : Event) (held now : Told) → x.event ≡ e → IsLawful old.core.setup (old.core.journal ++ x ∷ []) → full old.core.setup old.core.journal e ≡ None
+pub step-cut : (old : OfficeState) (x : Entry) (e : Event) (held now : TextTold) → x.event ≡ e → IsLawful old.core.setup (old.core.journal ++ x ∷ []) → full old.core.setup old.core.journal e ≡ None
     → GainsFront held now (block (length old.core.journal + 1) x) → CutOff old (e ∷ []) held now
 step-cut old x e held now is lawful room w = record {
   made = x ∷ [];
@@ -195,7 +190,7 @@ step-cut old x e held now is lawful room w = record {
 }
 
 -- nothing was made of it
-pub none-cut : (old : OfficeState) (es : List Event) (held : Told) → CutOff old es held held
+pub none-cut : (old : OfficeState) (es : List Event) (held : TextTold) → CutOff old es held held
 none-cut old es held = record {
   made = [];
   more = es;
@@ -204,7 +199,7 @@ none-cut old es held = record {
 }
 
 -- no room for it
-pub room-makes : (old mid new : OfficeState) (e : Event) (held : Told) (early : Early) → MakesRoom old.core mid.core e (Err early) → Makes old (e ∷ []) new held held (Err early)
+pub room-makes : (old mid new : OfficeState) (e : Event) (held : TextTold) (early : Early) → MakesRoom old.core mid.core e (Err early) → Makes old (e ∷ []) new held held (Err early)
 room-makes old mid new e held (early.Full count) h = record {
   made = [];
   event = e;
@@ -219,7 +214,7 @@ room-makes old mid new e held early.ReadFault h = absurd h
 room-makes old mid new e held (early.Script line cause) h = absurd h
 
 -- an office with the same setup, journal and tellers
-pub same-made : (old mid : OfficeState) (held : Told) → IsSame old mid → AllMade old [] mid held held
+pub same-made : (old mid : OfficeState) (held : TextTold) → IsSame old mid → AllMade old [] mid held held
 same-made old mid held h = record {
   made = [];
   are_made = none-made old.core.setup old.core.journal;

@@ -29,13 +29,11 @@ use Rattle.replay.specs.inner.Player.{AreOpen, AreUsed, Brings, HasTeller, Playe
 use Rattle.replay.specs.inner.Telling.{IsOwnOf}
 use Rattle.replay.specs.inner.Playing.{EntriesBroken, EntriesGive, IsMade, LineMade, MadeSoFar}
 use Rattle.replay.specs.inner.Apart.{AreApart}
+use Rattle.replay.proofs.Written.{TextTold}
 use Rattle.replay.proofs.Connections.{apart-let-in, let-in-append}
 use Rattle.replay.proofs.LinkLines.{journal-more, lines-append}
 use Rattle.replay.proofs.LinkStanding.{SaysNothing, or-none, unsaid-heard, unsaid-hung, unsaid-user}
 use Rattle.replay.proofs.MadeEntries.{legal-append, none-cut, room-append}
-
-abbrev Told : Type 0
-Told = Option (List ℕ)
 
 -- ---- what was made of a line
 
@@ -133,7 +131,7 @@ brings U played p own h =
     }
 
 -- the parts of a line that was made
-pub line-made : (U : Setup) (played : List Played) (l : Line) (events : List Event) (made : List Entry) (old new : PlayerState) (own : Option Own) (held now : Told)
+pub line-made : (U : Setup) (played : List Played) (l : Line) (events : List Event) (made : List Entry) (old new : PlayerState) (own : Option Own) (held now : TextTold)
     → old.office.core.setup ≡ U → StandsBehind old played → IsLine l → MayCome played l → events ≡ line_events U played l → AreMade U (journal_of played) events made []
     → new.office.core.setup ≡ U → new.office.core.journal ≡ journal_of played ++ made
     → ((c : ConnId) → HasTeller U (journal_of played) (played_lines played ++ l ∷ []) c (link_end U played c) (teller_of new.office c))
@@ -168,7 +166,7 @@ line-made U played l events made old new own held now was stands line may is h s
 
 -- ---- a line whose entries were not all made
 
-cut-line : (office : OfficeState) (played : List Played) (l : Line) (events : List Event) (held now : Told) → IsLegal office.core.setup (journal_of played) → office.core.journal ≡ journal_of played
+cut-line : (office : OfficeState) (played : List Played) (l : Line) (events : List Event) (held now : TextTold) → IsLegal office.core.setup (journal_of played) → office.core.journal ≡ journal_of played
     → events ≡ line_events office.core.setup played l → CutOff office events held now → EntriesBroken office.core.setup played l held now
 cut-line office played l events held now legal at is k =
     let U = office.core.setup in
@@ -179,7 +177,7 @@ cut-line office played l events held now legal at is k =
       wrote = subst (λ (j : List Entry). GainsFront held now (blocks_behind j k.made)) at k.wrote;
     }
 
-pub early-line : (office new : OfficeState) (player : PlayerState) (played : List Played) (l : Line) (events : List Event) (held now : Told) (e : Early) → IsLegal office.core.setup (journal_of played)
+pub early-line : (office new : OfficeState) (player : PlayerState) (played : List Played) (l : Line) (events : List Event) (held now : TextTold) (e : Early) → IsLegal office.core.setup (journal_of played)
     → office.core.journal ≡ journal_of played → events ≡ line_events office.core.setup played l → Makes office events new held now (Err e) → EntriesGive office.core.setup played l player held now (Err e)
 early-line office new player played l events held now (early.Full count) legal at is k =
     let U = office.core.setup in
@@ -197,7 +195,7 @@ early-line office new player played l events held now early.ReadFault legal at i
 early-line office new player played l events held now (early.Script number cause) legal at is k = absurd k
 
 -- there was no memory before any was made
-pub nothing-made : (old player : PlayerState) (played : List Played) (l : Line) (held : Told) → StandsBehind old played → EntriesGive old.office.core.setup played l player held held (Err early.NoMemory)
+pub nothing-made : (old player : PlayerState) (played : List Played) (l : Line) (held : TextTold) → StandsBehind old played → EntriesGive old.office.core.setup played l player held held (Err early.NoMemory)
 nothing-made old player played l held s =
     let events = line_events old.office.core.setup played l in
     early-line old.office old.office player played l events held held early.NoMemory s.legal s.journal refl (none-cut old.office events held)

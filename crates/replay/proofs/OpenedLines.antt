@@ -25,14 +25,12 @@ use Rattle.replay.specs.Recording.{IsNoLink, MayCome}
 use Rattle.replay.specs.inner.Player.{AreUsed, HasTeller, OpensLink, PlayerState, StandsBehind, Tells, open_user, user_at}
 use Rattle.replay.specs.inner.Playing.{LineMade}
 use Rattle.wire_out.specs.Places.{Place}
+use Rattle.replay.proofs.Written.{TextTold}
 use Rattle.replay.proofs.LinkLines.{has_stop, heard-more, hung-more, journal-more, lines-append, or_else, user-more}
 use Rattle.replay.proofs.LinkStanding.{SaysNothing, link-standing, no-piece, or-else-none, or-else-nothing, or-none}
 use Rattle.replay.proofs.MadeEntries.{blocks-none, none-made}
 use Rattle.replay.proofs.MadeLines.{end-more, end-stays, line-made, no-link-end, teller-stays}
 use Rattle.replay.proofs.OpenMail.{no-mail-unused}
-
-abbrev Told : Type 0
-Told = Option (List ℕ)
 
 -- ---- tests of numbers
 
@@ -150,7 +148,7 @@ module _ (old new : PlayerState) (played : List Played) (b : ConnId) (u : Uid) w
       ∙ ((λ k. end_by U (append-nil (journal_of played) k) b (new-user lines b u none k) ((link-heard lines b b u ∙ silent) k) ((link-hung lines b b u ∙ still) k)) ∙ fresh-end U (journal_of played) b u))
   ends-then U c false test none silent still e = end-stays U played It c (link-unsaid b c u test) tt ∙ e
 
-  pub opened-made : (held : Told) → StandsBehind old played → IsLine (line.Link b u) → MayCome played (line.Link b u) → OpensLink old b u new
+  pub opened-made : (held : TextTold) → StandsBehind old played → IsLine (line.Link b u) → MayCome played (line.Link b u) → OpensLink old b u new
       → LineMade old.office.core.setup played (line.Link b u) new None held held
   opened-made held s is may o =
       let U = old.office.core.setup in

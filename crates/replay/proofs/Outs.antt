@@ -7,7 +7,7 @@ use Rattle.login_model.specs.declared.setup.Setup.{Setup}
 use Rattle.replay.specs.Links.{said}
 use Rattle.replay.specs.Played.{Played, journal_of}
 use Rattle.replay.specs.Recording.{AreTurns, AreTurnsAfter}
-use Rattle.replay.specs.Told.{OutsAreSaid, outs_after}
+use Rattle.replay.specs.LinkLaws.{OutsAreSaid, outs_after}
 use Rattle.replay.specs.Transcript.{due}
 use Rattle.replay.proofs.LinkLines.{journal-append, turns-more}
 use Rattle.replay.proofs.SaidGrows.{said-more}

@@ -24,14 +24,12 @@ use Rattle.replay.specs.declared.early.Early.{Early}
 use Rattle.replay.specs.inner.Making.{AllMade, Makes, end_then, heard_events, is_in_then}
 use Rattle.replay.specs.inner.Player.{HasTeller, PlayerState, StandsBehind, Tells, user_at}
 use Rattle.replay.specs.inner.Playing.{EntriesGive, LineMade}
+use Rattle.replay.proofs.Written.{TextTold}
 use Rattle.replay.proofs.HeardLines.{HeardSo, heard-made, heard-so, mid-made}
 use Rattle.replay.proofs.HeardPieces.{if_begins, open-hung, piece-events, piece-in-place}
 use Rattle.replay.proofs.LinkLines.{has_stop, stop-played}
 use Rattle.replay.proofs.MadeLines.{early-line}
 use Rattle.replay.proofs.StillLines.{ended-made, unheard-made}
-
-abbrev Told : Type 0
-Told = Option (List ℕ)
 
 -- both of what is said of how a teller went on
 one-teller : (o : Option TellerState) (a b : TellerState) → o ≡ Some a → o ≡ Some b → a ≡ b
@@ -47,7 +45,7 @@ unfolding stopped
 stop-behind old played s = ap (λ (j : List Entry). is_some (stopped j event.Stop)) s.journal ∙ stop-played old.office.core.setup played s.turns
 
 -- bytes behind the stop, and those of a link that has no teller, make nothing
-pub behind-stop : (old : PlayerState) (played : List Played) (b : ConnId) (bytes : List ℕ) (held : Told) → StandsBehind old played → IsLine (line.In b bytes) → MayCome played (line.In b bytes)
+pub behind-stop : (old : PlayerState) (played : List Played) (b : ConnId) (bytes : List ℕ) (held : TextTold) → StandsBehind old played → IsLine (line.In b bytes) → MayCome played (line.In b bytes)
     → is_some (stopped old.office.core.journal event.Stop) ≡ true → LineMade old.office.core.setup played (line.In b bytes) old None held held
 behind-stop old played b bytes held s is may stop = unheard-made old played b bytes held s is may (sym (stop-behind old played s) ∙ stop)
 
@@ -55,7 +53,7 @@ no-teller : (o : Option TellerState) (told : Bool) → IsTrue told ↔ IsSome o 
 no-teller None told h e = refl
 no-teller (Some t) told h e = absurd (let z : false ≡ true = sym e ∙ h.1 refl in cc)
 
-pub of-ended : (old : PlayerState) (played : List Played) (b : ConnId) (bytes : List ℕ) (held : Told) (told : Bool) → StandsBehind old played → IsLine (line.In b bytes) → MayCome played (line.In b bytes)
+pub of-ended : (old : PlayerState) (played : List Played) (b : ConnId) (bytes : List ℕ) (held : TextTold) (told : Bool) → StandsBehind old played → IsLine (line.In b bytes) → MayCome played (line.In b bytes)
     → is_some (stopped old.office.core.journal event.Stop) ≡ false → IsTrue told ↔ IsSome (teller_of old.office b) → told ≡ false → LineMade old.office.core.setup played (line.In b bytes) old None held held
 of-ended old played b bytes held told s is may going has gone =
     ended-made old played b bytes held s is may (sym (stop-behind old played s) ∙ going) (no-teller (teller_of old.office b) told has gone)
@@ -107,7 +105,7 @@ module _ (old : PlayerState) (mid : OfficeState) (played : List Played) (b : Con
       (subst (λ (x : Option Uid). AreInPlace U (journal_of played) (heard_events U (journal_of played) b x h.calls (is_some h.end))) (sym begins-as) place)))
 
   -- they were made
-  pub piece-made : (new : PlayerState) (is_in : Bool) (held now : Told) → AllMade mid (heard_events mid.core.setup mid.core.journal b o h.calls ended) new.office held now
+  pub piece-made : (new : PlayerState) (is_in : Bool) (held now : TextTold) → AllMade mid (heard_events mid.core.setup mid.core.journal b o h.calls ended) new.office held now
       → is_in ≡ is_in_then mid.core.setup mid.core.journal b o → new.used ≡ old.used → new.links ≡ old.links
       → LineMade U played (line.In b bytes) new (Some (record { who = b; replies = h.replies; end = end_then h.begins is_in h.end })) held now
   piece-made new is_in held now all i used links =
@@ -120,7 +118,7 @@ module _ (old : PlayerState) (mid : OfficeState) (played : List Played) (b : Con
       used links
 
   -- or not all of them
-  pub piece-early : (player : PlayerState) (new : OfficeState) (held now : Told) (early : Early) → Makes mid (heard_events mid.core.setup mid.core.journal b o h.calls ended) new held now (Err early)
+  pub piece-early : (player : PlayerState) (new : OfficeState) (held now : TextTold) (early : Early) → Makes mid (heard_events mid.core.setup mid.core.journal b o h.calls ended) new held now (Err early)
       → EntriesGive U played (line.In b bytes) player held now (Err early)
   piece-early player new held now early k =
       let J = journal_of played in

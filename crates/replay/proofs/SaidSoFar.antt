@@ -1,6 +1,7 @@
 -- What was said so far to those who hear.
-use Rattle.std.proofs.Common.{◌≡◌, ℕ, ◌==◌, ◌+◌, add-one, Bool, true, false, if◌then◌else◌, Option, Some, None, Result, Ok, Err, List, [], ◌∷◌, ◌++◌, drop, length, take, refl, ap, sym, ◌∙◌, subst, append_assoc, append-nil, ◌⊎◌, inl, inr}
+use Rattle.std.proofs.Common.{◌≡◌, ℕ, ◌==◌, ◌+◌, add-one, Bool, true, false, if◌then◌else◌, Option, Some, None, Result, Ok, Err, List, [], ◌∷◌, ◌++◌, drop, length, take, refl, ap, sym, ◌∙◌, subst, append_assoc, append-nil, filter, ◌⊎◌, inl, inr}
 use Rattle.std.specs.List.{flat_map}
+use Rattle.std.specs.Option.{is_some}
 use Rattle.std.proofs.lemmas.Bool.{eq-eqb}
 use Rattle.std.proofs.lemmas.List.{take-append-drop}
 use Rattle.std.proofs.Math.Seq.{take-append_seam}
@@ -14,6 +15,7 @@ use Rattle.login_model.proofs.Keys.{test}
 use Rattle.login_model.proofs.NameLaws.{conn_order}
 use Rattle.login_model.specs.Legal.{trail_of}
 use Rattle.login_model.specs.Names.{IsNext, conn_lt, is_above}
+use Rattle.login_office.specs.Hearing.{TellerState}
 use Rattle.login_office.specs.Offices.{OfficeState, teller_of}
 use Rattle.replay.specs.Transcript.{closed_text, out_text}
 use Rattle.replay.specs.declared.early.Early.{Early}
@@ -204,3 +206,26 @@ module _ (first : OfficeState) (own : Option Own) (held : Option (List ℕ)) (af
 
   pub fetched-all : AllFetched first own office
   fetched-all = record { core = s.core; tellers = λ c. s.tellers c ∙ unheard c (is_above conn_lt after c) refl }
+
+-- ---- where no link is open, and the line is none of one
+
+module _ (office : OfficeState) (none : (c : ConnId) → teller_of office c ≡ None) where
+  nothing_to : (c : ConnId) → told_text office None c ≡ []
+  nothing_to c = ap (λ (t : Option TellerState). out_text c (unfetched office.core.journal t) ++ []) (none c)
+
+  nothing_of : (xs : List ConnId) → flat_map (told_text office None) xs ≡ []
+  nothing_of [] = refl
+  nothing_of (c ∷ cs) = ap (λ (t : List ℕ). t ++ flat_map (told_text office None) cs) (nothing_to c) ∙ nothing_of cs
+
+  kept : (b : Bool) → None ≡ teller_if b office.core.journal None
+  kept true = refl
+  kept false = refl
+
+  pub nobody-told : (own : Option Own) (held : Option (List ℕ)) → is_some own ≡ false → Gains held held (all_told office own)
+  nobody-told None held e =
+      let t = trail_of office.core.journal in
+      subst (λ (text : List ℕ). Gains held held text) (sym (nothing_of (filter (hears t None) (hearers t None)))) (Gains-nothing held)
+  nobody-told (Some o) held e = absurd (let k : true ≡ false = e in cc)
+
+  pub nobody-fetched : (own : Option Own) → AllFetched office own office
+  nobody-fetched own = record { core = refl; tellers = λ c. rw (none c) (kept (hears (trail_of office.core.journal) (own_who own) c)) }

@@ -46,7 +46,7 @@ pub record Said (p : Preamble) (number : ℕ) (before left : Option (List ℕ)) 
   pub lines : List Line
   pub is_preamble : IsPreamble lines
   pub say_so : SaySo lines p
-  pub count : number ≡ length lines + 1
+  pub number_is : number ≡ length lines + 1
   pub read : WereRead before lines left
 
 -- nothing was said yet
@@ -55,7 +55,7 @@ said_nothing p before g u c t a = record {
   lines = [];
   is_preamble = tt;
   say_so = record { guid = g; users = u; conf = c; table = t; actions = a };
-  count = refl;
+  number_is = refl;
   read = nothing_read before;
 }
 
@@ -63,12 +63,12 @@ said_nothing p before g u c t a = record {
 pub said_more : (p q : Preamble) (number : ℕ) (before left after : Option (List ℕ)) (l : Line) → (s : Said p number before left) → WereRead left (l ∷ []) after
     → ((ls : List Line) → number ≡ length ls + 1 → SaySo ls p → SaySo (ls ++ l ∷ []) q × MayFollow ls l) → IsLine l → Said q (number + 1) before after
 said_more p q number before left after l s r takes is =
-    let t = takes s.lines s.count s.say_so in
+    let t = takes s.lines s.number_is s.say_so in
     record {
       lines = s.lines ++ l ∷ [];
       is_preamble = preamble_more s.lines l s.is_preamble is t.1;
       say_so = t.0;
-      count = omega (arith, s.count, length-append s.lines (l ∷ []));
+      number_is = omega (arith, s.number_is, length-append s.lines (l ∷ []));
       read = read_on before s.lines left (l ∷ []) after s.read r;
     }
 
@@ -180,17 +180,17 @@ past_opens f all left now (early.Full count) h a full not_ended w e = absurd e
 pub said_behind : (p : Preamble) (number : ℕ) (all before left now : Out) (e : Early) → WereRead all (Header 1 ∷ []) before → Said p number before left → number < most_lines
     → EndsBehind number left now e → OpensNot all now e
 said_behind p number all before left now e r s within b =
-    behind_opens (headed_front s.lines) number all left now e (headed_is_front s.lines s.is_preamble) (said_after p number all before left r s) (omega (arith, s.count)) within (λ k. cc) Gains-nothing b
+    behind_opens (headed_front s.lines) number all left now e (headed_is_front s.lines s.is_preamble) (said_after p number all before left r s) (omega (arith, s.number_is)) within (λ k. cc) Gains-nothing b
 
 pub said_past : (p : Preamble) (number : ℕ) (all before left now : Out) (e : Early) → WereRead all (Header 1 ∷ []) before → Said p number before left → number ≡ most_lines
     → EndsPast left now e → OpensNot all now e
 said_past p number all before left now e r s full b =
-    past_opens (headed_front s.lines) all left now e (headed_is_front s.lines s.is_preamble) (said_after p number all before left r s) (omega (arith, s.count, full)) (λ k. cc) Gains-nothing b
+    past_opens (headed_front s.lines) all left now e (headed_is_front s.lines s.is_preamble) (said_after p number all before left r s) (omega (arith, s.number_is, full)) (λ k. cc) Gains-nothing b
 
 pub said_misplaced : (p : Preamble) (number : ℕ) (all before left after : Out) (l : Line) → WereRead all (Header 1 ∷ []) before → Said p number before left → number < most_lines
     → WereRead left (l ∷ []) after → ((ls : List Line) → SaySo ls p → takes_at headed ls [] l → ⊥) → OpensNot all after (early.Script (number + 1) WrongPlace)
 said_misplaced p number all before left after l r s within read bars = each_out all (λ text out. RefusedAt (number + 1) WrongPlace text out out) (λ out.
-    misplaced_here (headed_front s.lines) number all left after out out l (headed_is_front s.lines s.is_preamble) (said_after p number all before left r s) (omega (arith, s.count)) within (Gains-nothing out) read (bars s.lines s.say_so))
+    misplaced_here (headed_front s.lines) number all left after out out l (headed_is_front s.lines s.is_preamble) (said_after p number all before left r s) (omega (arith, s.number_is)) within (Gains-nothing out) read (bars s.lines s.say_so))
 
 pub said_fronted : (p : Preamble) (number : ℕ) (all before left now : Out) → WereRead all (Header 1 ∷ []) before → Said p number before left
     → IfSome left (λ text. Partly text now) → OpensNot all now early.NoMemory
@@ -221,7 +221,7 @@ said_whole p s wrong number all before left after l r said within read go m = re
   table = (table_is _ _ (ap table_of (sym said.say_so.table) ∙ m.table)).1;
   setup_is = setup_is s wrong p said.lines said.say_so m;
   wrong_is = m.wrong_is ∙ ap diagnostics_of said.say_so.conf;
-  count_is = omega (arith, said.count, length-append said.lines (Go ∷ []));
+  count_is = omega (arith, said.number_is, length-append said.lines (Go ∷ []));
   within = omega (arith, within);
   read = read_on all (Header 1 ∷ said.lines) left (Go ∷ []) after (said_after p number all before left r said) (subst (λ (x : Line). WereRead left (x ∷ []) after) go read);
 }
@@ -237,7 +237,7 @@ said_untabled p line number all before left after l r s within read go is = each
     let found : table_of (table_in s.lines) ≡ Err is.fault = ap table_of (sym s.say_so.table) ∙ is.refused in
     let at : line ≡ number_at_fault (table_of (table_in s.lines)) (action_lines 2 s.lines)
     = is.number_is ∙ (ap (λ (numbers : List ℕ). number_at_fault (Err is.fault) numbers) s.say_so.actions ∙ ap (λ (t : Result (List Row) TableFault). number_at_fault t (action_lines 2 s.lines)) (sym found)) in
-    untabled_here (headed_front s.lines) number line all left after out out (headed_is_front s.lines s.is_preamble) (said_after p number all before left r s) (omega (arith, s.count)) within (Gains-nothing out)
+    untabled_here (headed_front s.lines) number line all left after out out (headed_is_front s.lines s.is_preamble) (said_after p number all before left r s) (omega (arith, s.number_is)) within (Gains-nothing out)
     (subst (λ (x : Line). WereRead left (x ∷ []) after) go read) refl (table_not _ _ found) at)
 
 -- a table that is refused, at the line of an action

@@ -22,23 +22,16 @@ use Rattle.replay.specs.Recording.{MayCome}
 use Rattle.replay.specs.inner.Making.{turns_of}
 use Rattle.replay.specs.inner.Player.{AreOpen, HasTeller, PlayerState, StandsBehind, user_at}
 use Rattle.replay.specs.inner.Playing.{LineMade}
+use Rattle.replay.proofs.HeardLines.{in-still, in-user}
+use Rattle.replay.proofs.Written.{TextTold}
 use Rattle.replay.proofs.HeardPieces.{in-hung, open-hung, piece-heard}
 use Rattle.replay.proofs.HungLines.{hang-events, hang-heard, hang-open, hang-user, hang_events}
 use Rattle.replay.proofs.InPlace.{unheard-events}
-use Rattle.replay.proofs.LinkLines.{has_stop, heard-more, hung-more, user-more}
-use Rattle.replay.proofs.LinkStanding.{hangup-unsaid, in-unsaid, link-standing, open-user, or-else-none, or-none}
+use Rattle.replay.proofs.LinkLines.{has_stop, heard-more}
+use Rattle.replay.proofs.LinkStanding.{hangup-unsaid, in-unsaid, link-standing, open-user}
 use Rattle.replay.proofs.MadeLines.{end-more}
 use Rattle.replay.proofs.QuietLines.{link-ended}
 use Rattle.replay.proofs.UnmadeLines.{unmade}
-
-abbrev Told : Type 0
-Told = Option (List ℕ)
-
-in-user : (lines : List Line) (b : ConnId) (bytes : List ℕ) (c : ConnId) → link_user (lines ++ line.In b bytes ∷ []) c ≡ link_user lines c
-in-user lines b bytes c = user-more lines (line.In b bytes) c ∙ or-else-none (link_user lines c)
-
-in-still : (lines : List Line) (b : ConnId) (bytes : List ℕ) (c : ConnId) → is_hung_up (lines ++ line.In b bytes ∷ []) c ≡ is_hung_up lines c
-in-still lines b bytes c = hung-more lines (line.In b bytes) c ∙ or-none (is_hung_up lines c)
 
 in-open : (lines : List Line) (b : ConnId) (bytes : List ℕ) (links : List (ℕ × Uid)) → AreOpen links lines → AreOpen links (lines ++ line.In b bytes ∷ [])
 in-open lines b bytes links h = λ c. h c ∙ sym (λ k. if in-still lines b bytes c k then None else in-user lines b bytes c k)
@@ -79,7 +72,7 @@ still-none true true true true c e = absurd (let z : true ≡ false = e in cc)
 still-none true true false true c e = absurd (let z : true ≡ false = e in cc)
 still-none true false l true c e = absurd (let z : true ≡ false = e in cc)
 
-pub unheard-made : (old : PlayerState) (played : List Played) (b : ConnId) (bytes : List ℕ) (held : Told) → StandsBehind old played → IsLine (line.In b bytes) → MayCome played (line.In b bytes)
+pub unheard-made : (old : PlayerState) (played : List Played) (b : ConnId) (bytes : List ℕ) (held : TextTold) → StandsBehind old played → IsLine (line.In b bytes) → MayCome played (line.In b bytes)
     → has_stop (played_lines played) ≡ true → LineMade old.office.core.setup played (line.In b bytes) old None held held
 unheard-made old played b bytes held s is may stop =
     let U = old.office.core.setup in
@@ -123,7 +116,7 @@ pub begun-not : (U : Setup) (J : List Entry) (c : ConnId) (u : Uid) (b : Bool) (
 begun-not U J c u true ts e out = absurd (let z : true ≡ false = e in cc)
 begun-not U J c u false ts e out = ap (λ (k : Bool). if k then ts else []) out
 
-pub ended-made : (old : PlayerState) (played : List Played) (b : ConnId) (bytes : List ℕ) (held : Told) → StandsBehind old played → IsLine (line.In b bytes) → MayCome played (line.In b bytes)
+pub ended-made : (old : PlayerState) (played : List Played) (b : ConnId) (bytes : List ℕ) (held : TextTold) → StandsBehind old played → IsLine (line.In b bytes) → MayCome played (line.In b bytes)
     → has_stop (played_lines played) ≡ false → teller_of old.office b ≡ None → LineMade old.office.core.setup played (line.In b bytes) old None held held
 ended-made old played b bytes held s is may going gone =
     let U = old.office.core.setup in
@@ -146,7 +139,7 @@ ended-made old played b bytes held s is may going gone =
     refl refl (in-open lines b bytes old.links s.links)
 
 -- its input ends
-pub hung-quiet : (old new : PlayerState) (played : List Played) (b : ConnId) (held : Told) → StandsBehind old played → IsLine (line.Hangup b) → MayCome played (line.Hangup b) → teller_of old.office b ≡ None
+pub hung-quiet : (old new : PlayerState) (played : List Played) (b : ConnId) (held : TextTold) → StandsBehind old played → IsLine (line.Hangup b) → MayCome played (line.Hangup b) → teller_of old.office b ≡ None
     → new.office ≡ old.office → new.used ≡ old.used → ((n : ℕ) → user_at n new.links ≡ (if n == b.0 then None else user_at n old.links))
     → LineMade old.office.core.setup played (line.Hangup b) new None held held
 hung-quiet old new played b held s is may gone office used links =

@@ -198,7 +198,7 @@ one_refused text m n c d p q r s a b =
     let there : IsRefusal c b.front b.rest = subst (IsRefusal c b.front) same.rests (subst (λ (g : Front). IsRefusal c g a.rest) same.fronts a.caused) in
     let within : length (lines_of b.front) ≤ most_lines = within_most text (lines_of b.front) b.rest b.read b.refused.begins in
     let causes : c ≡ d = one_why b.front b.rest c d there b.caused within (cases_lt (length (lines_of b.front)) most_lines) in
-    (a.count ∙ ((λ i. refused_line (causes i) (same.fronts i)) ∙ sym b.count), causes, same.fronts)
+    (a.number_is ∙ ((λ i. refused_line (causes i) (same.fronts i)) ∙ sym b.number_is), causes, same.fronts)
 
 -- a line that may come is refused for no cause
 no_cause : (f : Front) (rest : List ℕ) (c : Cause) (line : Line) → f.stage ≡ going → IsReadAs (first_line rest) line → Takes f line → Reason f rest c → ⊥

@@ -1,5 +1,5 @@
 -- A line whose links were told, and the link that it ended forgotten.
-use Rattle.std.proofs.Common.{◌≡◌, ℕ, ◌==◌, inl, inr, if◌then◌else◌, Bool, true, false, List, [], ◌∷◌, ◌++◌, refl, ap, sym, ◌∙◌, subst, Option, Some, None, Result, Ok, Err}
+use Rattle.std.proofs.Common.{◌≡◌, ◌==◌, inl, inr, if◌then◌else◌, Bool, true, false, List, [], ◌∷◌, ◌++◌, refl, ap, sym, ◌∙◌, subst, Option, Some, None, Result, Ok, Err}
 use Rattle.std.specs.Option.{is_some, IsSome}
 use Rattle.std.proofs.lemmas.Bool.{eq-eqb}
 use Rattle.login_base.specs.declared.ids.ConnId.{ConnId}
@@ -24,11 +24,9 @@ use Rattle.replay.specs.declared.early.Early.TheVariants as early
 use Rattle.replay.specs.inner.Player.{AreOpen, AreUsed, Brings, HasMade, HasTeller, HasTold, PlayerState, Stands, StandsBehind, ended_in, own_end}
 use Rattle.replay.specs.inner.Playing.{EntriesGive, LineBroken, LineGives, LineMade, LinePlayed}
 use Rattle.replay.specs.inner.Telling.{IsOwnOf, TellsText}
+use Rattle.replay.proofs.Written.{TextTold}
 use Rattle.replay.proofs.EndsStay.{ends-stay}
 use Rattle.replay.proofs.LinkLines.{turns-after}
-
-abbrev Told : Type 0
-Told = Option (List ℕ)
 
 -- the teller of a link that has ended is forgotten
 abbrev pub Forgets : OfficeState → Option ConnId → OfficeState → Type 0
@@ -86,7 +84,7 @@ tellers-by U J lines played p (Some own) told new g f h c = by own.end refl f (o
         (still-told U J lines c (link_end U played c) (link_end U (played ++ p ∷ []) c) (teller_of told c) (λ n. g.ends c n ∙ (λ i. if test i then own.end else None)) (g.stay c) (h c))
 
 -- what the line was played as
-told-played : (U : Setup) (played : List Played) (l : Line) (own : Option Own) (mid new : PlayerState) (told : OfficeState) (held there now : Told) → AreTurns U played → (m : LineMade U played l mid own held there)
+told-played : (U : Setup) (played : List Played) (l : Line) (own : Option Own) (mid new : PlayerState) (told : OfficeState) (held there now : TextTold) → AreTurns U played → (m : LineMade U played l mid own held there)
     → ((c : ConnId) → IsSome (link_end U played c) → IsSome (link_end U (played ++ record { line = l; made = m.made } ∷ []) c)) → HasTold mid.office told played (record { line = l; made = m.made })
     → Forgets told (ended_in own) new.office → new.used ≡ mid.used → new.links ≡ mid.links → Gains there now (links_text mid.office.core.setup played (record { line = l; made = m.made })) → LinePlayed U played l new held now
 told-played U played l own mid new told held there now turns m stay h f used links wrote =
@@ -114,14 +112,14 @@ told-played U played l own mid new told held there now turns m stay h f used lin
 -- ---- a line that was not played to its end
 
 -- an event of it was not made
-pub entries-early : (U : Setup) (played : List Played) (l : Line) (mid new : PlayerState) (held now : Told) (e : Early) → EntriesGive U played l mid held now (Err e) → LineGives U played l new held now (Err e)
+pub entries-early : (U : Setup) (played : List Played) (l : Line) (mid new : PlayerState) (held now : TextTold) (e : Early) → EntriesGive U played l mid held now (Err e) → LineGives U played l new held now (Err e)
 entries-early U played l mid new held now (early.Full count) h = h
 entries-early U played l mid new held now early.WriteFault h = inl h
 entries-early U played l mid new held now early.NoMemory h = inl h
 entries-early U played l mid new held now early.ReadFault h = absurd h
 entries-early U played l mid new held now (early.Script number cause) h = absurd h
 
-told-broken : (U : Setup) (played : List Played) (l : Line) (own : Option Own) (mid : PlayerState) (held there now : Told) (m : LineMade U played l mid own held there)
+told-broken : (U : Setup) (played : List Played) (l : Line) (own : Option Own) (mid : PlayerState) (held there now : TextTold) (m : LineMade U played l mid own held there)
     → GainsFront there now (links_text mid.office.core.setup played (record { line = l; made = m.made })) → LineBroken U played l held now
 told-broken U played l own mid held there now m wrote =
     let p : Played = record { line = l; made = m.made } in
@@ -131,7 +129,7 @@ told-broken U played l own mid held there now m wrote =
       wrote = Gains-front-more held there now (entries_text played m.made) (links_text U played p) m.wrote (subst (λ (V : Setup). GainsFront there now (links_text V played p)) m.setup wrote);
     }
 
-told-part : (U : Setup) (played : List Played) (l : Line) (own : Option Own) (mid new : PlayerState) (held there now : Told) (e : Early) (m : LineMade U played l mid own held there)
+told-part : (U : Setup) (played : List Played) (l : Line) (own : Option Own) (mid new : PlayerState) (held there now : TextTold) (e : Early) (m : LineMade U played l mid own held there)
     → TellsText there now (links_text mid.office.core.setup played (record { line = l; made = m.made })) (Err e) → LineGives U played l new held now (Err e)
 told-part U played l own mid new held there now (early.Full count) m h = absurd h
 told-part U played l own mid new held there now early.WriteFault m h = inr (told-broken U played l own mid held there now m h)
@@ -140,26 +138,26 @@ told-part U played l own mid new held there now early.ReadFault m h = absurd h
 told-part U played l own mid new held there now (early.Script number cause) m h = absurd h
 
 -- what the telling behind a line promises
-abbrev pub SaysAll : OfficeState → Option Own → Told → Told → Result (Unit {0}) Early → Type 0
+abbrev pub SaysAll : OfficeState → Option Own → TextTold → TextTold → Result (Unit {0}) Early → Type 0
 SaysAll office own there now r = (before : List Played) (p : Played) → HasMade office before p → Brings office.core.setup before p own → IsOwnOf office p own → TellsText there now (links_text office.core.setup before p) r
 
 abbrev pub TellsAll : OfficeState → OfficeState → Option Own → Type 0
 TellsAll office told own = (before : List Played) (p : Played) → HasMade office before p → Brings office.core.setup before p own → IsOwnOf office p own → HasTold office told before p
 
 -- what the line brought is of the setup that the player has
-brought-there : (U : Setup) (played : List Played) (l : Line) (own : Option Own) (mid : PlayerState) (held there : Told) (m : LineMade U played l mid own held there)
+brought-there : (U : Setup) (played : List Played) (l : Line) (own : Option Own) (mid : PlayerState) (held there : TextTold) (m : LineMade U played l mid own held there)
     → Brings mid.office.core.setup played (record { line = l; made = m.made }) own
 brought-there U played l own mid held there m = subst (λ (V : Setup). Brings V played (record { line = l; made = m.made }) own) (sym m.setup) m.brings
 
 -- its links were not told
-pub told-early : (U : Setup) (played : List Played) (l : Line) (own : Option Own) (office : OfficeState) (mid new : PlayerState) (held there now : Told) (e : Early) → office ≡ mid.office
+pub told-early : (U : Setup) (played : List Played) (l : Line) (own : Option Own) (office : OfficeState) (mid new : PlayerState) (held there now : TextTold) (e : Early) → office ≡ mid.office
     → (m : LineMade U played l mid own held there) → SaysAll office own there now (Err e) → LineGives U played l new held now (Err e)
 told-early U played l own office mid new held there now e same m says =
     told-part U played l own mid new held there now e m
     (subst (λ (o : OfficeState). SaysAll o own there now (Err e)) same says played (record { line = l; made = m.made }) m.has_made (brought-there U played l own mid held there m) m.is_own)
 
 -- they were, and the link that the line ended was forgotten: the player stands behind it
-pub line-told : (old mid new : PlayerState) (office told : OfficeState) (played : List Played) (l : Line) (own : Option Own) (held there now : Told) → StandsBehind old played → office ≡ mid.office
+pub line-told : (old mid new : PlayerState) (office told : OfficeState) (played : List Played) (l : Line) (own : Option Own) (held there now : TextTold) → StandsBehind old played → office ≡ mid.office
     → LineMade old.office.core.setup played l mid own held there → SaysAll office own there now (Ok tt) → TellsAll office told own
     → Forgets told (ended_in own) new.office → new.used ≡ mid.used → new.links ≡ mid.links → LinePlayed old.office.core.setup played l new held now
 line-told old mid new office told played l own held there now s same m says tells f used links =
@@ -170,5 +168,5 @@ line-told old mid new office told played l own held there now s same m says tell
     (subst (λ (o : OfficeState). TellsAll o told own) same tells played p m.has_made b m.is_own) f used links
     (subst (λ (o : OfficeState). SaysAll o own there now (Ok tt)) same says played p m.has_made b m.is_own)
 
-pub stands-there : (U : Setup) (played : List Played) (l : Line) (new : PlayerState) (held now : Told) → LinePlayed U played l new held now → Stands new
+pub stands-there : (U : Setup) (played : List Played) (l : Line) (new : PlayerState) (held now : TextTold) → LinePlayed U played l new held now → Stands new
 stands-there U played l new held now p = record { played = played ++ record { line = l; made = p.made } ∷ []; behind = p.stands }

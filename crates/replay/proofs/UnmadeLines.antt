@@ -1,5 +1,5 @@
 -- A line of a link that makes no entry and of which nothing is said.
-use Rattle.std.proofs.Common.{◌≡◌, ℕ, ◌==◌, Bool, true, false, List, [], ◌∷◌, ◌++◌, refl, ap, sym, ◌∙◌, subst, append-nil, Option, Some, None}
+use Rattle.std.proofs.Common.{◌≡◌, ℕ, ◌==◌, Bool, true, false, List, [], ◌∷◌, ◌++◌, refl, ap, sym, ◌∙◌, subst, append-nil, Some, None}
 use Rattle.login_base.specs.declared.ids.ConnId.{ConnId}
 use Rattle.login_base.specs.declared.ids.Uid.{Uid}
 use Rattle.login_edge.specs.Texts.{Gains}
@@ -15,15 +15,13 @@ use Rattle.replay.specs.Recording.{MayCome}
 use Rattle.replay.specs.inner.Player.{AreOpen, AreUsed, HasTeller, PlayerState, StandsBehind}
 use Rattle.replay.specs.inner.Playing.{LineMade}
 use Rattle.std.specs.BTreeSet.{BTreeSet}
+use Rattle.replay.proofs.Written.{TextTold}
 use Rattle.replay.proofs.LinkStanding.{SaysNothing}
 use Rattle.replay.proofs.MadeEntries.{blocks-none, none-made}
 use Rattle.replay.proofs.MadeLines.{line-made, teller-stays}
 use Rattle.replay.proofs.OwnLines.{own-links, used-still}
 
-abbrev Told : Type 0
-Told = Option (List ℕ)
-
-pub unmade : (old new : PlayerState) (played : List Played) (l : Line) (b : ConnId) (u : Uid) (held : Told) → (s : StandsBehind old played) → IsLine l → MayCome played l
+pub unmade : (old new : PlayerState) (played : List Played) (l : Line) (b : ConnId) (u : Uid) (held : TextTold) → (s : StandsBehind old played) → IsLine l → MayCome played l
     → [] ≡ line_events old.office.core.setup played l → line_events old.office.core.setup played l ≡ link_line_events old.office.core.setup played l b
     → ((c : ConnId) → (b.0 == c.0) ≡ false → SaysNothing l c) → link_user (played_lines played) b ≡ Some u → link_user (played_lines played ++ l ∷ []) b ≡ Some u
     → replies u old.office.core.setup.guid (heard (played_lines played ++ l ∷ []) b) ≡ replies u old.office.core.setup.guid (heard (played_lines played) b)

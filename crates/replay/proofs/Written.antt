@@ -13,8 +13,9 @@ use Rattle.recording.proofs.Grammar.{reads_one}
 use Rattle.recording.proofs.Spellings.{written_no_feed, read_IsLine}
 use Rattle.replay.specs.Written.{AreReadAs, joined, Splits, WereRead}
 
-abbrev Told : Type 0
-Told = Option (List ℕ)
+-- the bytes of an object that tells them, and nothing of another
+abbrev pub TextTold : Type 0
+TextTold = Option (List ℕ)
 
 -- a line has one line feed, at its end
 pub record Fed (bytes : List ℕ) : Type 0 where
@@ -49,7 +50,7 @@ pub joined_more : (a b : List (List ℕ)) (rest : List ℕ) → joined a ++ (joi
 joined_more a b rest = sym (append_assoc (joined a) (joined b) rest) ∙ ap (λ (t : List ℕ). t ++ rest) (sym (joined_append a b))
 
 -- what was read, and then more
-pub read_on : (before : Told) (ls : List Line) (mid : Told) (ms : List Line) (left : Told) → WereRead before ls mid → WereRead mid ms left → WereRead before (ls ++ ms) left
+pub read_on : (before : TextTold) (ls : List Line) (mid : TextTold) (ms : List Line) (left : TextTold) → WereRead before ls mid → WereRead mid ms left → WereRead before (ls ++ ms) left
 read_on before ls mid ms None h k = record {
   written = h.written ++ k.written;
   are = read_append h.written ls k.written ms h.are k.are;
@@ -61,7 +62,7 @@ read_on before ls mid ms (Some rest) h k = record {
   split = h.split ∙ (ap (option_map (λ rest. joined h.written ++ rest)) k.split ∙ ap Some (joined_more h.written k.written rest));
 }
 
-pub nothing_read : (all : Told) → WereRead all [] all
+pub nothing_read : (all : TextTold) → WereRead all [] all
 nothing_read None = record { written = []; are = tt; split = refl }
 nothing_read (Some text) = record { written = []; are = tt; split = refl }
 
@@ -150,5 +151,5 @@ is_line_by [] l h = absurd h
 is_line_by (x ∷ w) l h = read_IsLine x l h.0
 
 -- a line that is read is one of a recording
-pub is_line : (before : Told) (l : Line) (mid : Told) → WereRead before (l ∷ []) mid → IsLine l
+pub is_line : (before : TextTold) (l : Line) (mid : TextTold) → WereRead before (l ∷ []) mid → IsLine l
 is_line before l mid r = is_line_by r.written l r.are

@@ -12,7 +12,7 @@ pub mod Outcome
 pub mod Spelled
 pub mod Recorded
 pub mod Stopping
-pub mod Told
+pub mod LinkLaws
 pub mod Rising
 pub mod Early
 pub mod Ahead

@@ -55,7 +55,7 @@ pub record RefusedAt (number : ℕ) (cause : Cause) (text : List ℕ) (before af
   pub rest : List ℕ
   pub is_front : IsFront front
   pub read : Splits text (lines_of front) rest
-  pub count : number ≡ refused_line cause front
+  pub number_is : number ≡ refused_line cause front
   pub refused : Refused text (length (lines_of front))
   pub caused : IsRefusal cause front rest
   pub wrote : Gains before after (text_of front)

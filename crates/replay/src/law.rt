@@ -5,7 +5,7 @@ ghost use Rattle.replay.specs.Recorded.{RecordingPlays};
 ghost use Rattle.replay.specs.Refused.{FaultIsOfAnAction, OneRefusal};
 ghost use Rattle.replay.specs.Spelled.{LinesHaveTurns, OneRecording, SpelledIsRecording};
 ghost use Rattle.replay.specs.Stopping.{OneStop};
-ghost use Rattle.replay.specs.Told.{CallsAreOfBytes, EndsForGood, OutsAreSaid};
+ghost use Rattle.replay.specs.LinkLaws.{CallsAreOfBytes, EndsForGood, OutsAreSaid};
 
 /// At most one line of a text is refused.
 pub fn one_refusal()

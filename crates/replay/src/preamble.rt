@@ -50,7 +50,7 @@ pub struct Opening {
     /// What is wrong with the lines of the configuration.
     pub wrong: Items<Diagnostic>,
     /// How many lines were read.
-    pub count: u32,
+    pub lines_read: u32,
 }
 
 /// What the lines of a preamble said so far.
@@ -258,7 +258,7 @@ fn read_lines<S: Source>(
                 return Ok(Opening {
                     setup,
                     wrong,
-                    count: number + 1,
+                    lines_read: number + 1,
                 });
             }
             Said::Refused => return Err(Early::Script(number + 1, Cause::WrongPlace)),
@@ -305,7 +305,7 @@ pub fn read_setup<S: Source>(alloc: Global, lines: &mut LineReader, source: &mut
     ensures cause { Rises (is_failed_setup result) (S.faults source.old) (S.faults source.new) }
 {
     match read_opening(alloc, lines, source) {
-        Ok(opening) => SetupEnd::Ready(opening.setup, opening.wrong, opening.count),
+        Ok(opening) => SetupEnd::Ready(opening.setup, opening.wrong, opening.lines_read),
         Err(Early::Script(number, cause)) => SetupEnd::Script(number, cause),
         Err(Early::ReadFault) => SetupEnd::ReadFault,
         Err(Early::NoMemory) => SetupEnd::NoMemory,

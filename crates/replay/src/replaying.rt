@@ -59,7 +59,7 @@ fn replay_text<S: Source, K: Sink>(alloc: Global, source: &mut S, sink: &mut K) 
     let mut lines = LineReader::new(alloc)?;
     let opening = read_opening(alloc, &mut lines, source)?;
     let player = Player::new(alloc, opening.setup)?;
-    let mut run = Run::new(alloc, lines, opening.count, player);
+    let mut run = Run::new(alloc, lines, opening.lines_read, player);
     let played = run.play_all(&opening.wrong, source, sink);
     // By name: so the end of each of its types is proved apart, and not all of them here.
     drop(run);

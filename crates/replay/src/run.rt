@@ -22,9 +22,10 @@ use crate::placing::may_come;
 use crate::play::play_line;
 use crate::player::Player;
 use crate::start::start_text;
+use crate::writing::write_text;
 use login_base::Items;
 use login_conf::Diagnostic;
-use login_edge::{Sink, Source, WriteEnd, write_all};
+use login_edge::{Sink, Source};
 use recording::{Line, LineReader};
 use std::alloc::{AllocError, Global};
 
@@ -46,17 +47,6 @@ fn end_text(alloc: Global, count: usize) -> Result<String, AllocError>
     ensures { IfOk result (λ text. string_bytes text ≡ transcript_end count) }
 {
     format!(in alloc; "end {count}\n")
-}
-
-/// Writes a text of the transcript.
-fn write_text<K: Sink>(sink: &mut K, text: &[u8]) -> Result<(), Early>
-    ensures gives { Writes (K.held sink.old) (K.held sink.new) text.now result }
-    ensures cause { Rises (failed of_writing result) (K.faults sink.old) (K.faults sink.new) }
-{
-    match write_all(sink, text) {
-        WriteEnd::Done => Ok(()),
-        WriteEnd::Fault => Err(Early::WriteFault),
-    }
 }
 
 /// Whether a line ends a recording.

@@ -184,7 +184,7 @@ fn tell_one<K: Sink>(
 }
 
 /// Says to each what is to be said, in the order of their numbers.
-fn tell_all<K: Sink>(
+fn tell_each<K: Sink>(
     alloc: Global,
     office: &mut Office,
     own: &Option<Own>,
@@ -200,6 +200,23 @@ fn tell_all<K: Sink>(
         after = Some(who);
     }
     Ok(())
+}
+
+/// Says to each what is to be said. Where no link is open nobody is gone over.
+fn tell_all<K: Sink>(
+    alloc: Global,
+    office: &mut Office,
+    own: &Option<Own>,
+    sink: &mut K,
+) -> Result<(), Early>
+    ensures gives { TellsText (K.held sink.old) (K.held sink.new) (all_told office.old own.now) result }
+    ensures fetched { OnOk result (AllFetched office.old own.now office.new) }
+    ensures cause { Rises (failed of_writing result) (K.faults sink.old) (K.faults sink.new) }
+{
+    if own.is_none() && office.has_no_links() {
+        return Ok(());
+    }
+    tell_each(alloc, office, own, sink)
 }
 
 /// Says behind the entries of a line what is to be said on links.

@@ -27,7 +27,7 @@ use Rattle.wire_out.specs.Places.{place_of}
 use Rattle.link_serve.specs.Acting.{ClosesOne}
 use Rattle.link_serve.specs.Turned.{Acts}
 use Rattle.link_serve.specs.Owners.{entries_of, events_heard, is_open, was_denied}
-use Rattle.link_serve.specs.Serving.{Came, Causes, FaultsAt, IsShort, IsShown, Prompt, SaidAt, Told, has_hung_up, is_cut, is_hang_up, is_too_many}
+use Rattle.link_serve.specs.Serving.{Came, Causes, FaultsAt, IsShort, IsShown, Prompt, SaidAt, SaidThrough, has_hung_up, is_cut, is_hang_up, is_too_many}
 use Rattle.link_serve.specs.declared.serving.Progress.{Progress}
 
 -- a link and its pass at a moment: what the pass knows, what was heard and said, what is left to come, and how many calls of
@@ -95,7 +95,7 @@ module _ (u : Uid) (start now : Moment) where
     pub calls : made ≡ take stepped (events_heard (who_of start) u setup.guid text)
     pub made_is : events_of now.view.mine ≡ made
     pub let_in : was_denied now.view.mine ≡ false
-    pub said : Told (who_of start) u setup.guid (entries now.view.seen) told text (said_of talk)
+    pub said : SaidThrough (who_of start) u setup.guid (entries now.view.seen) told text (said_of talk)
     pub fetched : List Entry
     pub rest : List Entry
     pub seen_is : entries now.view.seen ≡ fetched ++ rest

@@ -32,14 +32,14 @@ HasRested u now p = (start : Moment) × Rests u start now p
 -- ---- the mail is written
 
 module _ (u : Uid) (start new : Moment) (text : List ℕ) (made : List Event) where
-  -- all is told that the events which were made are due
-  abbrev pub ToldAll : Result (TellerState × Option ℕ) LinkEnd → Type 0
-  ToldAll (Ok r) = Stands u start new r.0 text made made × (r.1 ≡ stop_from 1 (entries new.view.seen))
-  ToldAll (Err e) = Stops u start new e
+  -- all is said that the events which were made are due
+  abbrev pub IsAllSaid : Result (TellerState × Option ℕ) LinkEnd → Type 0
+  IsAllSaid (Ok r) = Stands u start new r.0 text made made × (r.1 ≡ stop_from 1 (entries new.view.seen))
+  IsAllSaid (Err e) = Stops u start new e
 
 abbrev pub Tells : TellerState → Moment → Moment → Result (TellerState × Option ℕ) LinkEnd → Type 0
 Tells teller old new result = (u : Uid) (start : Moment) (text : List ℕ) (made told : List Event)
-    → Stands u start old teller text made told → ToldAll u start new text made result
+    → Stands u start old teller text made told → IsAllSaid u start new text made result
 
 -- ---- an event is made
 

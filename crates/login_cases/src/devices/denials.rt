@@ -1,11 +1,11 @@
 // What the rules on devices deny, and which of several comes first.
 
 use super::fronts::SESSIONS;
-use crate::{Answered, Case, Front, Piece};
+use crate::{Answered, Beginning, Case, Piece};
 
 /// A session that has taken a device; one without a seat, which the same connection controls; one that is
 /// closing; and a device on another seat.
-const DEVICES: Front = Front {
+const DEVICES: Beginning = Beginning {
     piece: (
         "\
 login-recording 1

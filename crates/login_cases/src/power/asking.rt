@@ -1,7 +1,7 @@
 // Who may ask for which operation, and what the manager says that they can.
 
 use super::fronts::{ALICE_AND_BOB, WITH_BOB};
-use crate::{Answered, Case, Front, Piece};
+use crate::{Answered, Beginning, Case, Piece};
 
 /// What each user can ask for without locks.
 const CAN: [(&str, &str); 16] = [
@@ -56,7 +56,7 @@ const WITH_OTHERS: [(&str, &str); 7] = [
 ];
 
 /// A user without a session, alone.
-const ALONE: Front = Front {
+const ALONE: Beginning = Beginning {
     piece: (
         "\
 login-recording 1

@@ -1,6 +1,6 @@
 // Fronts of recordings with a session.
 
-use crate::{Front, Piece};
+use crate::{Beginning, Piece};
 
 /// The setup with Alice, who is a user of the machine.
 pub const ALONE: Piece = (
@@ -72,7 +72,7 @@ login-transcript 1
 );
 
 /// The front of `ALICE_AND_BOB`, for lines behind it that make no marks.
-pub const WITH_BOB: Front = Front {
+pub const WITH_BOB: Beginning = Beginning {
     piece: ALICE_AND_BOB,
     entries: 4,
 };

@@ -294,7 +294,7 @@ is_back (Back out) = true
 -- the input and the reader's pass are with a thread, or came back
 abbrev pub IsStarted : {S : Type 0} → (left : S → Option (List ℕ)) → (faults : S → ℕ) → (count : ℕ) → (all : Option (List ℕ)) → (before : PassOfCore) → (source : S) → Started (ReaderOut S) (ReaderNote S) → Type 0
 IsStarted {S = S} left faults count all before source (Running h) = (out : ReaderOut S)
-    → ReaderGives left faults h.promise.count (left_to h.promise.lines.value (left h.promise.source.value)) h.promise.pass.value h.promise.source.value out.pass out.source out.end
+    → ReaderGives left faults h.promise.lines_read (left_to h.promise.lines.value (left h.promise.source.value)) h.promise.pass.value h.promise.source.value out.pass out.source out.end
     → ReaderGives left faults count all before source out.pass out.source out.end
 IsStarted left faults count all before source (Back out) = ReaderGives left faults count all before source out.pass out.source out.end
 

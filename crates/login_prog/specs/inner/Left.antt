@@ -41,8 +41,8 @@ pub record IsReady (all left : Option (List ℕ)) (ready : Ready) : Type 0 where
   pub set_up : IsSetup setup
   pub desk_is : ready.pass.desk ≡ ready.desk
   pub view_is : ready.pass.view ≡ first_view setup
-  pub within : ready.count ≤ most_lines
-  pub opened : IfSome all (λ text. (rest : List ℕ) × (left_to ready.lines left ≡ Some rest) × IsOpened text setup ready.count rest)
+  pub within : ready.lines_read ≤ most_lines
+  pub opened : IfSome all (λ text. (rest : List ℕ) × (left_to ready.lines left ≡ Some rest) × IsOpened text setup ready.lines_read rest)
   pub untold : all ≡ None → left_to ready.lines left ≡ None
 
 -- or why there is none: a line through `go` is refused, the input failed, or there was no memory

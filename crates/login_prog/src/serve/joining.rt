@@ -69,13 +69,13 @@ impl<L: Link, N: Listener<Link = L>, P: Spawner> House<L, N, P> {
         scope: &Scope<'s, E>,
         lines: LineReader,
         source: S,
-        count: u32,
+        lines_read: u32,
     ) -> Started<ReaderOut<S>, ReaderNote<S>>
         requires fresh { IsFresh L.number L.talk L.left L.faults P.faults N.told N.given N.faults shared.now.desk.now self.old }
         requires desk { self.old.pass.desk ≡ shared.now.desk.now }
-        requires within { count ≤ most_lines }
+        requires within { lines_read ≤ most_lines }
         ensures desk { self.new.pass.desk ≡ self.old.pass.desk }
-        ensures started { IsStarted S.left S.faults count (left_to lines (S.left source)) (record { desk = self.old.pass.desk; view = split_view 0 self.old.pass.view }) source result }
+        ensures started { IsStarted S.left S.faults lines_read (left_to lines (S.left source)) (record { desk = self.old.pass.desk; view = split_view 0 self.old.pass.view }) source result }
         ensures refused { self.new.troubles ≡ record self.old.troubles { spawn_fault = is_back result } }
         ensures keeps { (x : Since L) (is_alone : Bool) → IsNew L.number L.talk L.left L.faults P.faults N.told N.given N.faults x self.old
             → Keeps L.number L.talk L.left L.faults P.faults N.told N.given N.faults x (at_start x.clock_faults is_alone) [] self.new }
@@ -89,7 +89,7 @@ impl<L: Link, N: Listener<Link = L>, P: Spawner> House<L, N, P> {
             pass: shared.desk.split(&mut self.pass, ConnId(0)),
             lines,
             source,
-            count,
+            lines_read,
         };
         match self.spawner.start(shared.alloc, scope, job) {
             Started::Running(handle) => Started::Running(handle),

@@ -44,11 +44,11 @@ pub struct ReaderJob<'a, R, S, G> {
     pub lines: LineReader,
     pub source: S,
     /// How many lines were read before.
-    pub count: u32,
+    pub lines_read: u32,
     ghost fits: { pass.desk ≡ desk.now },
     ghost who: { pass.view.who ≡ 0 },
     ghost known: { of_pass pass.view.number pass.view.seen ≡ pass.view.mine },
-    ghost within: { count ≤ most_lines },
+    ghost within: { lines_read ≤ most_lines },
 }
 
 /// The input, what the reader's pass knows, and how the reading ended, if it was read.
@@ -65,14 +65,14 @@ pub struct ReaderNote<S> {
     pub pass: Snapshot<PassOfCore>,
     pub lines: Snapshot<LineReader>,
     pub source: Snapshot<S>,
-    pub count: u32,
+    pub lines_read: u32,
 }
 
 impl<S: Source + Drop> Promise<ReaderOut<S>> for ReaderNote<S> {
     ghost use Rattle.recording.specs.Reading.{left_to};
     ghost use Rattle.login_prog.specs.inner.Jobs.{ReaderGives};
 
-    ghost kept_by = { λ note out. ReaderGives S.left S.faults note.count (left_to note.lines.value (S.left note.source.value)) note.pass.value note.source.value out.pass out.source out.end };
+    ghost kept_by = { λ note out. ReaderGives S.left S.faults note.lines_read (left_to note.lines.value (S.left note.source.value)) note.pass.value note.source.value out.pass out.source out.end };
 }
 
 /// How reading ends that ended early.
@@ -150,10 +150,10 @@ impl<'a, R: Wait, S: Source + Drop, G: Gate> ReaderJob<'a, R, S, G> {
     /// Reads until the line `stop`, or until something else ends the reading.
     fn read_lines(&mut self) -> ReaderEnd
         ensures desk { self.new.pass.desk ≡ self.old.pass.desk }
-        ensures reads { Ended self.old.count self.old.pass.view self.new.pass.view (left_to self.old.lines (S.left self.old.source))
+        ensures reads { Ended self.old.lines_read self.old.pass.view self.new.pass.view (left_to self.old.lines (S.left self.old.source))
             (S.left self.new.source) (S.faults self.old.source) (S.faults self.new.source) result }
     {
-        for number in self.count..MOST_LINES {
+        for number in self.lines_read..MOST_LINES {
             if let Err(end) = self.read_line(number) {
                 return end;
             }
@@ -170,14 +170,14 @@ impl<'a, R: Wait, S: Source + Drop, G: Gate> Job for ReaderJob<'a, R, S, G> {
 
     type Note = ReaderNote<S>;
 
-    ghost gives = { λ job out. ReaderGives S.left S.faults job.count (left_to job.lines (S.left job.source)) job.pass job.source out.pass out.source out.end };
+    ghost gives = { λ job out. ReaderGives S.left S.faults job.lines_read (left_to job.lines (S.left job.source)) job.pass job.source out.pass out.source out.end };
 
     fn note(&self) -> ReaderNote<S> {
         ReaderNote {
             pass: Snapshot::of(&self.pass),
             lines: Snapshot::of(&self.lines),
             source: Snapshot::of(&self.source),
-            count: self.count,
+            lines_read: self.lines_read,
         }
     }
 
@@ -193,7 +193,7 @@ impl<'a, R: Wait, S: Source + Drop, G: Gate> Job for ReaderJob<'a, R, S, G> {
             pass,
             lines: _,
             source,
-            count: _,
+            lines_read: _,
         } = job;
         ReaderOut {
             source,
@@ -211,7 +211,7 @@ impl<'a, R: Wait, S: Source + Drop, G: Gate> Job for ReaderJob<'a, R, S, G> {
             pass,
             lines: _,
             source,
-            count: _,
+            lines_read: _,
         } = self;
         ReaderOut {
             source,

@@ -37,7 +37,7 @@ struct Ready {
     desk: Desk<CoreAtDesk>,
     pass: PassOfCore,
     lines: LineReader,
-    count: u32,
+    lines_read: u32,
     uids: Items<Uid>,
 }
 
@@ -67,12 +67,12 @@ fn prepare<S: Source>(alloc: Global, source: &mut S) -> Result<Ready, ServeEnd>
         return Err(ServeEnd::NoMemory);
     };
     match read_setup(alloc, &mut lines, source) {
-        SetupEnd::Ready(setup, _, count) => match open_desk(alloc, setup) {
+        SetupEnd::Ready(setup, _, lines_read) => match open_desk(alloc, setup) {
             Ok((desk, pass, uids)) => Ok(Ready {
                 desk,
                 pass,
                 lines,
-                count,
+                lines_read,
                 uids,
             }),
             Err(NoMemory) => Err(ServeEnd::NoMemory),
@@ -166,18 +166,18 @@ fn serve_in<
     ticking: Ticking<C>,
     lines: LineReader,
     source: S,
-    count: u32,
+    lines_read: u32,
 ) -> Left<L, N, S, C, P>
     requires fresh { IsFresh L.number L.talk L.left L.faults P.faults N.told N.given N.faults shared.now.desk.now house }
-    requires within { count ≤ most_lines }
+    requires within { lines_read ≤ most_lines }
     requires tick { ticking.tick.0 ≡ 0 }
     ensures left { (x : Since L) → IsNew L.number L.talk L.left L.faults P.faults N.told N.given N.faults x house → x.readings ≡ C.told ticking.clock → x.clock_faults ≡ C.faults ticking.clock
-        → HasLeft L.number L.talk L.left L.faults P.faults x count (change (left_to lines (S.left source)) (S.left result.source) (S.faults source) (S.faults result.source))
+        → HasLeft L.number L.talk L.left L.faults P.faults x lines_read (change (left_to lines (S.left source)) (S.left result.source) (S.faults source) (S.faults result.source))
         (door_of N.told N.given N.faults result.house.listener) (C.told result.clock) (C.faults result.clock) result.house }
 {
     let mut house = house;
     let mut ticking = ticking;
-    match house.start_reader(shared, scope, lines, source, count) {
+    match house.start_reader(shared, scope, lines, source, lines_read) {
         Started::Running(handle) => {
             house.serve(shared, scope, &mut ticking);
             house.join_links(shared);
@@ -210,24 +210,24 @@ fn serve_links<
     ticking: Ticking<C>,
     lines: LineReader,
     source: S,
-    count: u32,
+    lines_read: u32,
 ) -> Left<L, N, S, C, P>
     requires fresh { IsFresh L.number L.talk L.left L.faults P.faults N.told N.given N.faults shared.now.desk.now house }
-    requires within { count ≤ most_lines }
+    requires within { lines_read ≤ most_lines }
     requires tick { ticking.tick.0 ≡ 0 }
     ensures left { (x : Since L) → IsNew L.number L.talk L.left L.faults P.faults N.told N.given N.faults x house → x.readings ≡ C.told ticking.clock → x.clock_faults ≡ C.faults ticking.clock
-        → HasLeft L.number L.talk L.left L.faults P.faults x count (change (left_to lines (S.left source)) (S.left result.source) (S.faults source) (S.faults result.source))
+        → HasLeft L.number L.talk L.left L.faults P.faults x lines_read (change (left_to lines (S.left source)) (S.left result.source) (S.faults source) (S.faults result.source))
         (door_of N.told N.given N.faults result.house.listener) (C.told result.clock) (C.faults result.clock) result.house }
 {
     thread::scope(
         thread::scope_env(),
         shared.rt,
         |scope| -> Left<L, N, S, C, P>
-            requires { IsFresh L.number L.talk L.left L.faults P.faults N.told N.given N.faults shared.now.desk.now house × (count ≤ most_lines) × (ticking.tick.0 ≡ 0) }
+            requires { IsFresh L.number L.talk L.left L.faults P.faults N.told N.given N.faults shared.now.desk.now house × (lines_read ≤ most_lines) × (ticking.tick.0 ≡ 0) }
             ensures { (x : Since L) → IsNew L.number L.talk L.left L.faults P.faults N.told N.given N.faults x house → x.readings ≡ C.told ticking.clock → x.clock_faults ≡ C.faults ticking.clock
-                → HasLeft L.number L.talk L.left L.faults P.faults x count (change (left_to lines (S.left source)) (S.left result.source) (S.faults source) (S.faults result.source))
+                → HasLeft L.number L.talk L.left L.faults P.faults x lines_read (change (left_to lines (S.left source)) (S.left result.source) (S.faults source) (S.faults result.source))
                 (door_of N.told N.given N.faults result.house.listener) (C.told result.clock) (C.faults result.clock) result.house }
-        { serve_in(shared, scope, house, ticking, lines, source, count) },
+        { serve_in(shared, scope, house, ticking, lines, source, lines_read) },
     )
 }
 
@@ -442,7 +442,7 @@ fn serve_ready<
         desk,
         pass,
         lines,
-        count,
+        lines_read,
         uids: _,
     } = ready;
     let Outside {
@@ -466,6 +466,6 @@ fn serve_ready<
         gate,
         done: &done,
     };
-    let left = serve_links(&shared, house, ticking, lines, input, count);
+    let left = serve_links(&shared, house, ticking, lines, input, lines_read);
     finish(alloc, desk, left, error_lines, output, errors)
 }

@@ -79,7 +79,12 @@ fn second_half(alloc: Global, text: &mut Vec<u8>, count: u32, first: u32) -> Res
 }
 
 /// Its transcript, where the reads answer the inputs with the values from these.
-fn told(alloc: Global, count: u32, first: u32, second: u32) -> Result<Vec<u8>, NoMemory> {
+fn transcript_of_halves(
+    alloc: Global,
+    count: u32,
+    first: u32,
+    second: u32,
+) -> Result<Vec<u8>, NoMemory> {
     let front = [SESSIONS.1.as_bytes(), LISTENS.1.as_bytes()];
     let mut text = joined(alloc, &front)?;
     first_half(alloc, &mut text, count, first)?;
@@ -98,7 +103,7 @@ fn the_last_inputs_are_kept(rt: HostRuntime) -> Result<(), Fail> {
     let cases = [(1, 1, 2), (64, 1, 65), (65, 2, 67), (130, 67, 197)];
     for (count, first, second) in cases {
         let recording = halves(alloc, count)?;
-        let transcript = told(alloc, count, first, second)?;
+        let transcript = transcript_of_halves(alloc, count, first, second)?;
         compare(
             &rt,
             alloc,

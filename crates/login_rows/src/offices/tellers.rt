@@ -8,16 +8,16 @@ use recording::entry_text;
 use std::alloc::Global;
 use std::process::Abort;
 
-/// What a teller told of its link so far.
+/// What a teller has told of its link so far.
 #[derive(Drop)]
-struct Told {
+struct HeardSoFar {
     replies: Vec<u8>,
     begins: usize,
     calls: Items<Request>,
     end: Option<LinkEnd>,
 }
 
-impl Told {
+impl HeardSoFar {
     /// Puts what a piece led to at the end.
     fn add(&mut self, heard: HeardPiece) -> Result<(), NoMemory> {
         let HeardPiece {
@@ -37,23 +37,23 @@ impl Told {
 }
 
 /// What a teller tells of what a client sent, in pieces of such a size.
-fn tell(alloc: Global, case: &Case, size: usize) -> Result<Told, NoMemory> {
+fn tell(alloc: Global, case: &Case, size: usize) -> Result<HeardSoFar, NoMemory> {
     let guid = Word::from_slice(alloc, b"0123456789abcdef0123456789abcdef")?;
     let mut teller = Teller::new(alloc, ConnId(2), Uid(1000), &guid)?;
     let mut sent = Vec::new(alloc);
     for part in case.sent {
         sent.extend_from_slice(part)?;
     }
-    let mut told = Told {
+    let mut so_far = HeardSoFar {
         replies: Vec::new(alloc),
         begins: 0,
         calls: Items::new(alloc),
         end: None,
     };
     for piece in sent.chunks(size.max(1)) {
-        told.add(teller.hear(alloc, piece)?)?;
+        so_far.add(teller.hear(alloc, piece)?)?;
     }
-    Ok(told)
+    Ok(so_far)
 }
 
 /// Whether these are the calls of these lines.
@@ -83,13 +83,13 @@ fn are_calls(alloc: Global, calls: Items<Request>, lines: &[&[u8]]) -> Result<bo
 
 /// Whether a teller tells what a case has, in pieces of such a size.
 fn is_told(alloc: Global, case: &Case, size: usize) -> Result<bool, NoMemory> {
-    let told = tell(alloc, case, size)?;
-    let Told {
+    let so_far = tell(alloc, case, size)?;
+    let HeardSoFar {
         replies,
         begins,
         calls,
         end,
-    } = told;
+    } = so_far;
     let same = replies.as_slice() == case.replies
         && begins == usize::from(case.begins)
         && end == case.end;

@@ -80,7 +80,7 @@ OpensNot before left _ = ⊥
 
 -- the lines through `go` were read, or it ended early
 abbrev pub Opens : Option (List ℕ) → Option (List ℕ) → Option (List ℕ) → Result Opening Early → Type 0
-Opens before after left (Ok opening) = WasSetUp before opening.setup opening.wrong opening.count after
+Opens before after left (Ok opening) = WasSetUp before opening.setup opening.wrong opening.lines_read after
 Opens before after left (Err early) = OpensNot before left early
 
 -- the same, of all of a text whose header was read

@@ -43,7 +43,7 @@ pub record SoFar (stage : Stage) (player : PlayerState) (number : ℕ) (all left
   pub stands : StandsBehind player played
   pub setup_is : player.office.core.setup ≡ setup_of preamble
   pub is_front : IsFront (record { stage = stage; preamble = preamble; played = played })
-  pub count : number ≡ length (lines_at stage preamble played)
+  pub number_is : number ≡ length (lines_at stage preamble played)
   pub read : WereRead all (lines_at stage preamble played) left
   pub wrote : Gains start held (text_at going preamble played)
 

@@ -35,5 +35,8 @@ returns-clause-gives g c =
     let r = c.new-run.ensures in
     c.play_all-played.ensures.gives _ (rw (r.player, r.number, r.lines, c.in_ok-player.ensures.setup) (rw all at c.in_ok-opening.ensures.gives))
 
+pub play_all-played-requires-clause-nothing : goal.play_all-played-requires-clause-nothing
+play_all-played-requires-clause-nothing g c = rw c.new-run.ensures.player c.in_ok-player.ensures.stands
+
 pub new-requires-2-clause-allowed : goal.new-requires-2-clause-allowed
 new-requires-2-clause-allowed g c = conf_allowed c.in_ok-opening.opening.setup c.in_ok-opening.opening.wrong c.in_ok-opening.ensures.from_texts

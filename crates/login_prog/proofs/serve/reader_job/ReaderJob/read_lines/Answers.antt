@@ -17,7 +17,7 @@ loop-number-preserved g c =
 pub returns-in-Err-clause-reads : goal.returns-in-Err-clause-reads
 returns-in-Err-clause-reads g c =
     let r = c.loop-number.invariant.read in
-    ends_behind c.in-Err.end c.args.self.now.count _ _ _ _ _ _ _ _ _ r.0 r.1 (rw r.2 at c.in-Err.ensures.reads)
+    ends_behind c.in-Err.end c.args.self.now.lines_read _ _ _ _ _ _ _ _ _ r.0 r.1 (rw r.2 at c.in-Err.ensures.reads)
 
 pub early_end-requires : goal.early_end-requires
 early_end-requires g c = past_may_end _ _ c.read_past.result c.read_past.ensures.gives
@@ -25,8 +25,8 @@ early_end-requires g c = past_may_end _ _ c.read_past.result c.read_past.ensures
 pub returns-clause-reads : goal.returns-clause-reads
 returns-clause-reads g c =
     let r = c.loop-number.invariant.read in
-    let all : c.args.self.now.count + length r.0 ≡ most_lines = omega (arith, r.2, c.loop-number-test.false) in
+    let all : c.args.self.now.lines_read + length r.0 ≡ most_lines = omega (arith, r.2, c.loop-number-test.false) in
     let e = c.read_past.result in
-    rw c.early_end.ensures (ends_behind (early_end e) c.args.self.now.count _ _ _ _ _ _ _ _ _ r.0 r.1
-    (line_ended (early_end e) (c.args.self.now.count + length r.0) _ _ None _ _ _ (past_ended (c.args.self.now.count + length r.0) _ None _ e all c.read_past.ensures.gives)
+    rw c.early_end.ensures (ends_behind (early_end e) c.args.self.now.lines_read _ _ _ _ _ _ _ _ _ r.0 r.1
+    (line_ended (early_end e) (c.args.self.now.lines_read + length r.0) _ _ None _ _ _ (past_ended (c.args.self.now.lines_read + length r.0) _ None _ e all c.read_past.ensures.gives)
     (early_faults e _ _ (past_may_end _ _ e c.read_past.ensures.gives) c.read_past.ensures.cause)))

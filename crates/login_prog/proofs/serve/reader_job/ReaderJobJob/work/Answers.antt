@@ -6,6 +6,6 @@ pub returns : goal.returns
 returns g c = record {
   related = record {
     desk = c.stop.ensures.desk ∙ c.read_lines-end.ensures.desk;
-    outcome = was_read c.read_lines-end.result c.args.self.count _ _ _ _ _ _ _ c.read_lines-end.ensures.reads c.stop.ensures.stops;
+    outcome = was_read c.read_lines-end.result c.args.self.lines_read _ _ _ _ _ _ _ c.read_lines-end.ensures.reads c.stop.ensures.stops;
   };
 }

@@ -1,6 +1,6 @@
 use Rattle.std.proofs.Common.{◌≡◌, length}
 use Rattle.replay.proofs.SaidSoFar.{IsSaid, unsaid_to}
-use Rattle.replay.proofs.telling.tell_all.Given as goal
+use Rattle.replay.proofs.telling.tell_each.Given as goal
 
 abbrev pub invariant-loop-who : goal.invariant-loop-who
 invariant-loop-who g l = record {
