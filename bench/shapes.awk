@@ -104,6 +104,7 @@ function step(i,  who) {
     else if (shape == "idle_hints") call(1, "idle c" (1 + i % beside) " " setting(int(i / beside) + 1))
     else if (shape == "next") call(1, "next seat0")
     else if (shape == "ends") { line("connect " (i + 3) " 1001"); line("disconnect " (i + 3)) }
+    else if (shape == "closings") { create(1, 0); call(1, "close " sessions); line("exit c" sessions) }
     else if (shape == "own_lock") call(2, "lock c1")
     else if (shape == "stranger") call(3, "lock c1")
     else { print "no shape " shape >"/dev/stderr"; exit 1 }
