@@ -116,9 +116,11 @@ impl LineText {
     pub(crate) fn microseconds(&mut self, n: u64) -> Result<(), NoMemory>
         ensures { OnOk result (self.new ≡ self.old ++ decimal (n * 1000)) }
     {
-        let number = u128::from(n) * 1000;
-        let digits = format!(in self.alloc(); "{number}")?;
-        self.push(digits.as_bytes())
+        self.decimal(n)?;
+        if n == 0 {
+            return Ok(());
+        }
+        self.push(b"000")
     }
 
     /// Adds a space and a signed number in decimal.
