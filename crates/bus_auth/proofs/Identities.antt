@@ -7,13 +7,14 @@ use Rattle.std.specs.Option.{option_eq}
 use Rattle.std.specs.Fmt.{decimal}
 use Rattle.std.specs.Result.{result_unwrap_or}
 use Rattle.std.specs.Str.Parse.{IsNumeral, digits_value}
-use Rattle.std.proofs.lemmas.Fmt.{decimal_is_IsNumeral, length-decimal-le}
+use Rattle.std.proofs.lemmas.Fmt.{decimal_is_IsNumeral}
 use Rattle.std.proofs.lemmas.Str.Parse.{digit_at}
 use Rattle.hex.specs.Hex.{IsBytes, decode_pairs, decode_sized, digit_or_error, hex_digit_value, encode_lower, encode_with, lower_digits, pair_value, ◌>>=◌}
 use Rattle.hex.specs.declared.error.FromHexError.{FromHexError}
 use Rattle.hex.proofs.HexLemmas.{IsDigits-lower_digits, length-encode_with, decode_of-even, decode_sized-ok, decode_sized-twice, decode_sized-encode_lower}
 use Rattle.login_base.specs.Number.{number_of}
 use Rattle.login_base.proofs.Numbers.{number_of-decimal, number_of_is}
+use Rattle.login_base.proofs.Decimals.{decimal_short}
 
 -- a digit of hex below ten is a digit of ten
 small_digit : (c v : ℕ) → hex_digit_value c ≡ Some v → v < 10 → c ≡ 48 + v
@@ -99,7 +100,7 @@ identity_read text count n digits e read =
 pub identity_short : (n : ℕ) → n < 2 ^ 32 → length (encode_lower (decimal n)) / 2 ≤ 10
 identity_short n small =
     let len = length-encode_with lower_digits (decimal n) in
-    let short = length-decimal-le 10 n (omega arith) (omega arith) (omega arith) in
+    let short = decimal_short n (omega arith) in
     omega (arith, len, short)
 
 -- a number's identity decodes to its digits

@@ -26,7 +26,7 @@ use Rattle.bus_value.specs.Numbers.{number_bytes, number}
 use Rattle.bus_value.specs.Spelling.{pad_size, padding, text_bytes, signature_bytes, basic_bytes, basic_spelling}
 use Rattle.bus_value.specs.Alignment.{alignment}
 use Rattle.bus_value.specs.BasicReading.{size, text_size, signature_size, whole, body_size, ends_with_zero, text_in, text_at, path_by, path_at, types_by, types_in, bool_by, decoded}
-use Rattle.bus_value.specs.Texts.{is_text}
+use Rattle.login_base.specs.Texts.{is_text}
 use Rattle.bus_value.specs.Reading.{Reading, Answer, made, padded, read_body, read_basic}
 use Rattle.bus_value.proofs.Typing.{IsLegal}
 use Rattle.bus_value.specs.Faults.{reported, cut_off, and_then, zeros, check_padding, short_padding}

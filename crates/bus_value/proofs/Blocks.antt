@@ -7,7 +7,7 @@ use Rattle.std.proofs.lemmas.Simd.{length-zip2, mask_l-mod}
 use Rattle.std.proofs.lemmas.Str.{IsUtf8-from_is_utf8, is_utf8-from_IsUtf8}
 use lib.Lanes.{zip2, mask_l, top}
 use Rattle.simdutf8.proofs.StepsLemmas.{IsUtf8-append_ascii, IsAscii-replicate}
-use Rattle.bus_value.specs.Texts.{has_no_zero, is_text}
+use Rattle.login_base.specs.Texts.{has_no_zero, is_text}
 
 abbrev pub equals : ℕ → ℕ → ℕ
 equals a b = cond (eqb a b) 255 0

@@ -18,7 +18,7 @@ use Rattle.bus_value.specs.Values.{Val, vals, entries}
 use Rattle.bus_value.specs.Values as values
 use Rattle.bus_value.specs.Numbers.{number}
 use Rattle.bus_value.specs.Spelling.{pad_size, spelling, value_at, pair_bytes}
-use Rattle.bus_value.specs.Texts.{is_text}
+use Rattle.login_base.specs.Texts.{is_text}
 use Rattle.bus_value.specs.Alignment.{alignment, boundary}
 use Rattle.bus_value.specs.BasicReading.{size, whole, body_size, text_in, ends_with_zero, text_at, path_by, path_at, types_by, types_in, bool_by, decoded}
 use Rattle.bus_value.specs.Reading.{Reading, Answer, made, padded, read_body, read_basic, read_variant, read_array, read_elements, read_pair, element_bytes, read, read_entry, all_of, to_end, in_turn, variant_type, levels, ended, read_all}

@@ -13,7 +13,7 @@ use Rattle.bus_value.specs.BasicValues.{kind_of}
 use Rattle.bus_value.specs.Values.{Val, Vals, Entries, basic, array, struct, dict, variant, none, more, no_entries, entry, shape, shapes, vals}
 use Rattle.bus_value.specs.Spelling.{pad_size, first_element, spelling, spellings, entry_spellings, signature_bytes, pair_bytes, value_at}
 use Rattle.bus_value.specs.Alignment.{boundary}
-use Rattle.bus_value.specs.Texts.{is_text}
+use Rattle.login_base.specs.Texts.{is_text}
 use Rattle.bus_value.specs.Nesting.{nesting}
 
 -- a value is one of its type

@@ -14,7 +14,7 @@ use Rattle.bus_value.specs.declared.fault.ValueFault.TheVariants.{BadBool, BadTe
 use Rattle.bus_value.specs.declared.order.Order.{Order}
 use Rattle.bus_value.specs.Faults.{reported, cut_off, and_then}
 use Rattle.bus_value.specs.Numbers.{number}
-use Rattle.bus_value.specs.Texts.{is_text}
+use Rattle.login_base.specs.Texts.{is_text}
 
 -- how many bytes a text has, with its length and the zero byte behind it, where its length is there
 abbrev pub text_size : Order → List ℕ → Option ℕ

@@ -17,7 +17,7 @@ use Rattle.bus_value.specs.Alignment.{alignment, boundary}
 use Rattle.bus_value.specs.Limits.{most_open}
 use Rattle.bus_value.specs.Nesting.{nesting}
 use Rattle.bus_value.specs.Numbers.{number_bytes}
-use Rattle.bus_value.specs.Texts.{is_text}
+use Rattle.login_base.specs.Texts.{is_text}
 
 -- from an offset on, zero bytes up to the next multiple of the boundary
 pub record IsPadding (at align : ℕ) (zeros : List ℕ) : Type 0 where

@@ -13,7 +13,6 @@ pub mod Answers
 pub mod Held
 pub mod Nesting
 pub mod Numbers
-pub mod Texts
 pub mod Grammar
 pub mod Lengths
 pub mod Typed

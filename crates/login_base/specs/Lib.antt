@@ -7,3 +7,4 @@ pub mod Room
 pub mod Names
 pub mod Hex
 pub mod Labels
+pub mod Texts

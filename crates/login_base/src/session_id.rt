@@ -3,6 +3,7 @@
 ghost use Rattle.std.specs.Prelude.{◌≡◌, IfOk};
 ghost use Rattle.login_base.specs.SessionId.{session_text, session_of};
 
+use crate::decimal::append_decimal;
 use crate::ids::SessId;
 use crate::memory::NoMemory;
 use crate::number::read_number;
@@ -14,9 +15,9 @@ impl SessId {
     pub fn text(&self, alloc: Global) -> Result<Word, NoMemory>
         ensures { IfOk result (λ word. word ≡ session_text self.now) }
     {
-        let number = self.0;
-        let text = format!(in alloc; "c{number}")?;
-        Word::from_slice(alloc, text.as_bytes())
+        let mut text = Vec::from_slice(alloc, b"c")?;
+        append_decimal(&mut text, u64::from(self.0))?;
+        Ok(Word::from_vec(text))
     }
 
     /// The session whose id the text is.

@@ -5,7 +5,7 @@ use Rattle.login_base.specs.declared.ids.Millis.{Millis}
 use Rattle.login_model.specs.declared.conf.KeyAction.{KeyAction}
 use Rattle.login_model.specs.declared.conf.Conf.{Conf}
 use Rattle.login_model.specs.Conf.{default_conf}
-use Rattle.login_model.specs.Limits.{allowed_limit}
+use Rattle.login_model.specs.Limits.{allowed_limit, last_terminal}
 use Rattle.login_conf.specs.declared.key.Key.{Key}
 use Rattle.login_conf.specs.declared.key.Key.TheVariants.{Number, Span, Action, Flag}
 use Rattle.login_conf.specs.declared.key.NumberKey.{NumberKey}
@@ -23,7 +23,7 @@ use Rattle.login_conf.specs.Spans.{span_of, span}
 
 -- the greatest number that a key can have
 abbrev pub most_number : NumberKey → ℕ
-most_number AutoVts = 63
+most_number AutoVts = last_terminal
 most_number SessionsMax = allowed_limit
 most_number InhibitorsMax = allowed_limit
 

@@ -287,7 +287,7 @@ entry-switched U t e ms n u s w d z b all = record {
   awaited = w.between.awaits;
   completes = λ a none named. b.vt ∙ completing U t e (direct U e t) n s d z a (λ i. none-waits u none (b.waits i)) named;
   sets = λ k x i. all-at (SetsAs (MaySet t e u)) ms k (Set key.Vt x) (all (MaySet t e u) (may-set U t e n u s d z b.back)) i;
-  only = λ moved. (let i = moving U t e n s d z (λ x. moved (b.vt ∙ x)) in
+  terminal_changes = λ moved. (let i = moving U t e n s d z (λ x. moved (b.vt ∙ x)) in
       (waits-not u (λ x. i.0 (b.back x)), elim i.1 [ inl x ↦ inl (x.0, x.1, b.vt ∙ x.2) | inr x ↦ inr (x.0, x.1, b.vt ∙ x.2) ]));
 }
 
@@ -320,7 +320,7 @@ step-switched U before e (Denied r) q l s w = record {
       let none : e.marks ≡ [] = one-marks t e.marks [] (subst P (sym q) l.marks_are) in
       let Q : List Mark → Type 0 = λ ms. IsAt n ms (Set key.Vt x) in
       subst Q none i);
-  only = λ moved. absurd (moved refl);
+  terminal_changes = λ moved. absurd (moved refl);
 }
 
 pub switched : (U : Setup) (journal : List Entry) (e : Entry) → IsLegal U journal → IsLegalEntry U journal e → IsSwitched U (trail_of journal) e.event e.marks (after (trail_of journal) e.marks)

@@ -46,6 +46,6 @@ pub record IsSwitched (U : Setup) (before : Trail) (e : Event) (marks : List Mar
   pub sets : (n : ℕ) (x : Fact) → IsAt n marks (Set key.Vt x) → MaySet before e now x
   -- so the terminal changes in no other entry: in one that ends the last pause, unless it asks for the current terminal, or
   -- where another is asked for and nothing has to be awaited
-  pub only : (value now key.Vt ≡ value before key.Vt → ⊥) → (is_awaiting now ≡ false)
+  pub terminal_changes : (value now key.Vt ≡ value before key.Vt → ⊥) → (is_awaiting now ≡ false)
       × (((is_awaiting before ≡ true) × (asked_vt before e ≡ Some (current_vt before) → ⊥) × (value now key.Vt ≡ value before key.Pending))
       ⊎ ((v : ℕ) × AsksOther before e v × (value now key.Vt ≡ fact.Number v)))

@@ -1,7 +1,6 @@
 -- Elements of paths, and what stands behind the fronts of paths.
 use Rattle.std.proofs.Common.{◌≡◌, ℕ, suc, ◌+◌, ◌<◌, ◌≤◌, ◌==◌, nat_le, codes, Bool, true, false, cond, ◌&&◌, ◌||◌, Option, Some, None, Result, Ok, Err, IfOk, List, [], ◌∷◌, ◌++◌, length, take, drop, refl, sym, ap, ◌∙◌, arith}
 use Rattle.std.proofs.lemmas.Bool.Decides.{nat_tests}
-use Rattle.std.proofs.lemmas.Fmt.{length-decimal-le}
 use Rattle.std.proofs.lemmas.List.{length-append, length-take-le, take-append-drop}
 use Rattle.std.proofs.lemmas.Slice.Eq.{bytes_eq-Decides}
 use Rattle.std.specs.Fmt.{decimal}
@@ -11,6 +10,7 @@ use Rattle.std.specs.Str.{bytes_eq}
 use Rattle.login_base.specs.Number.{number_of}
 use Rattle.login_base.specs.Seat.{is_seat_byte, is_seat_name}
 use Rattle.login_base.specs.SessionId.{session_of}
+use Rattle.login_base.proofs.Decimals.{decimal_short}
 use Rattle.login_base.proofs.Numbers.{number_of_none}
 use Rattle.login_model.specs.Objects.{begins, behind, decoded, is_label, is_number, is_object, seat_at, session_at}
 use Rattle.login_model.specs.Paths.{seat_front, session_front, user_front}
@@ -27,7 +27,7 @@ longer bytes element rest after size b n s e f =
 
 no_long_number : (digits : List ℕ) → 254 < length digits → number_of digits ≡ None
 no_long_number digits h =
-    number_of_none digits (λ n small w. let l : length (decimal n) ≤ 10 = length-decimal-le 10 n (omega arith) (omega arith) (omega arith) in
+    number_of_none digits (λ n small w. let l : length (decimal n) ≤ 10 = decimal_short n (omega arith) in
     let k : length digits ≡ length (decimal n) = ap length w in omega (arith, l, h, k))
 
 no_long_id : (text : List ℕ) → 255 < length text → session_of text ≡ None

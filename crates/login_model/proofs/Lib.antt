@@ -6,6 +6,5 @@ pub mod WordLaws
 pub mod FactLaws
 pub mod Values
 pub mod HeldValue
-pub mod Cuts
 pub mod Joined
 pub mod Elements

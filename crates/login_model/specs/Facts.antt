@@ -325,6 +325,11 @@ abbrev pub is_device_fact : Fact → Bool
 is_device_fact (fact.Device kind seat) = true
 is_device_fact _ = false
 
+-- the seat of a graphics device
+abbrev pub graphics_seat : Fact → Option (List ℕ)
+graphics_seat (fact.Device Drm seat) = Some seat
+graphics_seat _ = None
+
 -- a device on a seat, if that is one
 abbrev pub is_device_on : Option (List ℕ) → Fact → Bool
 is_device_on seat (fact.Device kind name) = is_this_seat name seat

@@ -3,6 +3,8 @@ use Rattle.std.specs.Prelude.{ℕ, ◌+◌, if◌then◌else◌, [], ◌∷◌}
 use Rattle.login_base.specs.declared.ids.SessId.{SessId}
 use Rattle.login_base.specs.declared.ids.HandleNo.{HandleNo}
 use Rattle.login_base.specs.declared.ids.LockNo.{LockNo}
+use Rattle.login_model.specs.declared.fact.Fact.{Fact}
+use Rattle.login_model.specs.declared.fact.Key.{Key}
 use Rattle.login_model.specs.declared.fact.Key.TheVariants.{Sess, Owner, Lock}
 use Rattle.login_model.specs.declared.mark.Mark.TheVariants.{Set}
 use Rattle.login_model.specs.Trail.{Trail}
@@ -26,6 +28,11 @@ unfoldable pub fresh_lock : Trail → ℕ
 fresh_lock [] = 1
 fresh_lock (Set (Lock l) x ∷ t) = if is_lock_fact x then fresh_lock t + 1 else fresh_lock t
 fresh_lock (m ∷ t) = fresh_lock t
+
+-- how many handles a setting gives out
+abbrev pub gives : Key → Fact → ℕ
+gives (Owner h) x = if is_owned_fact x then 1 else 0
+gives _ x = 0
 
 abbrev pub next_session : Trail → SessId
 next_session t = record { 0 = fresh_session t }

@@ -43,15 +43,15 @@ connected_after U t e = length (connections t)
 abbrev pub entries_needed : Setup → List Entry → Event → ℕ
 entries_needed U before e = length before + connected_after U (trail_of before) e + 2
 
--- the marks that are left beside these sums
-abbrev pub marks_spare : ℕ
-marks_spare = 64
+-- what is kept for marks beside the sums over what stands
+abbrev pub marks_in_reserve : ℕ
+marks_in_reserve = 64
 
 -- the marks with those that the event and all ends may make, counted before it
 abbrev pub marks_needed : Trail → ℕ → ℕ
 marks_needed t marks =
     marks + length (connections t) + length (controlled_sessions t) + 4 * length (locks t) + 4 * length (open_sessions t)
-    + 32 * taken_count t + 8 * length (sessions t) + 4 * length (users t) + marks_spare
+    + 32 * taken_count t + 8 * length (sessions t) + 4 * length (users t) + marks_in_reserve
 
 -- the first count that is above its limit
 abbrev pub over : ℕ → (ℕ → Count) → ℕ → Option Count → Option Count

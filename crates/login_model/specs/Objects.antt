@@ -1,13 +1,13 @@
 -- The objects that have properties: their paths, what these name, and their interfaces (org.freedesktop.login1(5)).
-use Rattle.std.specs.Prelude.{ℕ, ◌+◌, ◌*◌, ◌==◌, ◌&&◌, ◌||◌, not, Bool, true, if◌then◌else◌, Option, Some, None, Result, Ok, Err, List, [], ◌∷◌, length, take, drop, codes}
-use Rattle.std.specs.List.{list_all}
+use Rattle.std.specs.Prelude.{ℕ, ◌+◌, ◌*◌, ◌==◌, ◌&&◌, ◌||◌, Bool, true, if◌then◌else◌, Option, Some, None, Result, Ok, Err, List, [], ◌∷◌, length, take, drop, codes}
 use Rattle.std.specs.Option.{is_some, option_map}
-use Rattle.std.specs.Str.{bytes_eq, is_utf8}
+use Rattle.std.specs.Str.{bytes_eq}
 use Rattle.login_base.specs.Hex.{hex_value}
 use Rattle.login_base.specs.Labels.{escape}
 use Rattle.login_base.specs.Number.{number_of}
 use Rattle.login_base.specs.Seat.{is_seat_name}
 use Rattle.login_base.specs.SessionId.{session_of}
+use Rattle.login_base.specs.Texts.{is_text}
 use Rattle.login_model.specs.declared.object.Object.{Object}
 use Rattle.login_model.specs.declared.object.Object.TheVariants.{Manager, Session, Seat, User}
 use Rattle.login_model.specs.declared.rule.Rule.{Rule}
@@ -23,13 +23,6 @@ decoded [] = []
 decoded (a ∷ []) = if a == 95 then [] else a ∷ []
 decoded (a ∷ b ∷ []) = a ∷ decoded (b ∷ [])
 decoded (a ∷ b ∷ c ∷ rest) = if a == 95 then (16 * hex_value b + hex_value c) ∷ decoded rest else a ∷ decoded (b ∷ c ∷ rest)
-
-abbrev pub has_no_zero : List ℕ → Bool
-has_no_zero text = list_all (λ b. not (b == 0)) text
-
--- UTF-8 without NUL
-abbrev pub is_text : List ℕ → Bool
-is_text text = is_utf8 text && has_no_zero text
 
 -- an element of a path that is the escape of a text
 abbrev pub is_label : List ℕ → Bool

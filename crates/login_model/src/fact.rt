@@ -115,6 +115,20 @@ pub enum Fact {
     Operation(Operation),
 }
 
+impl Key {
+    ghost use Rattle.login_model.specs.Fresh.{gives};
+
+    /// How many handles a setting of the key to this fact gives out.
+    pub fn gives(&self, fact: &Fact) -> u32
+        ensures { result ≡ gives self.now fact.now }
+    {
+        match self {
+            Key::Owner(_) => u32::from(fact.is_owned()),
+            _ => 0,
+        }
+    }
+}
+
 /// Whether a session is an open one of seat0 on the terminal that the fact names.
 fn is_session_on(session: &Session, terminal: &Fact) -> bool
     ensures { result ≡ is_on_terminal terminal.now (FactValue.Session session.now) }
@@ -132,7 +146,7 @@ fn is_session_on(session: &Session, terminal: &Fact) -> bool
 
 /// What a fact says. Each call answers None, no or 0 of a fact of another kind.
 impl Fact {
-    ghost use Rattle.login_model.specs.Facts.{is_absent, client_in, is_connected_fact, is_client_of, client_or, session_in_fact, is_session_fact, is_open_fact, is_closing_fact, user_or_root, is_session_of, seat_in_fact, vt_in, fifo_in, leader_in, is_open_of, is_other_user, is_seated_of, is_on_terminal, is_set, controller_in, is_controlled_fact, is_controller_fact, is_known, is_user_fact, is_overdue_fact, owner_in, is_owned_fact, holder_in, is_fifo_of, fifo_session, handle_device, handle_in, is_handle_fact, is_this_handle, is_seat_fact, active_in, is_acting_fact, number_in_fact, number_or_zero, is_number_fact, is_this_number, moment_in_fact, moment_or_zero, device_kind_in, is_device_fact, lock_in_fact, is_lock_fact, is_lock_of, holds_back, handles_key, inhibited_in, operation_in, under_way_in, running_in};
+    ghost use Rattle.login_model.specs.Facts.{is_absent, client_in, is_connected_fact, is_client_of, client_or, session_in_fact, is_session_fact, is_open_fact, is_closing_fact, user_or_root, is_session_of, seat_in_fact, vt_in, fifo_in, leader_in, is_open_of, is_other_user, is_seated_of, is_on_terminal, is_set, controller_in, is_controlled_fact, is_controller_fact, is_known, is_user_fact, is_overdue_fact, owner_in, is_owned_fact, holder_in, is_fifo_of, fifo_session, handle_device, handle_in, is_handle_fact, is_this_handle, is_seat_fact, active_in, is_acting_fact, number_in_fact, number_or_zero, is_number_fact, is_this_number, moment_in_fact, moment_or_zero, device_kind_in, is_device_fact, graphics_seat, lock_in_fact, is_lock_fact, is_lock_of, holds_back, handles_key, inhibited_in, operation_in, under_way_in, running_in};
 
     /// Whether nothing is there.
     pub fn is_absent(&self) -> bool
@@ -572,6 +586,16 @@ impl Fact {
         ensures { result ≡ is_device_fact self.now }
     {
         matches!(self, Fact::Device(_, _))
+    }
+
+    /// The seat of a graphics device that is present.
+    pub fn graphics_seat(&self) -> Option<SeatName>
+        ensures { result ≡ graphics_seat self.now }
+    {
+        match self {
+            Fact::Device(DevKind::Drm, seat) => Some(*seat.get()),
+            _ => None,
+        }
     }
 
     /// A lock that stands.

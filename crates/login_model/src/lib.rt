@@ -19,6 +19,7 @@ mod look;
 mod mark;
 mod object;
 mod operation;
+mod paths;
 mod property;
 mod rule;
 mod same;
@@ -46,6 +47,10 @@ pub use look::Look;
 pub use mark::{Entry, Mark, Notice, PauseKind, Whom};
 pub use object::{Object, is_object, named_object};
 pub use operation::{OpKind, Operation};
+pub use paths::{
+    MANAGER_INTERFACE, MANAGER_PATH, SEAT_FRONT, SEAT_INTERFACE, SESSION_FRONT, SESSION_INTERFACE,
+    USER_FRONT, USER_INTERFACE,
+};
 pub use property::{
     ManagerProperty, Property, PropertyRow, PropertyValue, SeatProperty, SessionProperty,
     UserProperty,

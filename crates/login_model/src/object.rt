@@ -1,22 +1,16 @@
 // The objects that have properties, and their paths (org.freedesktop.login1(5)).
 
 ghost use Rattle.std.specs.Prelude.{◌≡◌, ◌≤◌, ◌<◌, ◌∷◌, [], IfOk, IfSome, IsNone, MatchOption, length, take};
-ghost use Rattle.std.specs.Str.{is_utf8};
-ghost use Rattle.login_model.specs.Objects.{decoded, has_no_zero, is_label, is_object, is_text, named_object, seat_at, session_at, user_at};
+ghost use Rattle.login_model.specs.Objects.{decoded, is_label, is_object, named_object, seat_at, session_at, user_at};
 
+use crate::paths::{
+    MANAGER_INTERFACE, MANAGER_PATH, SEAT_FRONT, SEAT_INTERFACE, SESSION_FRONT, SESSION_INTERFACE,
+    USER_FRONT, USER_INTERFACE,
+};
 use crate::property::{ManagerProperty, SeatProperty, SessionProperty, UserProperty};
 use crate::rule::Rule;
-use login_base::{NoMemory, SeatName, SessId, Uid, escape, hex_value, read_number};
+use login_base::{NoMemory, SeatName, SessId, Uid, escape, hex_value, is_text, read_number};
 use std::alloc::Global;
-use std::str;
-
-const MANAGER: &[u8] = b"/org/freedesktop/login1";
-
-const SESSIONS: &[u8] = b"/org/freedesktop/login1/session/";
-
-const SEATS: &[u8] = b"/org/freedesktop/login1/seat/";
-
-const USERS: &[u8] = b"/org/freedesktop/login1/user/_";
 
 /// The longest name of a seat, in bytes. No session's id is longer.
 const LONGEST_NAME: usize = 255;
@@ -39,10 +33,10 @@ impl Object {
         ensures { result.now ≡ own_interface self.now }
     {
         match self {
-            Object::Manager => b"org.freedesktop.login1.Manager",
-            Object::Session(_) => b"org.freedesktop.login1.Session",
-            Object::Seat(_) => b"org.freedesktop.login1.Seat",
-            Object::User(_) => b"org.freedesktop.login1.User",
+            Object::Manager => MANAGER_INTERFACE,
+            Object::Session(_) => SESSION_INTERFACE,
+            Object::Seat(_) => SEAT_INTERFACE,
+            Object::User(_) => USER_INTERFACE,
         }
     }
 
@@ -156,38 +150,17 @@ fn user_at(digits: &[u8]) -> Option<Object>
 pub fn named_object(path: &[u8]) -> Result<Object, Rule>
     ensures { result ≡ named_object path.now }
 {
-    if path == MANAGER {
+    if path == MANAGER_PATH {
         Ok(Object::Manager)
-    } else if let Some(element) = path.strip_prefix(SESSIONS) {
+    } else if let Some(element) = path.strip_prefix(SESSION_FRONT) {
         session_at(element).ok_or(Rule::NoSuchSession)
-    } else if let Some(element) = path.strip_prefix(SEATS) {
+    } else if let Some(element) = path.strip_prefix(SEAT_FRONT) {
         seat_at(element).ok_or(Rule::NoSuchSeat)
-    } else if let Some(digits) = path.strip_prefix(USERS) {
+    } else if let Some(digits) = path.strip_prefix(USER_FRONT) {
         user_at(digits).ok_or(Rule::NoSuchUser)
     } else {
         Err(Rule::UnknownObject)
     }
-}
-
-/// Whether a text is UTF-8.
-fn is_utf8(text: &[u8]) -> bool
-    ensures { result ≡ is_utf8 text.now }
-{
-    str::from_utf8(text).is_ok()
-}
-
-/// Whether no byte is NUL.
-fn has_no_zero(text: &[u8]) -> bool
-    ensures { result ≡ has_no_zero text.now }
-{
-    text.iter().all(|byte| *byte != 0)
-}
-
-/// Whether a text is UTF-8 without NUL.
-fn is_text(text: &[u8]) -> bool
-    ensures { result ≡ is_text text.now }
-{
-    is_utf8(text) && has_no_zero(text)
 }
 
 /// Whether an element is the escape of a text.
@@ -206,13 +179,13 @@ fn is_label(alloc: Global, element: &[u8]) -> Result<bool, NoMemory>
 pub fn is_object(alloc: Global, path: &[u8]) -> Result<bool, NoMemory>
     ensures { IfOk result (λ is. is ≡ is_object path.now) }
 {
-    if path == MANAGER {
+    if path == MANAGER_PATH {
         Ok(true)
-    } else if let Some(element) = path.strip_prefix(SESSIONS) {
+    } else if let Some(element) = path.strip_prefix(SESSION_FRONT) {
         is_label(alloc, element)
-    } else if let Some(element) = path.strip_prefix(SEATS) {
+    } else if let Some(element) = path.strip_prefix(SEAT_FRONT) {
         is_label(alloc, element)
-    } else if let Some(digits) = path.strip_prefix(USERS) {
+    } else if let Some(digits) = path.strip_prefix(USER_FRONT) {
         Ok(read_number(digits).is_some())
     } else {
         Ok(false)

@@ -1,6 +1,6 @@
 -- The text of a table: each line says what the policy says to one action, and no line of an action means
 -- its default. A line has the action's name and three cells.
-use Rattle.std.specs.Prelude.{ℕ, ◌≡◌, ◌+◌, ◌==◌, Bool, List, [], ◌∷◌, ◌++◌, length, codes, map, Option, Some, None, Result, Ok, Err, if◌then◌else◌}
+use Rattle.std.specs.Prelude.{ℕ, ◌≡◌, ◌+◌, ◌==◌, Bool, List, [], ◌∷◌, ◌++◌, length, map, Option, Some, None, Result, Ok, Err, if◌then◌else◌}
 use Rattle.std.specs.List.{slice_split, list_any, flat_map}
 use Rattle.std.specs.Option.{option_map, option_and_then, option_or}
 use Rattle.std.specs.Str.{bytes_eq}
@@ -10,15 +10,16 @@ use Rattle.login_model.specs.declared.table.Say.TheVariants.{Yes, No, Challenge}
 use Rattle.login_model.specs.declared.table.Row.{Row}
 use Rattle.login_model.specs.Action.{actions, first_named, place}
 use Rattle.login_model.specs.Table.{cells, default_table, with_row}
+use Rattle.login_model.specs.Words.{say_word}
 use Rattle.login_policy.specs.declared.fault.TableFault.{TableFault}
 use Rattle.login_policy.specs.declared.fault.TableFault.TheVariants.{BadLine, UnknownAction, Repeated, NoMemory}
 
 -- what a cell says
 abbrev pub say_named : List ℕ → Option Say
 say_named word =
-    if bytes_eq word (codes "yes") then Some Yes
-    else if bytes_eq word (codes "no") then Some No
-    else if bytes_eq word (codes "challenge") then Some Challenge
+    if bytes_eq word (say_word Yes) then Some Yes
+    else if bytes_eq word (say_word No) then Some No
+    else if bytes_eq word (say_word Challenge) then Some Challenge
     else None
 
 -- the row of three cells

@@ -1,6 +1,6 @@
 // How the text of a table is read.
 
-ghost use Rattle.std.specs.Prelude.{◌≡◌, ◌<◌, ◌+◌, ◌^◌, ◌++◌, ◌∷◌, ◌==◌, [], IfOk, MatchOption, Some, map, length, position};
+ghost use Rattle.std.specs.Prelude.{◌≡◌, ◌<◌, ◌+◌, ◌^◌, ◌++◌, ◌∷◌, ◌==◌, [], IfOk, Some, map};
 ghost use Rattle.std.specs.List.{slice_split, list_any};
 ghost use Rattle.std.specs.Option.{option_map};
 ghost use Rattle.login_model.specs.Action.{place};
@@ -9,7 +9,7 @@ ghost use Rattle.login_policy.specs.Reading.{Saying, saying, say_named, row_name
 ghost use Rattle.login_policy.specs.inner.UnderWay.{Takes};
 
 use crate::fault::TableFault;
-use login_base::Items;
+use login_base::{Items, first_line};
 use login_model::{Action, Row, Say, Table};
 use std::alloc::{AllocError, Global};
 
@@ -121,24 +121,6 @@ impl Reader {
             Some((name, row)) => self.give(name, row),
             None => Err(TableFault::BadLine(self.number)),
         }
-    }
-}
-
-/// The place of the first line feed.
-fn line_end(text: &[u8]) -> Option<usize>
-    ensures { result ≡ position (λ b. b == 10) text.now }
-{
-    text.iter().position(|byte| *byte == b'\n')
-}
-
-/// The first line of a text, if a line feed ends it, and what stands behind that.
-fn first_line(text: &[u8]) -> Option<(&[u8], &[u8])>
-    ensures cases { MatchOption result (slice_split (λ b. b == 10) text.now ≡ text.now ∷ [])
-        (λ cut. (slice_split (λ b. b == 10) text.now ≡ cut.0.now ∷ slice_split (λ b. b == 10) cut.1.now) × (length cut.1.now < length text.now)) }
-{
-    match line_end(text) {
-        Some(end) => Some((&text[..end], &text[end + 1..])),
-        None => None,
     }
 }
 

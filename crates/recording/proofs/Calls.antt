@@ -7,6 +7,7 @@ use Rattle.std.specs.Str.{bytes_eq}
 use Rattle.login_base.specs.declared.ids.Uid.{Uid}
 use Rattle.login_base.specs.declared.ids.HandleNo.{HandleNo}
 use Rattle.login_base.specs.declared.ids.DevNo.{DevNo}
+use Rattle.login_base.proofs.Decimals.{decimal_short}
 use Rattle.login_model.specs.declared.call.Creation.{Creation}
 use Rattle.login_model.specs.declared.call.Inhibition.{Inhibition}
 use Rattle.login_model.specs.declared.call.Call.{Call}
@@ -23,7 +24,7 @@ use Rattle.recording.specs.inner.Arguments.{users, devices, properties, inhibiti
 use Rattle.recording.specs.inner.CallReadings.{handles, manager_call_of, session_call_of, seat_call_of, other_call_of, call_of}
 use Rattle.recording.specs.inner.CallWords.{purpose_words, place_words}
 use Rattle.recording.proofs.Arguments.{IsWord, AreWords, Agrees, IsReading, pair_reading, made_reading, read_again, number, text, flag, signed, operation, RowIs, row, alone_row, no_row}
-use Rattle.recording.proofs.Lengths.{size, decimal_short, spell_text_short, spell_flag_short, signed_short, operation_short}
+use Rattle.recording.proofs.Lengths.{size, spell_text_short, spell_flag_short, signed_short, operation_short}
 
 -- the words, the numbers and the texts of a call
 pub record CallIs (call : Call) (words : List (List ℕ)) : Type 0 where

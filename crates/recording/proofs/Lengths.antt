@@ -1,10 +1,10 @@
 -- How long spelled words are.
-use Rattle.std.proofs.Common.{◌≡◌, ℕ, ℤ, pos, negsuc, suc, ◌+◌, ◌*◌, ◌<◌, ◌≤◌, ◌^◌, List, [], ◌∷◌, ◌++◌, length, length-append, refl, arith, Bool, true, false}
+use Rattle.std.proofs.Common.{◌≡◌, ℕ, ℤ, pos, negsuc, suc, ◌+◌, ◌*◌, ◌≤◌, List, [], ◌∷◌, ◌++◌, length, length-append, refl, arith, Bool, true, false}
 use Rattle.std.specs.Prelude.{FitsSigned}
-use Rattle.std.specs.Fmt.{decimal, signed_decimal}
+use Rattle.std.specs.Fmt.{signed_decimal}
 use Rattle.std.specs.Int.{w32}
 use Rattle.std.specs.List.{join_with_byte, flat_map}
-use Rattle.std.proofs.lemmas.Fmt.{length-decimal-le}
+use Rattle.login_base.proofs.Decimals.{decimal_short}
 use Rattle.login_model.specs.declared.operation.OpKind.{OpKind}
 use Rattle.login_model.specs.declared.operation.OpKind.TheVariants as kind
 use Rattle.login_model.specs.Texts.{IsText}
@@ -21,9 +21,6 @@ pub join_short : (ws : List (List ℕ)) → length (join_with_byte 32 ws) ≤ si
 join_short [] = omega arith
 join_short (w ∷ []) = omega arith
 join_short (w ∷ v ∷ vs) = let h = join_short (v ∷ vs) in simp length-append (omega arith)
-
-pub decimal_short : (n : ℕ) → n < 2 ^ 32 → length (decimal n) ≤ 10
-decimal_short n small = length-decimal-le 10 n (omega arith) (omega arith) (omega arith)
 
 spell_byte_short : (b : ℕ) (rest : List ℕ) → length (spell_byte b ++ rest) ≤ 3 + length rest
 spell_byte_short b rest = by (stands b) refl

@@ -1,14 +1,13 @@
 -- The spellings of lines: where their words part, that no line feed stands in them, and how long they are.
-use Rattle.std.proofs.Common.{◌≡◌, ℕ, subst, ◌<◌, ◌≤◌, ◌^◌, List, [], ◌∷◌, ◌++◌, length, refl, arith, rules, codes, ap, sym, ◌∙◌, Bool, true, false, eqb, leb, Some, length-append}
-use Rattle.std.specs.Fmt.{decimal}
+use Rattle.std.proofs.Common.{◌≡◌, ℕ, subst, ◌<◌, ◌≤◌, List, [], ◌∷◌, ◌++◌, length, refl, arith, rules, codes, ap, sym, ◌∙◌, Bool, true, false, eqb, leb, Some, length-append}
 use Rattle.std.specs.List.{slice_split, join_with_byte, AllByRecursion}
-use Rattle.std.proofs.lemmas.Fmt.{length-decimal-le}
 use Rattle.std.proofs.lemmas.List.{append_cancel_right}
 use Rattle.std.proofs.lemmas.List.Elements.{All-from_recursion}
 use Rattle.std.proofs.lemmas.List.Splits.{slice_split_none, slice_split_at, join_with_byte-slice_split}
 use Rattle.std.proofs.lemmas.Bool.Decides.{nat_tests}
 use Rattle.login_base.specs.declared.ids.DevNo.{DevNo}
 use Rattle.login_base.specs.Seat.{is_seat_name}
+use Rattle.login_base.proofs.Decimals.{decimal_long, decimal_short}
 use Rattle.login_model.specs.declared.hardware.DevKind.{DevKind}
 use Rattle.login_model.specs.declared.hardware.DevKind.TheVariants.{Evdev, Drm}
 use Rattle.login_model.specs.declared.hardware.HardKey.{HardKey}
@@ -30,7 +29,7 @@ use Rattle.recording.specs.inner.LineReadings.{line_of}
 use Rattle.recording.proofs.Texts.{both}
 use Rattle.recording.proofs.Arguments.{IsWord, AreWords, decimal_IsWord, number_IsWord, spell_text_IsWord, spell_flag_IsWord, signed_IsWord, device_kind_IsWord, key_IsWord, seat_IsWord, guid_IsWord, hex_IsWord}
 use Rattle.recording.proofs.Calls.{call_of_is, call_of-words, call_short}
-use Rattle.recording.proofs.Lengths.{size, join_short, decimal_short, spell_text_short, spell_flag_short, signed_short, request_word_short}
+use Rattle.recording.proofs.Lengths.{size, join_short, spell_text_short, spell_flag_short, signed_short, request_word_short}
 use Rattle.recording.proofs.Meant.{event_meant, event_written, means_itself}
 use Rattle.recording.proofs.ReadLines.{LineIs, line_of_is, parts, line_of-parts, behind_conf, behind_action}
 
@@ -185,9 +184,6 @@ written_no_feed (In c bytes) h = no_feed_join (fields (In c bytes)) (line_AreWor
 written_no_feed (Hangup c) h = no_feed_join (fields (Hangup c)) (line_AreWords (Hangup c) h tt)
 written_no_feed End h = no_feed_join (fields End) (line_AreWords End h tt)
 
-moment_short : (n : ℕ) → n < 2 ^ 64 → length (decimal n) ≤ 20
-moment_short n small = length-decimal-le 20 n (omega arith) (omega arith) (omega (arith, small))
-
 kind_short : (kind : DevKind) → length (device_kind_word kind) ≤ 5
 kind_short Evdev = omega arith
 kind_short Drm = omega arith
@@ -232,7 +228,7 @@ event_short (Calls r) f =
     let d = call_short r.call f.4 f.5 in
     omega arith
 event_short (Happens x) f = let d = hardware_short x f in omega (arith, d)
-event_short (Tick m) f = let x = moment_short m.0 f in omega arith
+event_short (Tick m) f = let x = decimal_long m.0 f in omega arith
 event_short Stop f = omega arith
 
 guid_long : (guid : List ℕ) → eqb (length guid) 32 ≡ true → length guid ≡ 32

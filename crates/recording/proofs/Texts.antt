@@ -1,20 +1,20 @@
 -- Laws of texts and their spellings.
-use Rattle.std.proofs.Common.{◌≡◌, ◌≢◌, ℕ, ◌+◌, ◌*◌, ◌/◌, ◌%◌, ◌<◌, ◌≤◌, List, [], ◌∷◌, ◌++◌, length, refl, arith, ap, sym, ◌∙◌, subst, Bool, true, false, not, cond, eqb, ltb, leb, ◌&&◌, Option, Some, None, Err, append_assoc}
-use Rattle.std.specs.List.{flat_map, AllByRecursion, list_all}
-use Rattle.std.specs.Str.{IsUtf8, is_utf8, bytes_eq}
-use Rattle.std.proofs.lemmas.Str.{IsUtf8-nil, IsUtf8-from_is_utf8, is_utf8-from_IsUtf8}
+use Rattle.std.proofs.Common.{◌≡◌, ℕ, ◌+◌, ◌*◌, ◌/◌, ◌%◌, ◌<◌, ◌≤◌, List, [], ◌∷◌, ◌++◌, length, refl, arith, ap, sym, ◌∙◌, subst, Bool, true, false, not, cond, eqb, leb, ◌&&◌, Option, Some, None, Err, append_assoc}
+use Rattle.std.specs.List.{flat_map}
+use Rattle.std.specs.Str.{bytes_eq}
+use Rattle.std.proofs.lemmas.Str.{IsUtf8-nil}
 use Rattle.std.proofs.lemmas.List.{append_cancel_left}
 use Rattle.std.proofs.lemmas.Bool.Decides.{nat_tests}
 use Rattle.std.proofs.lemmas.Slice.Eq.{bytes_eq-Decides}
-use Rattle.std.proofs.Math.Utf8.{encode, encodes, scalar, scalars}
-use borrow.Author.Tests.{ltb-true}
 use Rattle.login_model.specs.Texts.{IsText}
 use Rattle.login_base.specs.Hex.{hex_digit, hex_value}
+use Rattle.login_base.specs.Texts.{is_text}
+use Rattle.login_base.proofs.Texts.{made_text, text_parts, utf8_bytes}
 use Rattle.recording.specs.Text.{stands, spell_byte, spell_text}
 use Rattle.recording.specs.Bytes.{AreBytes}
 use Rattle.recording.specs.declared.word.Misread.{Misread}
 use Rattle.recording.specs.declared.word.Misread.TheVariants.{Misfit, NoMemory}
-use Rattle.recording.specs.Words.{Gives, Plain, unspelled, is_text, text_of}
+use Rattle.recording.specs.Words.{Gives, Plain, unspelled, is_short_text, text_of}
 
 pub hex_value-hex_digit : (n : ℕ) → n < 16 → hex_value (hex_digit n) ≡ n
 hex_value-hex_digit n small = grind (arith, nat_tests)
@@ -46,57 +46,19 @@ both true true e = (refl, refl)
 both true false e = cc
 both false b e = cc
 
--- the bytes of UTF-8 are bytes
-encode_AreBytes_by : (c : ℕ) (x y z : Bool) → ltb c 128 ≡ x → ltb c 2048 ≡ y → ltb c 65536 ≡ z → c < 1114112 → AreBytes (encode c)
-unfolding encode
-encode_AreBytes_by c true y z e f g small = let h = ltb-true c 128 e in rw e (omega arith, tt)
-encode_AreBytes_by c false true z e f g small = let h = ltb-true c 2048 f in rw (e, f) (omega arith, (omega arith, tt))
-encode_AreBytes_by c false false true e f g small = let h = ltb-true c 65536 g in rw (e, f, g) (omega arith, (omega arith, (omega arith, tt)))
-encode_AreBytes_by c false false false e f g small = rw (e, f, g) (omega arith, (omega arith, (omega arith, (omega arith, tt))))
-
-scalar_small : (c : ℕ) → scalar c ≡ true → c < 1114112
-scalar_small c h = grind (arith, nat_tests)
-
-AreBytes-append : (xs ys : List ℕ) → AreBytes xs → AreBytes ys → AreBytes (xs ++ ys)
-AreBytes-append [] ys g h = h
-AreBytes-append (x ∷ xs) ys g h = (g.0, AreBytes-append xs ys g.1 h)
-
-encodes_AreBytes : (cs : List ℕ) → scalars cs ≡ true → AreBytes (encodes cs)
-encodes_AreBytes [] h = tt
-encodes_AreBytes (c ∷ cs) h =
-    let p = both (scalar c) (scalars cs) h in
-    AreBytes-append (encode c) (encodes cs) (encode_AreBytes_by c (ltb c 128) (ltb c 2048) (ltb c 65536) refl refl refl (scalar_small c p.0)) (encodes_AreBytes cs p.1)
-
-pub AreBytes-from_utf8 : (bs : List ℕ) → IsUtf8 bs → AreBytes bs
-AreBytes-from_utf8 bs h = subst AreBytes h.1.1 (encodes_AreBytes h.0 h.1.0)
-
-no_nul_test : (bs : List ℕ) → AllByRecursion (λ b. b ≢ 0) bs → list_all (λ b. not (eqb b 0)) bs ≡ true
-no_nul_test [] h = refl
-no_nul_test (b ∷ bs) h = let e : eqb b 0 ≡ false = nonzero b h.0 in rw (e, no_nul_test bs h.1) refl
-  where
-    nonzero : (b : ℕ) → b ≢ 0 → eqb b 0 ≡ false
-    nonzero b h = grind (arith, nat_tests)
-
-tested_no_nul : (bs : List ℕ) → list_all (λ b. not (eqb b 0)) bs ≡ true → AllByRecursion (λ b. b ≢ 0) bs
-tested_no_nul [] h = tt
-tested_no_nul (b ∷ bs) h = let p = both (not (eqb b 0)) (list_all (λ b. not (eqb b 0)) bs) h in (nonzero b p.0, tested_no_nul bs p.1)
-  where
-    nonzero : (b : ℕ) → not (eqb b 0) ≡ true → b ≢ 0
-    nonzero b h = grind (arith, nat_tests)
-
-is_text-from : (most : ℕ) (text : List ℕ) → IsText most text → is_text most text ≡ true
-is_text-from most text h =
+pub is_short_text-from : (most : ℕ) (text : List ℕ) → IsText most text → is_short_text most text ≡ true
+is_short_text-from most text h =
     let short : leb (length text) most ≡ true = within (length text) most h.short in
-    rw (is_utf8-from_IsUtf8 text h.utf8, no_nul_test text h.no_nul, short) refl
+    rw (made_text text h.utf8 h.no_nul, short) refl
   where
     within : (a b : ℕ) → a ≤ b → leb a b ≡ true
     within a b h = grind (arith, nat_tests)
 
-is_text_is : (most : ℕ) (text : List ℕ) → is_text most text ≡ true → IsText most text
-is_text_is most text h =
-    let p = both (is_utf8 text && list_all (λ b. not (eqb b 0)) text) (leb (length text) most) h in
-    let q = both (is_utf8 text) (list_all (λ b. not (eqb b 0)) text) p.0 in
-    record { utf8 = IsUtf8-from_is_utf8 text q.0; no_nul = tested_no_nul text q.1; short = within (length text) most p.1 }
+pub is_short_text_is : (most : ℕ) (text : List ℕ) → is_short_text most text ≡ true → IsText most text
+is_short_text_is most text h =
+    let p = both (is_text text) (leb (length text) most) h in
+    let q = text_parts text p.0 in
+    record { utf8 = q.0; no_nul = q.1; short = within (length text) most p.1 }
   where
     within : (a b : ℕ) → leb a b ≡ true → a ≤ b
     within a b h = grind (arith, nat_tests)
@@ -138,9 +100,9 @@ spell_text_some (b ∷ bs) e = spell_byte_some b (flat_map spell_byte bs) e
 pub text_of-spell_text : (most : ℕ) (text : List ℕ) → IsText most text → text_of most (spell_text text) ≡ Some text
 unfolding text_of
 text_of-spell_text most text h =
-    let back = unspelled-spell_text text (AreBytes-from_utf8 text h.utf8) in
+    let back = unspelled-spell_text text (utf8_bytes text h.utf8) in
     let same : bytes_eq (spell_text text) (spell_text text) ≡ true = (bytes_eq-Decides (spell_text text) (spell_text text)).1 refl in
-    rw (back, is_text-from most text h, same) refl
+    rw (back, is_short_text-from most text h, same) refl
 
 by_tests : (b c : Bool) (t u : List ℕ) → cond (b && c) (Some u) None ≡ Some t → (b ≡ true) × (c ≡ true) × (u ≡ t)
 by_tests true true t u e = (refl, refl, cc)
@@ -151,9 +113,9 @@ by_tests false c t u e = cc
 pub text_of_is : (most : ℕ) (word text : List ℕ) → text_of most word ≡ Some text → (word ≡ spell_text text) × IsText most text
 unfolding text_of
 text_of_is most word text e =
-    let t = by_tests (is_text most (unspelled Plain word)) (bytes_eq (spell_text (unspelled Plain word)) word) text (unspelled Plain word) e in
+    let t = by_tests (is_short_text most (unspelled Plain word)) (bytes_eq (spell_text (unspelled Plain word)) word) text (unspelled Plain word) e in
     let same : spell_text (unspelled Plain word) ≡ word = (bytes_eq-Decides (spell_text (unspelled Plain word)) word).0 t.1 in
-    (sym same ∙ ap spell_text t.2, subst (IsText most) t.2 (is_text_is most (unspelled Plain word) t.0))
+    (sym same ∙ ap spell_text t.2, subst (IsText most) t.2 (is_short_text_is most (unspelled Plain word) t.0))
 
 -- a word that is no text's spelling is not read
 pub text_of_none : (most : ℕ) (word : List ℕ) → ((text : List ℕ) → IsText most text → word ≡ spell_text text → ⊥) → text_of most word ≡ None
@@ -201,7 +163,7 @@ text_of-percent most word e = ap (text_of most) (e ∙ sym spell_text-nil) ∙ t
 
 -- a word that spells no bytes is not read
 pub text_of-no_bytes : (most : ℕ) (word : List ℕ) → (word ≡ 37 ∷ [] → ⊥) → ((text : List ℕ) → AreBytes text → word ≡ flat_map spell_byte text → ⊥) → text_of most word ≡ None
-text_of-no_bytes most word other none = text_of_none most word (λ text h e. by text (AreBytes-from_utf8 text h.utf8) e)
+text_of-no_bytes most word other none = text_of_none most word (λ text h e. by text (utf8_bytes text h.utf8) e)
   where
     by : (text : List ℕ) → AreBytes text → word ≡ spell_text text → ⊥
     by [] h e = other (e ∙ spell_text-nil)
@@ -218,7 +180,7 @@ text_of-no_text most word text other g e none = text_of_none most word by
   where
     by : (t : List ℕ) → IsText most t → word ≡ spell_text t → ⊥
     by t h f =
-        let same : t ≡ text = sym (unspelled-spell_text t (AreBytes-from_utf8 t h.utf8)) ∙ (ap (unspelled Plain) (sym f ∙ e) ∙ unspelled-flat_map text g) in
+        let same : t ≡ text = sym (unspelled-spell_text t (utf8_bytes t h.utf8)) ∙ (ap (unspelled Plain) (sym f ∙ e) ∙ unspelled-flat_map text g) in
         none (subst (IsText most) same h)
 
 -- where no bytes were found, no text is

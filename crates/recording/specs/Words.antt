@@ -2,8 +2,9 @@
 use Rattle.std.specs.Prelude.{ℕ, ℤ, pos, negsuc, ◌^◌, ◌≡◌, ◌+◌, ◌-◌, ◌*◌, ◌==◌, ◌&&◌, not, nat_le, nat_lt, Bool, true, false, if◌then◌else◌, Option, Some, None, Result, Ok, Err, List, [], ◌∷◌, length, codes}
 use Rattle.std.specs.List.{list_all}
 use Rattle.std.specs.Option.{option_and_then}
-use Rattle.std.specs.Str.{bytes_eq, is_utf8}
+use Rattle.std.specs.Str.{bytes_eq}
 use Rattle.login_base.specs.Number.{number_of}
+use Rattle.login_base.specs.Texts.{is_text}
 use Rattle.recording.specs.declared.word.Misread.{Misread}
 use Rattle.recording.specs.declared.word.Misread.TheVariants.{Misfit, NoMemory}
 use Rattle.login_base.specs.Seat.{is_seat_name}
@@ -72,13 +73,13 @@ unspelled Plain (b ∷ bs) = if b == 37 then unspelled Percent bs else b ∷ uns
 unspelled Percent (b ∷ bs) = unspelled (Digit (hex_value b)) bs
 unspelled (Digit high) (b ∷ bs) = (16 * high + hex_value b) ∷ unspelled Plain bs
 
-abbrev pub is_text : ℕ → List ℕ → Bool
-is_text most text = is_utf8 text && list_all (λ b. not (b == 0)) text && nat_le (length text) most
+abbrev pub is_short_text : ℕ → List ℕ → Bool
+is_short_text most text = is_text text && nat_le (length text) most
 
 -- the text of at most so many bytes whose spelling the word is
 unfoldable pub text_of : ℕ → List ℕ → Option (List ℕ)
 text_of most word =
-    if is_text most (unspelled Plain word) && bytes_eq (spell_text (unspelled Plain word)) word
+    if is_short_text most (unspelled Plain word) && bytes_eq (spell_text (unspelled Plain word)) word
     then Some (unspelled Plain word) else None
 
 -- the bytes that pairs of hex digits stand for, whatever the digits are

@@ -4,7 +4,6 @@
 mod answer_text;
 mod argument;
 mod call;
-mod decimal;
 mod due;
 mod entry;
 mod event;
@@ -22,7 +21,6 @@ mod recorded;
 mod verdict_text;
 mod word;
 
-pub use decimal::push_decimal;
 pub use due::write_out;
 pub use entry::{WriteEnd, entry_text, write_entry};
 pub use law::{one_grammar, spelled_again};

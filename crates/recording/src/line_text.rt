@@ -6,14 +6,10 @@ ghost use Rattle.std.specs.List.{flat_map};
 ghost use Rattle.login_base.specs.SessionId.{session_text};
 ghost use Rattle.recording.specs.Text.{spell_byte, spell_text, spell_flag};
 
-use crate::decimal::push_decimal;
 use crate::word::stands_for_itself;
-use login_base::{NoMemory, SessId, Word, hex_digit};
+use login_base::{NoMemory, SessId, Word, append_decimal, hex_digit};
 use std::alloc::Global;
 use std::marker::Model;
-
-/// A number of 64 bits has at most so many digits in decimal.
-const MOST_DIGITS: usize = 20;
 
 /// The text of lines while it is printed. After want of memory it may hold a part of what was to be added.
 #[derive(Debug, Drop)]
@@ -84,9 +80,7 @@ impl LineText {
     fn decimal(&mut self, n: u64) -> Result<(), NoMemory>
         ensures { OnOk result (self.new ≡ self.old ++ decimal n) }
     {
-        self.bytes.reserve(MOST_DIGITS)?;
-        push_decimal(&mut self.bytes, n);
-        Ok(())
+        append_decimal(&mut self.bytes, n)
     }
 
     /// Adds a number of 32 bits in decimal.

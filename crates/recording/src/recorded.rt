@@ -1,7 +1,7 @@
 // The recording of a journal: the lines of its setup, and a line for each of its events.
 
-ghost use Rattle.std.specs.Prelude.{ℕ, ◌≡◌, ◌==◌, ◌<◌, ◌∷◌, List, [], IfOk, MatchOption, length};
-ghost use Rattle.std.specs.List.{AllByRecursion, position, slice_split};
+ghost use Rattle.std.specs.Prelude.{ℕ, ◌≡◌, ◌<◌, ◌∷◌, List, IfOk};
+ghost use Rattle.std.specs.List.{AllByRecursion};
 ghost use Rattle.std.specs.Option.{option_map};
 ghost use Rattle.login_model.specs.Setups.{AreDistinct, IsSetup, IsUserRow};
 ghost use Rattle.recording.specs.Lines.{spell};
@@ -12,7 +12,7 @@ use crate::entry::WriteEnd;
 use crate::event_text::push_event;
 use crate::line::Line;
 use crate::line_text::LineText;
-use login_base::{NoMemory, Uid, Word};
+use login_base::{NoMemory, Uid, Word, first_line};
 use login_edge::{Sink, WriteEnd as Written, write_all};
 use login_model::{Entry, Event, Journal, Setup, UserRow};
 use std::alloc::Global;
@@ -140,24 +140,6 @@ fn write_users<K: Sink>(alloc: Global, users: &[UserRow], sink: &mut K) -> Resul
         last = row.uid;
     }
     Ok(())
-}
-
-/// The place of the first line feed.
-fn line_end(text: &[u8]) -> Option<usize>
-    ensures { result ≡ position (λ b. b == 10) text.now }
-{
-    text.iter().position(|byte| *byte == b'\n')
-}
-
-/// The first line of a text, if a line feed ends it, and what stands behind that.
-fn first_line(text: &[u8]) -> Option<(&[u8], &[u8])>
-    ensures cases { MatchOption result (slice_split (λ b. b == 10) text.now ≡ text.now ∷ [])
-        (λ cut. (slice_split (λ b. b == 10) text.now ≡ cut.0.now ∷ slice_split (λ b. b == 10) cut.1.now) × (length cut.1.now < length text.now)) }
-{
-    match line_end(text) {
-        Some(end) => Some((&text[..end], &text[end + 1..])),
-        None => None,
-    }
 }
 
 /// Writes the lines of one of the texts.

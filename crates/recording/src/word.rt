@@ -278,7 +278,7 @@ fn unspelled(alloc: Global, word: &[u8]) -> Result<Vec<u8>, Misread>
 fn is_text(text: &[u8], most: usize) -> bool
     ensures { IsTrue result ↔ IsText most text.now }
 {
-    str::from_utf8(text).is_ok() && !text.contains(&0) && text.len() <= most
+    login_base::is_text(text) && text.len() <= most
 }
 
 /// The text of at most so many bytes that a word spells.

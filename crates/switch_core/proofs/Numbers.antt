@@ -9,7 +9,7 @@ use Rattle.login_laws.proofs.Counts.{taken-less, taken_length}
 use Rattle.login_laws.proofs.WithinLaws.{active-taken}
 use Rattle.login_model.specs.Devices.{is_awaiting, is_live, taken_devices}
 use Rattle.login_model.specs.Facts.{is_number_fact}
-use Rattle.login_model.specs.Fresh.{fresh_handle, next_handle}
+use Rattle.login_model.specs.Fresh.{fresh_handle, gives, next_handle}
 use Rattle.login_model.specs.Full.{taken_count}
 use Rattle.login_model.specs.Procedure.{each, force, force_device, force_handle, if_some, in_phase, no, renew, resume, resume_device, resume_handle, revive, tell_controller, yes}
 use Rattle.login_model.specs.Same.{same_fact}
@@ -32,7 +32,7 @@ use Rattle.login_model.specs.declared.mark.PauseKind.TheVariants as pause
 use Rattle.login_model.specs.declared.mark.Whom.{Whom}
 use Rattle.login_model.specs.declared.mark.Whom.TheVariants.{All, One}
 use Rattle.login_model.specs.declared.session.Phase.TheVariants.{Closing, Gone}
-use Rattle.switch_core.specs.inner.Ahead.{given, gives}
+use Rattle.switch_core.specs.inner.Ahead.{given}
 use Rattle.switch_core.specs.Handles.{HandlesLeft, IsNumbered}
 use Rattle.switch_core.proofs.Behind.{one-given}
 use Rattle.switch_core.proofs.Frames.{keeps-then}

@@ -8,7 +8,7 @@ ghost use Rattle.login_model.specs.Start.{seat0};
 ghost use Rattle.login_model.specs.Trail.{after, put, value};
 ghost use Rattle.login_model.specs.Where.{active_on, current_vt, session_on};
 ghost use Rattle.login_table.specs.Appended.{Appends, IsPlain};
-ghost use Rattle.switch_core.specs.inner.Ahead.{Fits, beginning, given, gives, marked_by, tell};
+ghost use Rattle.switch_core.specs.inner.Ahead.{Fits, beginning, given, marked_by, tell};
 ghost use Rattle.switch_core.specs.Handles.{IsNumbered};
 ghost use Rattle.switch_core.specs.inner.Keeping.{Keeps, is_switching};
 
@@ -33,22 +33,12 @@ fn fact_behind<'a, F: Look>(facts: &'a F, marks: &'a [Mark], key: &Key) -> &'a F
     facts.fact(key)
 }
 
-/// How many handles a setting gives out.
-fn given_in(key: &Key, fact: &Fact) -> u32
-    ensures { result ≡ gives key.now fact.now }
-{
-    match key {
-        Key::Owner(_) => { if fact.is_owned() { 1 } else { 0 } }
-        _ => 0,
-    }
-}
-
 /// How many handles a mark gives out.
 fn given(mark: &Mark) -> u32
     ensures { result ≡ given mark.now }
 {
     match mark {
-        Mark::Set(key, fact) => given_in(key, fact),
+        Mark::Set(key, fact) => key.gives(fact),
         Mark::Say(_, _) => 0,
     }
 }

@@ -1,12 +1,12 @@
 // The properties of sessions.
 
-ghost use Rattle.std.specs.Prelude.{◌≡◌, IfOk};
+ghost use Rattle.std.specs.Prelude.{◌≡◌, ◌++◌, IfOk};
 ghost use Rattle.login_model.specs.Properties.{data_value, is_active_state, is_in_use, scope_name, session_state, session_value};
 ghost use Rattle.login_model.specs.declared.property.Property.TheVariants.{Session as SessionName};
 
 use crate::kind::OfKind;
-use crate::values::{enclosed, seat, text};
-use login_base::{NoMemory, SessId};
+use crate::values::{seat, text};
+use login_base::{NoMemory, SessId, Word};
 use login_model::{
     Fact, Key, Look, Property, PropertyValue, Session, SessionProperty, Setup, State,
 };
@@ -37,6 +37,16 @@ fn is_active_state(state: State) -> bool
     ensures { result ≡ is_active_state state }
 {
     matches!(state, State::Active)
+}
+
+/// A text between two others.
+fn enclosed(alloc: Global, front: &[u8], name: &[u8], end: &[u8]) -> Result<PropertyValue, NoMemory>
+    ensures { IfOk result (λ value. value ≡ PropertyValue.Text (front.now ++ (name.now ++ end.now))) }
+{
+    let mut bytes = Vec::from_slice(alloc, front)?;
+    bytes.extend_from_slice(name)?;
+    bytes.extend_from_slice(end)?;
+    Ok(PropertyValue::Text(Word::from_vec(bytes)))
 }
 
 /// The name of a session's scope unit.

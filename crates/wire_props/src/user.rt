@@ -10,8 +10,8 @@ ghost use Rattle.login_model.specs.declared.property.Property.TheVariants.{User 
 
 use crate::kind::OfKind;
 use crate::session::is_in_use;
-use crate::values::{enclosed, text};
-use login_base::{NoMemory, SessId, Uid};
+use crate::values::text;
+use login_base::{NoMemory, SessId, Uid, Word, append_decimal};
 use login_model::{Key, Look, Property, PropertyValue, Setup, State, UserProperty};
 use login_table::{OfUser, Test, find_session, find_sessions};
 use std::alloc::Global;
@@ -60,8 +60,10 @@ fn user_state<F: Look>(facts: &F, uid: u32) -> State
 fn slice(alloc: Global, uid: u32) -> Result<PropertyValue, NoMemory>
     ensures { IfOk result (λ value. value ≡ PropertyValue.Text (slice_name uid)) }
 {
-    let digits = format!(in alloc; "{uid}")?;
-    enclosed(alloc, b"user-", digits.as_bytes(), b".slice")
+    let mut name = Vec::from_slice(alloc, b"user-")?;
+    append_decimal(&mut name, u64::from(uid))?;
+    name.extend_from_slice(b".slice")?;
+    Ok(PropertyValue::Text(Word::from_vec(name)))
 }
 
 /// The sessions of a user that are not gone.

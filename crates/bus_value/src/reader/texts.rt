@@ -2,7 +2,7 @@
 
 ghost use Rattle.std.specs.Prelude.{◌≡◌, ◌≤◌, ◌<◌, ◌+◌, ◌-◌, ◌++◌, ◌↔◌, length, drop, replicate, IsTrue};
 ghost use Rattle.std.specs.List.{prefix_len};
-ghost use Rattle.bus_value.specs.Texts.{has_no_zero, is_text};
+ghost use Rattle.login_base.specs.Texts.{has_no_zero, is_text};
 ghost use Rattle.bus_value.specs.inner.PlainText.{is_plain};
 
 use simdutf8::Checker;

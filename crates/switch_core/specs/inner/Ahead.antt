@@ -1,13 +1,10 @@
 -- What facts with appended marks behind them are seen as, and what it is for a procedure to append its marks.
-use Rattle.std.specs.Prelude.{ℕ, ◌+◌, ◌≤◌, ◌∷◌, if◌then◌else◌, List, [], drop, length}
+use Rattle.std.specs.Prelude.{ℕ, ◌+◌, ◌≤◌, ◌∷◌, List, [], drop, length}
 use Rattle.std.specs.List.{AllByRecursion}
 use Rattle.login_base.specs.Room.{Room}
 use Rattle.login_base.specs.declared.ids.DevNo.{DevNo}
-use Rattle.login_model.specs.Facts.{is_owned_fact}
+use Rattle.login_model.specs.Fresh.{gives}
 use Rattle.login_model.specs.Trail.{Trail}
-use Rattle.login_model.specs.declared.fact.Fact.{Fact}
-use Rattle.login_model.specs.declared.fact.Key.{Key}
-use Rattle.login_model.specs.declared.fact.Key.TheVariants.{Owner}
 use Rattle.login_model.specs.declared.mark.Mark.{Mark}
 use Rattle.login_model.specs.declared.mark.Mark.TheVariants.{Set, Say}
 use Rattle.login_model.specs.declared.mark.Notice.{Notice}
@@ -50,11 +47,7 @@ Anything t = Unit {0}
 abbrev pub tell : Whom → Notice → Trail → Trail
 tell w n t = Say w n ∷ t
 
--- how many handles a setting gives out, and a mark, and some marks
-abbrev pub gives : Key → Fact → ℕ
-gives (Owner h) x = if is_owned_fact x then 1 else 0
-gives _ x = 0
-
+-- how many handles a mark gives out, and some marks
 abbrev pub given : Mark → ℕ
 given (Set k x) = gives k x
 given (Say w n) = 0

@@ -1,5 +1,5 @@
 use Rattle.std.proofs.Common.{eqb, sym}
-use Rattle.login_model.proofs.Cuts.{any_at_place, split_here, no_place}
+use Rattle.login_base.proofs.Cuts.{any_at_place, split_here, no_place}
 use Rattle.login_conf.proofs.cut.cut.Goals as goal
 
 pub returns-in-Some-clause-found : goal.returns-in-Some-clause-found

@@ -1,6 +1,6 @@
 use Rattle.std.proofs.Common.{◌≡◌, ◌-◌, ◌≤◌, length, take, true}
 use Rattle.simdutf8.specs.Tracks.{HasRead}
-use Rattle.bus_value.specs.Texts.{has_no_zero}
+use Rattle.login_base.specs.Texts.{has_no_zero}
 use Rattle.bus_value.proofs.reader.texts.is_text_by_blocks.Given as goal
 
 abbrev pub invariant-loop-at : goal.invariant-loop-at

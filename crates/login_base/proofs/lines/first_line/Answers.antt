@@ -1,6 +1,6 @@
 use Rattle.std.proofs.Common.{eqb, rules}
-use Rattle.login_model.proofs.Cuts.{split_here, no_place}
-use Rattle.recording.proofs.recorded.first_line.Goals as goal
+use Rattle.login_base.proofs.Cuts.{split_here, no_place}
+use Rattle.login_base.proofs.lines.first_line.Goals as goal
 
 pub returns-in-Some : goal.returns-in-Some
 returns-in-Some c = record { cases = (split_here (λ b. eqb b 10) c.args.text.now c.in-Some.end c.in-Some.ensures, search rules) }
