@@ -11,7 +11,7 @@ use Rattle.bus_names.specs.Grammar.{step, begins, stands, separator, next, fault
 use Rattle.bus_names.specs.Reading.{interface_fault, member_fault, bus_name_fault}
 use Rattle.bus_names.proofs.Steps.{guard_some, step_is, onward_is}
 use Rattle.bus_names.proofs.Reading.{fault_from-none, fault_from-some}
-use Rattle.bus_value.specs.Texts.{is_text, has_no_zero}
+use Rattle.login_base.specs.Texts.{is_text, has_no_zero}
 
 -- a byte of ASCII that is not zero
 abbrev IsPlain : ℕ → Type 0

@@ -15,7 +15,7 @@ use Rattle.bus_value.specs.Values.{Val, vals, basic, shapes}
 use Rattle.bus_value.specs.Spelling.{spelling, padding}
 use Rattle.bus_value.specs.Limits.{HasRoom, AllFit}
 use Rattle.bus_value.specs.Grammar.{Spells}
-use Rattle.bus_value.specs.Texts.{is_text}
+use Rattle.login_base.specs.Texts.{is_text}
 use Rattle.bus_value.proofs.Typing.{IsLegal, HasType, AllHave}
 use Rattle.bus_value.proofs.RulesHold.{spelled_so}
 use Rattle.bus_message.specs.declared.message.Message.{Message}

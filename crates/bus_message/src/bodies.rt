@@ -5,7 +5,7 @@ ghost use Rattle.std.specs.Fmt.{decimal};
 ghost use Rattle.bus_message.specs.Bodies.{flag, number};
 
 use bus_value::{BasicValue, Value};
-use login_base::NoMemory;
+use login_base::{NoMemory, append_decimal};
 use std::alloc::Global;
 
 /// A number of 32 bits as a value.
@@ -42,6 +42,7 @@ pub fn joined(alloc: Global, front: &[u8], text: &[u8]) -> Result<Vec<u8>, NoMem
 pub fn numbered(alloc: Global, front: &[u8], number: u32) -> Result<Vec<u8>, NoMemory>
     ensures { IfOk result (λ bytes. bytes.items ≡ front.now ++ decimal number) }
 {
-    let digits = format!(in alloc; "{number}")?;
-    joined(alloc, front, digits.as_bytes())
+    let mut bytes = Vec::from_slice(alloc, front)?;
+    append_decimal(&mut bytes, u64::from(number))?;
+    Ok(bytes)
 }

@@ -52,7 +52,7 @@ impl Cause {
 /// Where a stream is malformed.
 #[derive(Clone, Copy, Debug, PartialEq, Eq)]
 pub struct Malformed {
-    /// The offset from the stream's start. One that is above the last `u64` is told as that.
+    /// The offset from the stream's start. One that is above the last `u64` is reported as that.
     pub offset: u64,
     pub cause: Cause,
 }

@@ -8,7 +8,7 @@ use Rattle.login_base.specs.Labels.{escape}
 use Rattle.login_base.specs.Number.{number_of}
 use Rattle.login_base.proofs.Numbers.{number_of_is}
 use Rattle.bus_names.specs.Unescape.{candidate, unescaped}
-use Rattle.bus_value.specs.Texts.{is_text}
+use Rattle.login_base.specs.Texts.{is_text}
 use Rattle.wire_calls.specs.declared.object.Object.{Object}
 use Rattle.wire_calls.specs.declared.object.Object.TheVariants.{Session, Seat, User}
 use Rattle.wire_calls.specs.Objects.{HasName, begins, behind, if_text, bus_path, machine_path, manager_path, object_of, path_of, seat_front, session_front, text_of, user_front}

@@ -14,11 +14,12 @@ use Rattle.login_base.proofs.Numbers.{number_of-decimal}
 use Rattle.bus_names.specs.Reading.{Explains, path_fault}
 use Rattle.bus_names.proofs.Labels.{unescaped-escape}
 use Rattle.bus_names.proofs.NameLaws.{path_law}
-use Rattle.bus_value.specs.Texts.{is_text}
+use Rattle.login_base.specs.Texts.{is_text}
+use Rattle.login_base.proofs.Texts.{utf8_bytes}
 use Rattle.wire_calls.specs.declared.object.Object.{Object}
 use Rattle.wire_calls.specs.declared.object.Object.TheVariants.{Manager, Session, Seat, User, Machine, Bus}
 use Rattle.wire_calls.specs.Objects.{HasName, object_of, path_of, seat_front, session_front, text_of, user_front, user_of}
-use Rattle.wire_calls.proofs.TextBytes.{byte_at, text_utf8, utf8_bytes}
+use Rattle.wire_calls.proofs.TextBytes.{byte_at, text_utf8}
 use Rattle.wire_calls.proofs.Labels.{escape_element}
 
 -- a path has no fault

@@ -12,15 +12,17 @@ use Rattle.login_base.specs.Hex.{hex_digit, hex_value}
 use Rattle.login_base.specs.Labels.{escape, escape_of, is_letter, later_byte}
 use Rattle.login_base.specs.Names.{is_digit, is_word_byte}
 use Rattle.login_base.specs.Number.{number_of}
+use Rattle.login_base.specs.Texts.{is_text}
+use Rattle.login_base.proofs.Texts.{utf8_bytes}
 use Rattle.login_base.proofs.Numbers.{number_of-decimal, number_of_is}
-use Rattle.login_model.specs.Objects.{begins, behind, decoded, is_label, is_number, is_object, is_text, is_under}
+use Rattle.login_model.specs.Objects.{begins, behind, decoded, is_label, is_number, is_object, is_under}
 use Rattle.wire_calls.specs.declared.object.Object.{Object}
 use Rattle.wire_calls.specs.declared.object.Object.TheVariants.{Manager, Session, Seat, User, Machine, Bus}
 use Rattle.wire_calls.specs.Objects.{HasName, bus_path, has_properties, machine_path, manager_path, object_of, path_of, seat_front, session_front, user_front}
 use Rattle.wire_calls.proofs.Labels.{AreWords, escape_words}
 use Rattle.wire_calls.proofs.Naming.{one_path, whole}
 use Rattle.wire_calls.proofs.ObjectPaths.{number_words}
-use Rattle.wire_calls.proofs.TextBytes.{AreBytes, both, text_utf8, utf8_bytes}
+use Rattle.wire_calls.proofs.TextBytes.{AreBytes, both, text_utf8}
 
 pub record HasProperties (path : List ℕ) : Type 0 where
   pub object : Object

@@ -1,9 +1,9 @@
 -- The requests of messages may stand in a journal.
-use Rattle.std.proofs.Common.{◌≡◌, ◌≢◌, ℕ, zero, suc, ◌+◌, ◌≤◌, List, [], ◌∷◌, length, refl, arith, Bool, true, false, not, eqb, leb, ◌&&◌, Option, Some, None, cond}
-use Rattle.std.specs.List.{AllByRecursion, list_all}
+use Rattle.std.proofs.Common.{◌≡◌, ℕ, zero, suc, ◌+◌, ◌≤◌, List, [], ◌∷◌, length, refl, arith, Bool, true, false, not, eqb, leb, ◌&&◌, Option, Some, None, cond}
+use Rattle.std.specs.List.{AllByRecursion}
 use Rattle.std.specs.Option.{option_and_then, option_map, option_or}
-use Rattle.std.specs.Str.{bytes_eq, is_utf8}
-use Rattle.std.proofs.lemmas.Str.{IsUtf8-from_is_utf8, IsUtf8-nil, is_utf8-from_IsUtf8}
+use Rattle.std.specs.Str.{bytes_eq}
+use Rattle.std.proofs.lemmas.Str.{IsUtf8-nil, is_utf8-from_IsUtf8}
 use Rattle.std.proofs.lemmas.Bool.Decides.{nat_tests}
 use Rattle.login_base.specs.declared.ids.ConnId.{ConnId}
 use Rattle.login_base.specs.declared.ids.Uid.{Uid}
@@ -18,7 +18,8 @@ use Rattle.bus_value.specs.declared.order.Order.{Order}
 use Rattle.bus_value.specs.Fields.{basic_in}
 use Rattle.bus_value.specs.Grammar.{AreSpelled, IsBasic, IsSpelled}
 use Rattle.bus_value.specs.Grammar as rules
-use Rattle.bus_value.specs.Texts.{is_text}
+use Rattle.login_base.specs.Texts.{is_text}
+use Rattle.login_base.proofs.Texts.{text_parts}
 use Rattle.bus_value.specs.Values.{Val, vals}
 use Rattle.bus_message.specs.declared.message.Message.{Message}
 use Rattle.bus_message.specs.Grammar.{IsMessage}
@@ -57,17 +58,10 @@ use Rattle.wire_calls.proofs.TextBytes.{both}
 use Rattle.wire_calls.proofs.PropertyPaths.{properties_object}
 
 -- UTF-8 without NUL that is short, by tests
-tested_no_nul : (bs : List ℕ) → list_all (λ b. not (eqb b 0)) bs ≡ true → AllByRecursion (λ b. b ≢ 0) bs
-tested_no_nul [] h = tt
-tested_no_nul (b ∷ bs) h = let p = both (not (eqb b 0)) (list_all (λ b. not (eqb b 0)) bs) h in (nonzero b p.0, tested_no_nul bs p.1)
-  where
-    nonzero : (b : ℕ) → not (eqb b 0) ≡ true → b ≢ 0
-    nonzero b h = grind (arith, nat_tests)
-
 text_is : (text : List ℕ) → is_text text ≡ true → is_short text ≡ true → IsText 512 text
 text_is text h s =
-    let p = both (is_utf8 text) (list_all (λ b. not (eqb b 0)) text) h in
-    record { utf8 = IsUtf8-from_is_utf8 text p.0; no_nul = tested_no_nul text p.1; short = below (length text) 512 s }
+    let p = text_parts text h in
+    record { utf8 = p.0; no_nul = p.1; short = below (length text) 512 s }
   where
     below : (n most : ℕ) → leb n most ≡ true → n ≤ most
     below n most h = grind (arith, nat_tests)

@@ -10,7 +10,7 @@ use Rattle.login_base.specs.Number.{number_of}
 pub use Rattle.login_model.specs.Objects.{begins, behind, manager_interface, session_interface, seat_interface, user_interface}
 pub use Rattle.login_model.specs.Paths.{manager_path, session_front, seat_front, user_front}
 use Rattle.bus_names.specs.Unescape.{unescaped}
-use Rattle.bus_value.specs.Texts.{is_text}
+use Rattle.login_base.specs.Texts.{is_text}
 use Rattle.wire_calls.specs.declared.object.Object.{Object}
 use Rattle.wire_calls.specs.declared.object.Object.TheVariants.{Manager, Session, Seat, User, Machine, Bus}
 

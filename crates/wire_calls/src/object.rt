@@ -9,19 +9,15 @@ use bus_message::{joined, made_path, numbered};
 use bus_names::{NameFault, ObjectPath, unescape_label};
 use bus_value::is_text;
 use login_base::{NoMemory, Uid, Word, escape, read_number};
+use login_model::{
+    MANAGER_INTERFACE, MANAGER_PATH, SEAT_FRONT, SEAT_INTERFACE, SESSION_FRONT, SESSION_INTERFACE,
+    USER_FRONT, USER_INTERFACE,
+};
 use std::alloc::Global;
-
-const MANAGER: &[u8] = b"/org/freedesktop/login1";
 
 const MACHINE: &[u8] = b"/login/model/machine";
 
 const BUS: &[u8] = b"/org/freedesktop/DBus";
-
-const SESSIONS: &[u8] = b"/org/freedesktop/login1/session/";
-
-const SEATS: &[u8] = b"/org/freedesktop/login1/seat/";
-
-const USERS: &[u8] = b"/org/freedesktop/login1/user/_";
 
 /// An object with an interface of its own, whether there is such a one or not (org.freedesktop.login1(5)).
 #[derive(Debug, Drop)]
@@ -48,10 +44,10 @@ impl Object {
         ensures { result.now ≡ interface_of self.now }
     {
         match self {
-            Object::Manager => b"org.freedesktop.login1.Manager",
-            Object::Session(_) => b"org.freedesktop.login1.Session",
-            Object::Seat(_) => b"org.freedesktop.login1.Seat",
-            Object::User(_) => b"org.freedesktop.login1.User",
+            Object::Manager => MANAGER_INTERFACE,
+            Object::Session(_) => SESSION_INTERFACE,
+            Object::Seat(_) => SEAT_INTERFACE,
+            Object::User(_) => USER_INTERFACE,
             Object::Machine => b"login.model.Machine1",
             Object::Bus => b"org.freedesktop.DBus",
         }
@@ -72,9 +68,9 @@ impl Object {
         ensures { IfOk result (λ path. path.items ≡ path_of self.now) }
     {
         match self {
-            Object::Manager => Ok(Vec::from_slice(alloc, MANAGER)?),
-            Object::Session(id) => escaped(alloc, SESSIONS, id),
-            Object::Seat(seat) => escaped(alloc, SEATS, seat),
+            Object::Manager => Ok(Vec::from_slice(alloc, MANAGER_PATH)?),
+            Object::Session(id) => escaped(alloc, SESSION_FRONT, id),
+            Object::Seat(seat) => escaped(alloc, SEAT_FRONT, seat),
             Object::User(uid) => user_path(alloc, *uid),
             Object::Machine => Ok(Vec::from_slice(alloc, MACHINE)?),
             Object::Bus => Ok(Vec::from_slice(alloc, BUS)?),
@@ -103,7 +99,7 @@ fn escaped(alloc: Global, front: &[u8], text: &Word) -> Result<Vec<u8>, NoMemory
 fn user_path(alloc: Global, uid: Uid) -> Result<Vec<u8>, NoMemory>
     ensures { IfOk result (λ bytes. bytes.items ≡ user_front ++ decimal uid.0) }
 {
-    numbered(alloc, USERS, uid.0)
+    numbered(alloc, USER_FRONT, uid.0)
 }
 
 /// The text of which a label is the escape, if it is UTF-8 without NUL.
@@ -129,17 +125,17 @@ fn user_of(digits: &[u8]) -> Option<Uid>
 pub(crate) fn object_of(alloc: Global, path: &[u8]) -> Result<Option<Object>, NoMemory>
     ensures { IfOk result (λ object. object ≡ object_of path.now) }
 {
-    if path == MANAGER {
+    if path == MANAGER_PATH {
         Ok(Some(Object::Manager))
     } else if path == MACHINE {
         Ok(Some(Object::Machine))
     } else if path == BUS {
         Ok(Some(Object::Bus))
-    } else if let Some(label) = path.strip_prefix(SESSIONS) {
+    } else if let Some(label) = path.strip_prefix(SESSION_FRONT) {
         Ok(text_of(alloc, label)?.map(Object::Session))
-    } else if let Some(label) = path.strip_prefix(SEATS) {
+    } else if let Some(label) = path.strip_prefix(SEAT_FRONT) {
         Ok(text_of(alloc, label)?.map(Object::Seat))
-    } else if let Some(digits) = path.strip_prefix(USERS) {
+    } else if let Some(digits) = path.strip_prefix(USER_FRONT) {
         Ok(user_of(digits).map(Object::User))
     } else {
         Ok(None)

@@ -5,6 +5,7 @@ use Rattle.std.proofs.Math.Nat.{mul-le-mul_right}
 use Rattle.std.specs.Fmt.{decimal}
 use Rattle.login_base.specs.declared.ids.ConnId.{ConnId}
 use Rattle.login_base.specs.declared.ids.Uid.{Uid}
+use Rattle.login_base.proofs.Decimals.{decimal_short}
 use Rattle.login_model.specs.Paths.{runtime_path, seat_path, session_path, unique_name, user_path}
 use Rattle.login_model.specs.Words.{mode_word, say_word}
 use Rattle.login_model.specs.Texts.{IsText}
@@ -30,7 +31,7 @@ use Rattle.wire_out.specs.inner.Parts.{AreParts, AreRows, IsBody, IsPart, most_b
 use Rattle.wire_out.specs.inner.Sendable.{CanBeAnswered, IsLockRow, IsSeat, IsSeatIf, IsSessionRow}
 use Rattle.wire_out.specs.inner.Numbers.{HasAnswerNumbers, HasCreatedNumbers, HasInputNumbers, HasLockNumbers, HasSessionNumbers, IsNumber}
 use Rattle.wire_out.proofs.Parts.{array_part, flag_part, half_part, more_parts, no_parts, number_part, signed_part, struct_part, text_part, weaker}
-use Rattle.wire_out.proofs.Texts.{ArePlain, decimal_plain, decimal_short, plain_append, plain_text, runtime_plain, runtime_short, text_is}
+use Rattle.wire_out.proofs.Texts.{ArePlain, decimal_plain, plain_append, plain_text, runtime_plain, runtime_short, text_is}
 use Rattle.wire_out.proofs.Properties.{rows_body, value_body}
 use Rattle.wire_out.proofs.ValueParts.{all_there, body_of, id_part, one, rows_by, said_part, seat_if_part, seat_part, seat_reference_parts, session_part, user_part, what_part}
 

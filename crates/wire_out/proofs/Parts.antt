@@ -12,7 +12,7 @@ use Rattle.bus_value.specs.Lengths.{entries_end, value_end, values_end}
 use Rattle.bus_value.specs.Limits.{AllFit}
 use Rattle.bus_value.specs.Numbers.{number_bytes}
 use Rattle.bus_value.specs.Spelling.{behind_length, entry_spellings, first_element, padding, spelling, spellings}
-use Rattle.bus_value.specs.Texts.{is_text}
+use Rattle.login_base.specs.Texts.{is_text}
 use Rattle.bus_value.specs.Typed.{AreTyped, IsTyped}
 use Rattle.bus_value.specs.Typed as typed
 use Rattle.bus_value.specs.Values.{Entries, Val, basic, array, count, dict, shape, shapes, vals}

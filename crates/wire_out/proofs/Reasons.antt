@@ -1,7 +1,7 @@
 -- The text of an error is one, and short.
 use Rattle.std.proofs.Common.{ℕ, ◌+◌, ◌<◌, ◌≤◌, ◌^◌, List, [], ◌∷◌, ◌++◌, length, length-append, codes, decimal, refl, arith}
-use Rattle.std.proofs.lemmas.Fmt.{length-decimal-le}
 use Rattle.login_base.specs.SessionId.{session_text}
+use Rattle.login_base.proofs.Decimals.{decimal_long, decimal_short}
 use Rattle.login_model.specs.Action.{name, operation_name, suffix}
 use Rattle.login_model.specs.RuleWords.{detail_words, limit_words, rule_label}
 use Rattle.login_model.specs.Words.{operation_word}
@@ -23,7 +23,7 @@ use Rattle.wire_out.specs.inner.Numbers.{HasLimitNumber, HasRuleNumber}
 use Rattle.wire_out.specs.inner.Parts.{IsBody, most_body}
 use Rattle.wire_out.proofs.ValueParts.{body_of, one}
 use Rattle.wire_out.proofs.Parts.{text_part, weaker}
-use Rattle.wire_out.proofs.Texts.{ArePlain, decimal_plain, decimal_short, plain_append, plain_text, session_plain, session_short}
+use Rattle.wire_out.proofs.Texts.{ArePlain, decimal_plain, plain_append, plain_text, session_plain, session_short}
 use Rattle.wire_out.proofs.Words.{AllPlain, joined_plain, joined_short, total}
 
 -- words of ASCII, and how long they are at most
@@ -95,7 +95,7 @@ number_word : (n : ℕ) → n < 2 ^ 32 → AreShort 100 (decimal n ∷ [])
 number_word n small = let l = decimal_short n small in one_word (decimal n) (decimal_plain n (omega (arith, small))) (omega (arith, l))
 
 moment_word : (n : ℕ) → n < 2 ^ 64 → AreShort 100 (decimal n ∷ [])
-moment_word n small = let l = length-decimal-le 20 n (omega arith) (omega (arith, small)) small in one_word (decimal n) (decimal_plain n small) (omega (arith, l))
+moment_word n small = let l = decimal_long n small in one_word (decimal n) (decimal_plain n small) (omega (arith, l))
 
 numbered_word : (w : List ℕ) (n : ℕ) → ArePlain w → length w ≤ 20 → n < 2 ^ 32 → AreShort 100 (w ∷ decimal n ∷ [])
 numbered_word w n p short small =

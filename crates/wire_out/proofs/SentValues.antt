@@ -13,6 +13,7 @@ use Rattle.login_base.specs.Number.{number_of}
 use Rattle.login_base.specs.Seat.{is_seat_name}
 use Rattle.login_base.specs.SessionId.{session_of, session_text}
 use Rattle.login_base.proofs.Numbers.{number_of_is}
+use Rattle.login_base.proofs.Decimals.{decimal_short}
 use Rattle.login_model.specs.Answers.{get_all_answer, get_answer, property_answer}
 use Rattle.login_model.specs.Conf.{IsAllowed}
 use Rattle.login_model.specs.Limits.{name_limit, text_limit}
@@ -57,7 +58,7 @@ use Rattle.login_laws.proofs.NamedMarks.{value-named}
 use Rattle.login_laws.proofs.WithinLaws.{filter-length}
 use Rattle.wire_out.specs.inner.Sendable.{CanBeAnswered, CanBeValue}
 use Rattle.wire_out.specs.inner.Numbers.{IsNumber}
-use Rattle.wire_out.proofs.Texts.{ArePlain, both, decimal_plain, decimal_short, is_plain, plain_append, plain_is_text, plain_utf8, seat_plain, seat_short, session_plain, session_short}
+use Rattle.wire_out.proofs.Texts.{ArePlain, both, decimal_plain, is_plain, plain_append, plain_is_text, plain_utf8, seat_plain, seat_short, session_plain, session_short}
 
 -- ---- names of users
 

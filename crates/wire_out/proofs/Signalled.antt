@@ -20,7 +20,7 @@ use Rattle.bus_value.specs.Grammar as rules_of
 use Rattle.bus_value.specs.Lengths.{basic_end, entries_end, value_end}
 use Rattle.bus_value.specs.Nesting.{nesting}
 use Rattle.bus_value.specs.Spelling.{first_element, key_at, spelling}
-use Rattle.bus_value.specs.Texts.{is_text}
+use Rattle.login_base.specs.Texts.{is_text}
 use Rattle.bus_value.specs.Typed as typed
 use Rattle.bus_value.specs.Values.{Val, array, dict, entry, no_entries, none, shape, shapes, vals, variant}
 use Rattle.bus_message.specs.declared.message.Message.{Message}

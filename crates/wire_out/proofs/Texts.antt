@@ -6,7 +6,7 @@ use Rattle.std.specs.List.{AllByRecursion, flat_map, list_all}
 use Rattle.std.specs.Str.{IsUtf8, bytes_eq}
 use Rattle.std.specs.Str.Parse.{AllDigits}
 use Rattle.std.proofs.lemmas.Bool.Decides.{nat_tests}
-use Rattle.std.proofs.lemmas.Fmt.{decimal_is_IsNumeral, length-decimal-le}
+use Rattle.std.proofs.lemmas.Fmt.{decimal_is_IsNumeral}
 use Rattle.std.proofs.lemmas.List.Folds.{list_all-append}
 use Rattle.std.proofs.lemmas.Str.{IsUtf8-from_ascii, is_utf8-from_IsUtf8}
 use Rattle.std.proofs.lemmas.Str.Parse.{digit_from_value}
@@ -21,7 +21,9 @@ use Rattle.login_model.specs.Paths.{runtime_path, seat_path, session_path, user_
 use Rattle.login_model.specs.Texts.{IsText}
 use Rattle.bus_names.specs.Reading.{Explains, path_fault}
 use Rattle.bus_names.proofs.NameLaws.{path_law}
-use Rattle.bus_value.specs.Texts.{is_text}
+use Rattle.login_base.specs.Texts.{is_text}
+use Rattle.login_base.proofs.Texts.{made_text}
+use Rattle.login_base.proofs.Decimals.{decimal_short}
 
 -- ---- texts
 
@@ -71,9 +73,6 @@ digits_plain (d ∷ ds) h = rw (digit_plain d (digit_from_value d h.0), digits_p
 pub decimal_plain : (n : ℕ) → n < 2 ^ 64 → ArePlain (decimal n)
 decimal_plain n small = digits_plain (decimal n) (decimal_is_IsNumeral n small).0.1
 
-pub decimal_short : (n : ℕ) → n < 2 ^ 32 → length (decimal n) ≤ 10
-decimal_short n small = length-decimal-le 10 n (omega arith) (omega (arith, small)) (omega (arith, small))
-
 pub session_plain : (s : SessId) → s.0 < 2 ^ 32 → ArePlain (session_text s)
 session_plain s small = plain_append (codes "c") (decimal s.0) refl (decimal_plain s.0 (omega (arith, small)))
 
@@ -110,15 +109,8 @@ pub seat_short : (seat : List ℕ) → is_seat_name seat ≡ true → length sea
 seat_short seat h = within (length seat) 255 (seat_parts seat h).1
 
 -- a text of a journal
-no_nul : (t : List ℕ) → AllByRecursion (λ b. b ≢ 0) t → list_all (λ b. not (eqb b 0)) t ≡ true
-no_nul [] h = refl
-no_nul (b ∷ bs) h = let e : eqb b 0 ≡ false = nonzero b h.0 in rw (e, no_nul bs h.1) refl
-  where
-    nonzero : (b : ℕ) → b ≢ 0 → eqb b 0 ≡ false
-    nonzero b h = grind (arith, nat_tests)
-
 pub text_is : (most : ℕ) (t : List ℕ) → IsText most t → is_text t ≡ true
-text_is most t h = rw (is_utf8-from_IsUtf8 t h.utf8, no_nul t h.no_nul) refl
+text_is most t h = made_text t h.utf8 h.no_nul
 
 none_zero : (t : List ℕ) → ArePlain t → AllByRecursion (λ b. b ≢ 0) t
 none_zero [] h = tt

@@ -8,7 +8,7 @@ ghost use Rattle.wire_out.specs.Errors.{error_name, nobody_error, rule_text};
 ghost use Rattle.wire_out.specs.inner.Numbers.{HasLimitNumber, HasRuleNumber, IsNumber};
 ghost use Rattle.wire_out.specs.inner.Spaced.{spaced};
 
-use login_base::{NoMemory, SessId, Word};
+use login_base::{NoMemory, SessId, Word, append_decimal};
 use login_model::{Call, Limit, Rule};
 use std::alloc::Global;
 
@@ -78,11 +78,11 @@ fn push_word(out: &mut Vec<u8>, word: &[u8]) -> Result<(), NoMemory>
 }
 
 /// Adds a space and a number in decimal.
-fn push_number(alloc: Global, out: &mut Vec<u8>, number: u64) -> Result<(), NoMemory>
+fn push_number(out: &mut Vec<u8>, number: u64) -> Result<(), NoMemory>
     ensures { OnOk result (out.new.items ≡ out.old.items ++ 32 ∷ decimal number) }
 {
-    let digits = format!(in alloc; "{number}")?;
-    push_word(out, digits.as_bytes())
+    out.push(b' ')?;
+    append_decimal(out, number)
 }
 
 /// Adds a space and a session's id.
@@ -95,11 +95,11 @@ fn push_session(alloc: Global, out: &mut Vec<u8>, session: SessId) -> Result<(),
 }
 
 /// Adds the name of a limit and its number.
-fn push_numbered(alloc: Global, out: &mut Vec<u8>, name: &[u8], most: u32) -> Result<(), NoMemory>
+fn push_numbered(out: &mut Vec<u8>, name: &[u8], most: u32) -> Result<(), NoMemory>
     ensures { OnOk result (out.new.items ≡ out.old.items ++ spaced (name.now ∷ decimal most ∷ [])) }
 {
     push_word(out, name)?;
-    push_number(alloc, out, u64::from(most))
+    push_number(out, u64::from(most))
 }
 
 /// Adds two words.
@@ -111,14 +111,14 @@ fn push_words(out: &mut Vec<u8>, first: &[u8], second: &[u8]) -> Result<(), NoMe
 }
 
 /// Adds the name and the number of a limit.
-fn push_limit(alloc: Global, out: &mut Vec<u8>, limit: Limit) -> Result<(), NoMemory>
+fn push_limit(out: &mut Vec<u8>, limit: Limit) -> Result<(), NoMemory>
     ensures text { OnOk result (out.new.items ≡ out.old.items ++ spaced (limit_words limit)) }
     ensures ranged { OnOk result (HasLimitNumber limit) }
 {
     match limit {
         Limit::Links => push_words(out, b"links", b"64"),
-        Limit::Sessions(most) => push_numbered(alloc, out, b"SessionsMax", most),
-        Limit::Inhibitors(most) => push_numbered(alloc, out, b"InhibitorsMax", most),
+        Limit::Sessions(most) => push_numbered(out, b"SessionsMax", most),
+        Limit::Inhibitors(most) => push_numbered(out, b"InhibitorsMax", most),
         Limit::DevicesTaken => push_words(out, b"devices-taken", b"128"),
         Limit::Devices => push_words(out, b"devices", b"4096"),
     }
@@ -132,12 +132,12 @@ fn push_detail(alloc: Global, out: &mut Vec<u8>, rule: Rule) -> Result<(), NoMem
     match rule {
         Rule::ActionRefused(action) => push_word(out, action.name()),
         Rule::ActionChallenge(action) => push_word(out, action.name()),
-        Rule::Controlled(who) => push_number(alloc, out, u64::from(who.0)),
+        Rule::Controlled(who) => push_number(out, u64::from(who.0)),
         Rule::VtBusy(session) => push_session(alloc, out, session),
         Rule::OperationInProgress(kind) => push_word(out, kind.name()),
-        Rule::Inhibited(lock) => push_number(alloc, out, u64::from(lock.0)),
-        Rule::Limit(limit) => push_limit(alloc, out, limit),
-        Rule::ClockBackwards(moment) => push_number(alloc, out, moment.0),
+        Rule::Inhibited(lock) => push_number(out, u64::from(lock.0)),
+        Rule::Limit(limit) => push_limit(out, limit),
+        Rule::ClockBackwards(moment) => push_number(out, moment.0),
         _ => Ok(()),
     }
 }

@@ -9,6 +9,7 @@ ghost use Rattle.wire_out.specs.inner.Numbers.{IsNumber};
 use bus_message::{joined, made_path, numbered};
 use bus_names::ObjectPath;
 use login_base::{NoMemory, SeatName, SessId, Uid, Word, escape};
+use login_model::{SEAT_FRONT, SESSION_FRONT, USER_FRONT};
 use std::alloc::Global;
 
 /// The bytes of the path of a session's object.
@@ -18,7 +19,7 @@ fn session_bytes(alloc: Global, session: SessId) -> Result<Vec<u8>, NoMemory>
 {
     let id = session.text(alloc)?;
     let label = escape(alloc, id.as_slice())?;
-    joined(alloc, b"/org/freedesktop/login1/session/", label.as_slice())
+    joined(alloc, SESSION_FRONT, label.as_slice())
 }
 
 /// The path of a session's object.
@@ -36,7 +37,7 @@ fn seat_bytes(alloc: Global, seat: &SeatName) -> Result<Vec<u8>, NoMemory>
     ensures { IfOk result (λ path. path.items ≡ seat_path seat.now) }
 {
     let label = seat.label(alloc)?;
-    joined(alloc, b"/org/freedesktop/login1/seat/", label.as_slice())
+    joined(alloc, SEAT_FRONT, label.as_slice())
 }
 
 /// The path of a seat's object.
@@ -53,7 +54,7 @@ pub(crate) fn seat_path(alloc: Global, seat: &SeatName) -> Result<ObjectPath, No
 fn user_bytes(alloc: Global, uid: Uid) -> Result<Vec<u8>, NoMemory>
     ensures { IfOk result (λ path. path.items ≡ user_path uid) }
 {
-    numbered(alloc, b"/org/freedesktop/login1/user/_", uid.0)
+    numbered(alloc, USER_FRONT, uid.0)
 }
 
 /// The path of a user's object.

@@ -21,7 +21,7 @@ use crate::values::{
     pair, push, reference_or_none, seat_name, seat_object, seat_or_none, seat_reference,
     session_id, session_object, session_reference, text, user_object, user_reference,
 };
-use bus_message::{alone, flag, number};
+use bus_message::{alone, flag, number, numbered};
 use bus_names::{Basic, Type};
 use bus_value::{BasicValue, Value};
 use login_base::{ConnId, NoMemory, SeatName, SessId, Word};
@@ -346,9 +346,8 @@ fn unique_name(alloc: Global, who: ConnId) -> Result<Value, NoMemory>
     ensures value { IfOk result (λ value. value ≡ text (unique_name who)) }
     ensures ranged { OnOk result (IsNumber who.0) }
 {
-    let number = who.0;
-    let name = format!(in alloc; ":1.{number}")?;
-    text(alloc, name.as_bytes())
+    let name = numbered(alloc, b":1.", who.0)?;
+    Ok(Value::basic(BasicValue::Str(Word::from_vec(name))))
 }
 
 /// The values of a reply.

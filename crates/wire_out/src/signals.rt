@@ -21,12 +21,8 @@ use bus_message::{Message, alone, flag, made_path, number};
 use bus_names::{Basic, ObjectPath, Type};
 use bus_value::{BasicValue, Value};
 use login_base::{DevNo, NoMemory, SeatName, SessId, Word};
-use login_model::Notice;
+use login_model::{MANAGER_INTERFACE, MANAGER_PATH, Notice, SEAT_INTERFACE, SESSION_INTERFACE};
 use std::alloc::Global;
-
-const SESSION: &[u8] = b"org.freedesktop.login1.Session";
-
-const SEAT: &[u8] = b"org.freedesktop.login1.Seat";
 
 /// A signal of a session.
 fn session_signal(
@@ -40,7 +36,7 @@ fn session_signal(
     ensures ranged { OnOk result (IsNumber session.0) }
 {
     let object = session_path(alloc, session)?;
-    signal_message(alloc, object, SESSION, member, values)
+    signal_message(alloc, object, SESSION_INTERFACE, member, values)
 }
 
 /// A signal of the manager.
@@ -48,9 +44,8 @@ fn manager_signal(alloc: Global, member: &[u8], values: Vec<Value>) -> Result<Me
     requires { member_fault member.now ≡ None }
     ensures { IfOk result (λ message. message ≡ manager_signal member.now values.items) }
 {
-    let object = made_path(alloc, b"/org/freedesktop/login1")?;
-    let interface = b"org.freedesktop.login1.Manager";
-    signal_message(alloc, object, interface, member, values)
+    let object = made_path(alloc, MANAGER_PATH)?;
+    signal_message(alloc, object, MANAGER_INTERFACE, member, values)
 }
 
 /// A device's numbers, and a value behind them.
@@ -120,7 +115,7 @@ fn push_active(
     match session {
         Some(s) => {
             let object = session_path(alloc, s)?;
-            let message = changed(alloc, object, SESSION, b"Active", flag(active))?;
+            let message = changed(alloc, object, SESSION_INTERFACE, b"Active", flag(active))?;
             push_message(out, message)
         }
         None => Ok(()),
@@ -134,7 +129,7 @@ fn seat_changed(alloc: Global, seat: &SeatName, now: Option<SessId>) -> Result<M
 {
     let object = seat_path(alloc, seat)?;
     let value = Value::structure(reference_or_none(alloc, now)?);
-    changed(alloc, object, SEAT, b"ActiveSession", value)
+    changed(alloc, object, SEAT_INTERFACE, b"ActiveSession", value)
 }
 
 /// The signals of a change of a seat's active session.
