@@ -16,11 +16,6 @@ pub record DeviceList : Type 0 where
   pub ears : List Ear
   pub rings : ℕ
 
--- what the handles that listen are seen as
-pub record EarList : Type 0 where
-  pub ears : List Ear
-  pub rings : ℕ
-
 abbrev pub is_ear_of : HandleNo → Ear → Bool
 is_ear_of h e = e.handle.0 == h.0
 
@@ -32,9 +27,6 @@ heard_of (e ∷ es) h = if is_ear_of h e then Some (e.device, e.inputs) else hea
 -- what is heard with one more input of a device
 abbrev pub hears : DevNo → Input → DevNo × List Input → DevNo × List Input
 hears d x p = if same_device d p.0 then (p.0, last_few (p.1 ++ x ∷ [])) else p
-
-abbrev pub hear_ear : DevNo → Input → Ear → Ear
-hear_ear d x e = if same_device d e.device then record { handle = e.handle; device = e.device; inputs = last_few (e.inputs ++ x ∷ []) } else e
 
 -- each handle has one ear
 unfoldable pub AreOnce : List Ear → Type 0

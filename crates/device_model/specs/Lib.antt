@@ -1,1 +1,2 @@
 pub mod Ears
+pub mod inner

@@ -1,7 +1,8 @@
 // What handles hear of their devices.
 
 ghost use Rattle.std.specs.Prelude.{◌≡◌, ◌==◌, ◌+◌, ◌<◌, ◌≤◌, [], IsSome, List, None, OnOk, Some, false, is_some, length, map, option_map, position, vec_capacity, vec_len};
-ghost use Rattle.device_model.specs.Ears.{AreOnce, hear_ear, heard_of, hears, is_ear_of};
+ghost use Rattle.device_model.specs.Ears.{AreOnce, heard_of, hears, is_ear_of};
+ghost use Rattle.device_model.specs.inner.Ears.{hear_ear};
 ghost use Rattle.login_base.specs.declared.ids.DevNo.{DevNo as AnyDevice};
 ghost use Rattle.login_base.specs.declared.ids.HandleNo.{HandleNo as AnyHandle};
 ghost use Rattle.login_model.specs.Same.{same_device};
@@ -31,7 +32,8 @@ pub(crate) struct Ears {
 
 impl Model for Ears {
     ghost use Rattle.std.specs.Prelude.{◌+◌, ◌≤◌, vec_len, vec_capacity};
-    ghost use Rattle.device_model.specs.Ears.{AreOnce, EarList};
+    ghost use Rattle.device_model.specs.Ears.{AreOnce};
+    ghost use Rattle.device_model.specs.inner.Ears.{EarList};
 
     ghost Value = { EarList };
 

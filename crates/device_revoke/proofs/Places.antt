@@ -2,7 +2,7 @@
 use Rattle.std.proofs.Common.{◌≡◌, ℕ, ◌==◌, Bool, true, false, cond, refl}
 use Rattle.device_revoke.specs.declared.kind.Kind.{Kind}
 use Rattle.device_revoke.specs.declared.kind.Kind.TheVariants.{Owners, Lives, Takes, Awaits}
-use Rattle.device_revoke.specs.Kinds.{kind_at}
+use Rattle.device_revoke.specs.inner.Kinds.{kind_at}
 use Rattle.login_table.proofs.Parts.{by-test}
 
 -- the kind by three tests

@@ -1,7 +1,7 @@
 // Which of the table's rows have a kind of key.
 
 ghost use Rattle.std.specs.Prelude.{◌≡◌};
-ghost use Rattle.device_revoke.specs.Kinds.{kind_at};
+ghost use Rattle.device_revoke.specs.inner.Kinds.{kind_at};
 
 use login_table::{LIVES, OWNERS, TAKES};
 

@@ -1,7 +1,7 @@
 pub mod Appending
 mod Ascending
 mod KeyOrder
-mod KeySets
+mod Keys
 pub mod Listing
 mod NextKey
 mod NextRow

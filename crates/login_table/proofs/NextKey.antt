@@ -10,10 +10,10 @@ use Rattle.login_model.specs.Names.{IsNext, is_above}
 use Rattle.login_model.proofs.Keys.{same_key-true, test}
 use Rattle.login_model.proofs.Values.{key-refl}
 use Rattle.login_table.specs.KeyOrder.{key_lt, rank_of}
-use Rattle.login_table.specs.Keys.{first_named, has, is_passed, KeysAscendFrom}
+use Rattle.login_table.specs.inner.Keys.{first_named, has, is_passed, KeysAscendFrom}
 use Rattle.login_table.specs.Rows.{IsFront}
 use Rattle.login_table.proofs.KeyOrder.{same-rank, rank-above, no-test}
-use Rattle.login_table.proofs.KeySets.{keys-lower, keys-anyhow}
+use Rattle.login_table.proofs.Keys.{keys-lower, keys-anyhow}
 
 -- the keys behind one are those above the name that has it
 pub front-above : {A : Type 0} (key_of : A → Key) (rank : ℕ) (above : Option A) (name : A) (k : Key) (n : ℕ) (xs : List Key) → above ≡ Some name → k ≡ key_of name

@@ -14,10 +14,11 @@ use Rattle.login_model.specs.Names.{IsNext, is_above}
 use Rattle.login_model.proofs.Keys.{same_key-true, both, test}
 use Rattle.login_table.specs.Listed.{is_there}
 use Rattle.login_table.specs.KeyOrder.{key_lt}
-use Rattle.login_table.specs.Keys.{has, KeysAscend}
-use Rattle.login_table.specs.Places.{key_at, keys_at, PlacesAscend, put_place, raised}
-use Rattle.login_table.specs.Nearest.{is_lower, nearer}
-use Rattle.login_table.specs.Rows.{Ascend, AreThere, IsFront, as_trail, says_there}
+use Rattle.login_table.specs.inner.Keys.{has, KeysAscend, AreThere}
+use Rattle.login_table.specs.inner.Nearest.{nearer}
+use Rattle.login_table.specs.inner.Places.{key_at, keys_at, PlacesAscend, put_place, raised}
+use Rattle.login_table.specs.Nearest.{is_lower}
+use Rattle.login_table.specs.Rows.{Ascend, IsFront, as_trail, says_there}
 use Rattle.login_table.specs.declared.rows.Row.{Row}
 use Rattle.login_table.proofs.Ascending.{exchanged-at, opened, closed, put_row, put-ascends, put-is}
 use Rattle.login_table.proofs.KeyOrder.{no-test}

@@ -1,7 +1,7 @@
 -- The next device that a session has taken, among keys that ascend.
-use Rattle.std.proofs.Common.{◌≡◌, ℕ, zero, suc, ◌==◌, ◌<◌, ◌≤◌, ◌||◌, Bool, true, false, cond, not, Option, Some, None, List, [], ◌∷◌, length, get_or, drop, refl, ap, sym, arith, ◌∙◌, subst, inl, inr}
+use Rattle.std.proofs.Common.{◌≡◌, ℕ, zero, suc, ◌==◌, ◌||◌, Bool, true, false, cond, not, Option, Some, None, List, [], ◌∷◌, drop, refl, ap, sym, arith, ◌∙◌, subst, inl, inr}
 use Rattle.std.proofs.lemmas.Bool.Decides.{nat_tests}
-use Rattle.std.proofs.lemmas.List.{drop_all}
+use Rattle.std.specs.Option.{option_and_then}
 use Rattle.login_base.specs.declared.ids.SessId.{SessId}
 use Rattle.login_base.specs.declared.ids.DevNo.{DevNo}
 use Rattle.login_model.specs.declared.fact.Key.{Key}
@@ -13,10 +13,11 @@ use Rattle.login_model.proofs.Keys.{same_key-true, test}
 use Rattle.login_model.proofs.NameLaws.{device_order, taken_keys}
 use Rattle.login_model.proofs.Values.{key-refl}
 use Rattle.login_table.specs.KeyOrder.{key_lt, pair_lt}
-use Rattle.login_table.specs.Keys.{has, is_taken_passed, KeysAscendFrom}
+use Rattle.login_table.specs.inner.Keys.{has, is_taken_passed, KeysAscendFrom}
+use Rattle.login_table.specs.Listed.{first}
 use Rattle.login_table.specs.Rows.{IsFront}
 use Rattle.login_table.proofs.KeyOrder.{no-test}
-use Rattle.login_table.proofs.KeySets.{keys-lower, keys-anyhow}
+use Rattle.login_table.proofs.Keys.{keys-lower, keys-anyhow}
 use Rattle.login_table.proofs.NextKey.{no-some, some-is}
 
 -- of one session by the device alone
@@ -106,8 +107,7 @@ between s (Some d) _ e p q n = cc
 
 -- the device of the first key
 abbrev pub first_taken : SessId → List Key → Option DevNo
-first_taken s [] = None
-first_taken s (x ∷ xs) = taken_in s x
+first_taken s xs = option_and_then (taken_in s) (first xs)
 
 asym : (a b : DevNo) → device_lt a b ≡ true → device_lt b a ≡ false
 asym a b h = elim (test (device_lt b a)) [
@@ -156,15 +156,6 @@ module _ (s : SessId) (above : Option DevNo) where
     is-above (drop n xs) d (stops (is_taken_passed s above) n xs f) e,
     λ b p q. least (drop n xs) d b (dropped-ascend None n xs a) e (behind (is_taken_passed s above) (Taken s b) n xs (above-passed s above b q) f p),
   )
-
--- what indexing reads at the place
-pub first-at : (s : SessId) (xs : List Key) (i : ℕ) (y : Key) → i < length xs → y ≡ get_or xs i y → first_taken s (drop i xs) ≡ taken_in s y
-first-at s [] i y h e = absurd (omega arith)
-first-at s (x ∷ xs) zero y h e = ap (taken_in s) (sym e)
-first-at s (x ∷ xs) (suc i) y h e = first-at s xs i y (omega arith) e
-
-pub first-past : (s : SessId) (xs : List Key) (i : ℕ) → length xs ≤ i → first_taken s (drop i xs) ≡ None
-first-past s xs i h = ap (first_taken s) (drop_all i xs h)
 
 -- the front of the keys that a match tells
 pub front-some : (s : SessId) (above : Option DevNo) (d : DevNo) (n : ℕ) (xs : List Key) → above ≡ Some d → IsFront (λ (x : Key). not (key_lt (Taken s d) x)) n xs → IsFront (is_taken_passed s above) n xs

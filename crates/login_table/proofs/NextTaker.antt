@@ -1,7 +1,7 @@
 -- The next session that has a device taken, among keys that ascend.
-use Rattle.std.proofs.Common.{◌≡◌, ℕ, zero, suc, ◌==◌, ◌<◌, ◌≤◌, ◌||◌, Bool, true, false, cond, not, Option, Some, None, List, [], ◌∷◌, length, filter, get_or, drop, refl, ap, sym, arith, ◌∙◌, inl, inr}
+use Rattle.std.proofs.Common.{◌≡◌, ℕ, zero, suc, ◌==◌, ◌<◌, ◌≤◌, ◌||◌, Bool, true, false, cond, not, Option, Some, None, List, [], ◌∷◌, length, filter, drop, refl, ap, sym, arith, ◌∙◌, inl, inr}
 use Rattle.std.proofs.lemmas.Bool.Decides.{nat_tests}
-use Rattle.std.proofs.lemmas.List.{drop_all}
+use Rattle.std.specs.Option.{option_and_then}
 use Rattle.login_base.specs.declared.ids.SessId.{SessId}
 use Rattle.login_base.specs.declared.ids.DevNo.{DevNo}
 use Rattle.login_model.specs.declared.fact.Key.{Key}
@@ -10,11 +10,13 @@ use Rattle.login_model.specs.Same.{same_device, same_key}
 use Rattle.login_model.specs.Names.{IsNext, session_lt, is_above}
 use Rattle.login_model.proofs.Keys.{both, same-session, test}
 use Rattle.login_model.proofs.NameLaws.{session_order}
+use Rattle.login_table.specs.declared.key_order.TheConstants.{TAKES}
 use Rattle.login_table.specs.KeyOrder.{key_lt, pair_lt}
-use Rattle.login_table.specs.Keys.{has, holder_in, is_held_by, is_holder, is_holder_passed, KeysAscendFrom}
+use Rattle.login_table.specs.inner.Keys.{has, holder_in, is_held_by, is_holder, is_holder_passed, KeysAscendFrom}
+use Rattle.login_table.specs.Listed.{first}
 use Rattle.login_table.specs.Rows.{IsFront}
 use Rattle.login_table.proofs.KeyOrder.{rank-below, no-test}
-use Rattle.login_table.proofs.KeySets.{key-found, key-missed, keys-lower, other-at, same-at}
+use Rattle.login_table.proofs.Keys.{keys-lower}
 use Rattle.login_table.proofs.NextKey.{no-some, some-is}
 use Rattle.login_table.proofs.NextTaken.{dropped-ascend, or-first, or-second, stops, Stops, true-from}
 
@@ -30,7 +32,7 @@ pub holder-down : (above : Option SessId) (x y : Key) → key_lt x y ≡ true �
 holder-down above (Taken r a) (Taken q b) h e = taken-down above r q a b h e
 holder-down above (Taken r a) _ h e = cc
 holder-down above _ (Taken q b) h e = h
-holder-down above x y h e = rank-below 13 x y h e
+holder-down above x y h e = rank-below TAKES x y h e
 
 -- the key of a session and a device is that session's
 held-itself : (s : SessId) (d : DevNo) (x : Key) → same_key x (Taken s d) ≡ true → is_held_by s x ≡ true
@@ -117,8 +119,7 @@ none-after above x s (y ∷ ys) f n a h = elim (test (is_held_by s y)) [
 
 -- the session of the first key
 abbrev pub first_holder : List Key → Option SessId
-first_holder [] = None
-first_holder (x ∷ xs) = holder_in x
+first_holder xs = option_and_then holder_in (first xs)
 
 -- where the first key is no session's, none is
 none : (above : Option SessId) (ys : List Key) (s : SessId) → KeysAscendFrom None ys → Stops (is_holder_passed above) ys → first_holder ys ≡ None → is_holder s ys ≡ true → ⊥
@@ -153,15 +154,6 @@ next-holder above n xs (Some r) a f e = (
   first-above above (drop n xs) r (stops (is_holder_passed above) n xs f) e,
   λ s p q. least (drop n xs) r s (dropped-ascend None n xs a) e (behind above s n xs q f p),
 )
-
--- what indexing reads at the place
-pub holder-at : (xs : List Key) (i : ℕ) (y : Key) → i < length xs → y ≡ get_or xs i y → first_holder (drop i xs) ≡ holder_in y
-holder-at [] i y h e = absurd (omega arith)
-holder-at (x ∷ xs) zero y h e = ap holder_in (sym e)
-holder-at (x ∷ xs) (suc i) y h e = holder-at xs i y (omega arith) e
-
-pub holder-past : (xs : List Key) (i : ℕ) → length xs ≤ i → first_holder (drop i xs) ≡ None
-holder-past xs i h = ap first_holder (drop_all i xs h)
 
 -- ---- going from one session to the next
 
@@ -247,14 +239,3 @@ fewer from r (x ∷ xs) e h = elim (test (is_held_by r x)) [
 -- fewer of them are left with each session
 pub searched-less : (from : Option SessId) (r : SessId) (xs : List Key) → IsNext session_lt (λ s. is_holder s xs) from (Some r) → length (ahead (Some r) xs) < length (ahead from xs)
 searched-less from r xs n = fewer from r xs n.1 n.0
-
--- whether a key is there, by what stands at its place
-told-by : (k : Key) (xs : List Key) (i : ℕ) (y : Key) (b : Bool) → same_key y k ≡ b → KeysAscendFrom None xs → IsFront (λ (x : Key). key_lt x k) i xs → i < length xs → y ≡ get_or xs i y → b ≡ has k xs
-told-by k xs i y true e a f l at = sym (key-found k xs i y f l (same-at k xs i y at e))
-told-by k xs i y false e a f l at = sym (key-missed k None xs i y a f (other-at k xs i y at e))
-
-pub told-at : (k : Key) (xs : List Key) (i : ℕ) (y : Key) (b : Bool) → KeysAscendFrom None xs → IsFront (λ (x : Key). key_lt x k) i xs → i < length xs → y ≡ get_or xs i y → b ≡ same_key y k → b ≡ has k xs
-told-at k xs i y b a f l at e = told-by k xs i y b (sym e) a f l at
-
-pub told-past : (k : Key) (xs : List Key) (i : ℕ) → KeysAscendFrom None xs → IsFront (λ (x : Key). key_lt x k) i xs → length xs ≤ i → false ≡ has k xs
-told-past k xs i a f l = sym (key-missed k None xs i k a f (λ h. absurd (omega (arith, h, l))))

@@ -1,20 +1,24 @@
 -- The places of rows: which keys stand there, and what a row put in makes of them.
-use Rattle.std.proofs.Common.{◌≡◌, ℕ, zero, suc, nat_lt, ◌==◌, ◌<◌, ◌≤◌, ◌+◌, ◌-◌, ◌||◌, Bool, true, false, cond, Option, Some, None, List, [], ◌∷◌, ◌++◌, length, get_or, map, take, drop, set, refl, ap, sym, ◌∙◌, subst, arith, inl, inr}
+use Rattle.std.proofs.Common.{◌≡◌, ℕ, zero, suc, nat_lt, ◌==◌, ◌<◌, ◌≤◌, ◌+◌, ◌-◌, ◌||◌, Bool, true, false, cond, Option, Some, None, List, [], ◌∷◌, ◌++◌, length, get_or, map, take, drop, set, refl, ap, sym, ◌∙◌, subst, arith, inl, inr, Result, Ok, Err}
 use Rattle.std.proofs.lemmas.Bool.{cases_lt}
-use Rattle.std.proofs.lemmas.List.{append-nil, drop_all, get_or_read, take_at, take_rest}
+use Rattle.std.proofs.lemmas.List.{append-nil, drop_all, take-append-drop, take_at, take_rest}
 use Rattle.std.proofs.lemmas.Bool.Decides.{nat_tests}
-use Rattle.std.specs.List.Sorted.{IsPartitionedBy}
+use Rattle.std.proofs.lemmas.List.Sorted.{searched}
+use Rattle.std.specs.List.Sorted.{IsBinarySearchResult, IsPartitionedBy}
+use Rattle.std.specs.Ordering.{nat_cmp}
+use Rattle.std.specs.Result.{MatchResult}
 use Rattle.login_model.specs.declared.fact.Key.{Key}
 use Rattle.login_model.specs.Same.{same_key}
 use Rattle.login_model.proofs.Keys.{same_key-true}
 use Rattle.login_table.specs.KeyOrder.{key_lt}
-use Rattle.login_table.specs.Keys.{has, KeysAscend, KeysAscendFrom}
-use Rattle.login_table.specs.Places.{key_at, keys_at, PlacesAscend, PlacesFrom, put_place, raised, raised_by, with_front}
+use Rattle.login_table.specs.inner.Keys.{has, KeysAscend, KeysAscendFrom}
+use Rattle.login_table.specs.inner.Places.{key_at, keys_at, PlacesAscend, PlacesFrom, put_place, raised, raised_by, with_front}
+use Rattle.login_table.specs.Listed.{first}
 use Rattle.login_table.specs.Rows.{Ascend, AscendFrom, IsFront}
 use Rattle.login_table.specs.declared.rows.Row.{Row}
 use Rattle.login_table.proofs.Ascending.{opened, lower}
 use Rattle.login_table.proofs.KeyOrder.{below-apart}
-use Rattle.login_table.proofs.KeySets.{keys-closed, keys-opened, keys-parted, none-below}
+use Rattle.login_table.proofs.Keys.{keys-closed, keys-opened, keys-parted, none-below}
 
 -- ascending places, opened
 pub places-opened : (n : ℕ) (ps : List ℕ) → PlacesAscend n ps → PlacesFrom 0 n ps
@@ -77,11 +81,23 @@ key-of xs [] i d = refl
 key-of xs (p ∷ ps) zero d = refl
 key-of xs (p ∷ ps) (suc i) d = key-of xs ps i d
 
--- the key of a place that indexing reads
+-- the key of a place that is gone over
 pub key-read : (xs : List Row) (ps : List ℕ) (i d : ℕ) (k : Key) → i < length ps → k ≡ key_at xs (get_or ps i d) → k ≡ get_or (keys_at xs ps) i k
 key-read xs [] i d k h e = absurd (omega arith)
 key-read xs (p ∷ ps) zero d k h e = e
 key-read xs (p ∷ ps) (suc i) d k h e = key-read xs ps i d k (omega arith) e
+
+-- the first key from a place on, and that there is none behind the last
+pub key-first : (xs : List Row) (ps : List ℕ) (i d : ℕ) → i < length ps → first (drop i (keys_at xs ps)) ≡ Some (key_at xs (get_or ps i d))
+key-first xs [] i d h = absurd (omega arith)
+key-first xs (p ∷ ps) zero d h = refl
+key-first xs (p ∷ ps) (suc i) d h = key-first xs ps i d (omega arith)
+
+pub key-past : (xs : List Row) (ps : List ℕ) (i : ℕ) → length ps ≤ i → first (drop i (keys_at xs ps)) ≡ None
+key-past xs [] zero h = refl
+key-past xs [] (suc i) h = refl
+key-past xs (p ∷ ps) zero h = absurd (omega arith)
+key-past xs (p ∷ ps) (suc i) h = key-past xs ps i (omega arith)
 
 -- a test that parts the keys parts the places
 pub places-parted : (p : Key → Bool) (xs : List Row) (ps : List ℕ) → ((x y : Key) → key_lt x y ≡ true → p y ≡ true → p x ≡ true) → KeysAscend (keys_at xs ps) → IsPartitionedBy (λ q. p (key_at xs q)) ps
@@ -314,43 +330,63 @@ from-parted at low n (p ∷ ps) a (suc i) (suc j) d le lt h = from-parted at (su
 pub numbers-parted : (at n : ℕ) (ps : List ℕ) → PlacesAscend n ps → IsPartitionedBy (λ p. nat_lt p at) ps
 numbers-parted at n ps a = from-parted at 0 n ps (places-opened n ps a)
 
--- the place at the end of a front is another, or there is none
-abbrev pub IsElse : ℕ → List ℕ → ℕ → Type 0
-IsElse at ps i = (d : ℕ) → i < length ps → get_or ps i d ≡ at → ⊥
+-- a list of places rises
+rise : (low n : ℕ) (ps : List ℕ) (i j : ℕ) → PlacesFrom low n ps → i ≤ j → j < length ps → get_or ps i 0 ≤ get_or ps j 0
+rise low n [] i j a le lt = absurd (omega arith)
+rise low n (p ∷ ps) zero zero a le lt = omega arith
+rise low n (p ∷ ps) zero (suc j) a le lt = omega (arith, number-behind (suc p) n ps j 0 a.2 (omega arith))
+rise low n (p ∷ ps) (suc i) zero a le lt = absurd (omega arith)
+rise low n (p ∷ ps) (suc i) (suc j) a le lt = rise (suc p) n ps i j a.2 (omega arith) (omega arith)
 
-above-it : (at p : ℕ) → nat_lt p at ≡ false → (p ≡ at → ⊥) → at < p
-above-it at p f n = elim (cases_lt at p) [
-  | inl h ↦ h
-  | inr h ↦ absurd (n (omega (arith, from-not-below p at f)))
-]
+-- a place that is there, put in or taken out where it stands
+found : (at low n i : ℕ) (b : Bool) (ps : List ℕ) → PlacesFrom low n ps → i < length ps → get_or ps i 0 ≡ at → take i ps ++ with_front b at (drop (suc i) ps) ≡ put_place at b ps
+found at low n i b [] a h e = absurd (omega arith)
+found at low n zero b (p ∷ ps) a h e = sym (put-same at p b ps e)
+found at low n (suc i) b (p ∷ ps) a h e =
+    ap (λ (qs : List ℕ). p ∷ qs) (found at (suc p) n i b ps a.2 (omega arith) e) ∙ sym (put-low at p b ps (omega (arith, e, number-behind (suc p) n ps i 0 a.2 (omega arith))))
 
--- where it is not there, putting it in makes one place more
-pub place-inserted : (at i : ℕ) (ps : List ℕ) → IsFront (λ p. nat_lt p at) i ps → IsElse at ps i → take i ps ++ at ∷ drop i ps ≡ put_place at true ps
-place-inserted at zero [] f n = refl
-place-inserted at (suc i) [] f n = absurd f
-place-inserted at zero (p ∷ ps) f n = sym (put-high at p true ps (above-it at p f (n 0 (omega arith))))
-place-inserted at (suc i) (p ∷ ps) f n =
-    ap (λ (qs : List ℕ). p ∷ qs) (place-inserted at i ps f.1 (λ d h. n d (omega arith))) ∙ sym (put-low at p true ps (from-below p at f.0))
+-- one that is not there, where it would stand
+missed : (at i : ℕ) (b : Bool) (ps : List ℕ) → i ≤ length ps → ((k : ℕ) → k < i → get_or ps k 0 < at) → ((k : ℕ) → i ≤ k → k < length ps → at < get_or ps k 0)
+    → take i ps ++ with_front b at (drop i ps) ≡ put_place at b ps
+missed at zero b [] h low high = refl
+missed at (suc i) b [] h low high = absurd (omega arith)
+missed at zero b (p ∷ ps) h low high = sym (put-high at p b ps (high 0 (omega arith) (omega arith)))
+missed at (suc i) b (p ∷ ps) h low high =
+    ap (λ (qs : List ℕ). p ∷ qs) (missed at i b ps (omega arith) (λ k l. low (suc k) (omega arith)) (λ k l m. high (suc k) (omega arith) (omega arith))) ∙ sym (put-low at p b ps (low 0 (omega arith)))
 
--- and taking it out leaves them
-pub place-missed : (at i : ℕ) (ps : List ℕ) → IsFront (λ p. nat_lt p at) i ps → IsElse at ps i → ps ≡ put_place at false ps
-place-missed at zero [] f n = refl
-place-missed at (suc i) [] f n = absurd f
-place-missed at zero (p ∷ ps) f n = sym (put-high at p false ps (above-it at p f (n 0 (omega arith))))
-place-missed at (suc i) (p ∷ ps) f n =
-    ap (λ (qs : List ℕ). p ∷ qs) (place-missed at i ps f.1 (λ d h. n d (omega arith))) ∙ sym (put-low at p false ps (from-below p at f.0))
+kept : (at i : ℕ) (ps : List ℕ) → i < length ps → get_or ps i 0 ≡ at → take i ps ++ at ∷ drop (suc i) ps ≡ ps
+kept at i [] h e = absurd (omega arith)
+kept at zero (p ∷ ps) h e = ap (λ (q : ℕ). q ∷ ps) (sym e)
+kept at (suc i) (p ∷ ps) h e = ap (λ (qs : List ℕ). p ∷ qs) (kept at i ps (omega arith) e)
 
--- where it is there, putting it in leaves them
-pub place-found : (at i d : ℕ) (ps : List ℕ) → IsFront (λ p. nat_lt p at) i ps → i < length ps → get_or ps i d ≡ at → ps ≡ put_place at true ps
-place-found at i d [] f l e = absurd (omega arith)
-place-found at zero d (p ∷ ps) f l e = ap (λ (q : ℕ). q ∷ ps) e ∙ sym (put-same at p true ps e)
-place-found at (suc i) d (p ∷ ps) f l e = ap (λ (qs : List ℕ). p ∷ qs) (place-found at i d ps f.1 (omega arith) e) ∙ sym (put-low at p true ps (from-below p at f.0))
+-- what a search by halving tells of a place, where the vector is read as a slice
+module _ (at n i : ℕ) (qs xs ps : List ℕ) (read : qs ≡ xs) (seen : xs ≡ ps) (up : PlacesAscend n ps) where
+  told : (r : Result ℕ ℕ) → IsBinarySearchResult (λ y. nat_cmp y at) qs r
+      → MatchResult r (λ j. (j < length ps) × (get_or ps j 0 ≡ at)) (λ j. (j ≤ length ps) × ((k : ℕ) → k < j → get_or ps k 0 < at) × ((k : ℕ) → j ≤ k → k < length ps → at < get_or ps k 0))
+  told r s =
+      let S : List ℕ → Type 0 = λ us. IsBinarySearchResult (λ y. nat_cmp y at) us r in
+      searched ps at r (subst S (read ∙ seen) s) (λ j k le lt. rise 0 n ps j k (places-opened n ps up) le lt)
 
--- and taking it out makes one less
-pub place-removed : (at i d : ℕ) (ps : List ℕ) → IsFront (λ p. nat_lt p at) i ps → i < length ps → get_or ps i d ≡ at → take i ps ++ drop (suc i) ps ≡ put_place at false ps
-place-removed at i d [] f l e = absurd (omega arith)
-place-removed at zero d (p ∷ ps) f l e = sym (put-same at p false ps e)
-place-removed at (suc i) d (p ∷ ps) f l e = ap (λ (qs : List ℕ). p ∷ qs) (place-removed at i d ps f.1 (omega arith) e) ∙ sym (put-low at p false ps (from-below p at f.0))
+  pub place-found : (b : Bool) → IsBinarySearchResult (λ y. nat_cmp y at) qs (Ok i) → take i xs ++ with_front b at (drop (suc i) xs) ≡ put_place at b ps
+  place-found b s =
+      let t = told (Ok i) s in
+      ap (λ (us : List ℕ). take i us ++ with_front b at (drop (suc i) us)) seen ∙ found at 0 n i b ps (places-opened n ps up) t.0 t.1
+
+  pub place-missed : (b : Bool) → IsBinarySearchResult (λ y. nat_cmp y at) qs (Err i) → take i xs ++ with_front b at (drop i xs) ≡ put_place at b ps
+  place-missed b s =
+      let t = told (Err i) s in
+      ap (λ (us : List ℕ). take i us ++ with_front b at (drop i us)) seen ∙ missed at i b ps t.0 t.1 t.2
+
+  -- what is there stays where it is put in, and what is not there stays out
+  pub stays-in : IsBinarySearchResult (λ y. nat_cmp y at) qs (Ok i) → ps ≡ put_place at true ps
+  stays-in s =
+      let t = told (Ok i) s in
+      sym (kept at i ps t.0 t.1) ∙ found at 0 n i true ps (places-opened n ps up) t.0 t.1
+
+  pub stays-out : IsBinarySearchResult (λ y. nat_cmp y at) qs (Err i) → ps ≡ put_place at false ps
+  stays-out s =
+      let t = told (Err i) s in
+      sym (take-append-drop i ps) ∙ missed at i false ps t.0 t.1 t.2
 
 all-raised : (at low n : ℕ) (ps : List ℕ) → at ≤ low → PlacesFrom low n ps → map suc ps ≡ raised at ps
 all-raised at low n [] h a = refl
@@ -367,10 +403,6 @@ raised-front at (suc i) low n (p ∷ ps) a f =
 -- the places behind raised
 pub raised-behind : (at i n : ℕ) (ps : List ℕ) → PlacesAscend n ps → IsFront (λ p. nat_lt p at) i ps → take i ps ++ map suc (drop i ps) ≡ raised at ps
 raised-behind at i n ps a f = raised-front at i 0 n ps (places-opened n ps a) f
-
--- what indexing reads at the end of a front
-pub else-at : (at i p : ℕ) (ps : List ℕ) → p ≡ get_or ps i p → (p ≡ at → ⊥) → IsElse at ps i
-else-at at i p ps e n = λ d h s. n (get_or_read ps i p h e d ∙ s)
 
 -- each place of rows leaves room for one above it
 pub below-most : (n : ℕ) (ps : List ℕ) (i d : ℕ) → PlacesAscend n ps → i < length ps → get_or ps i d < n

@@ -1,10 +1,9 @@
 pub mod Appended
 pub mod Home
+pub mod inner
 pub mod KeyOrder
-pub mod Keys
 pub mod Listed
 pub mod Nearest
 pub mod Parts
-pub mod Places
 pub mod Rows
 pub mod Stands

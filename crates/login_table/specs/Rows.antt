@@ -4,13 +4,11 @@ use Rattle.login_model.specs.declared.fact.Key.{Key}
 use Rattle.login_model.specs.declared.fact.Key.TheVariants as key
 use Rattle.login_model.specs.declared.fact.Fact.{Fact}
 use Rattle.login_model.specs.declared.mark.Mark.TheVariants.{Set}
-use Rattle.login_model.specs.Start.{start_fact}
-use Rattle.login_model.specs.Trail.{Trail, value}
+use Rattle.login_model.specs.Trail.{Trail}
 use Rattle.login_model.specs.Names.{is_above}
 use Rattle.login_model.specs.Where.{is_session_fact, is_user_fact, is_connected_fact, is_seat_fact, is_device_fact, is_lock_fact}
 use Rattle.login_model.specs.Facts.{is_handle_fact}
 use Rattle.login_table.specs.KeyOrder.{key_lt}
-use Rattle.login_table.specs.Keys.{has}
 use Rattle.login_table.specs.declared.rows.Row.{Row}
 
 -- the rows as settings
@@ -21,6 +19,11 @@ as_trail (x ∷ xs) = Set x.key x.fact ∷ as_trail xs
 -- what rows are seen as: as settings, and how many more go in without memory
 pub record RowList : Type 0 where
   pub trail : Trail
+  pub spare : ℕ
+
+-- what the places of rows are seen as: the numbers in order, and how many more go in without memory
+pub record PlaceList : Type 0 where
+  pub list : List ℕ
   pub spare : ℕ
 
 -- the keys ascend, and the first of them is above that one
@@ -49,8 +52,3 @@ says_there (key.Dev a) x = is_device_fact x
 says_there (key.Lock a) x = is_lock_fact x
 says_there (key.Taken s a) x = is_handle_fact x
 says_there k x = false
-
--- the keys are those of what the settings say is there, but that one of what is there at the start may be missing
-pub record AreThere (keys : List Key) (t : Trail) : Type 0 where
-  pub sound : (k : Key) → has k keys ≡ true → says_there k (value t k) ≡ true
-  pub whole : (k : Key) → says_there k (value t k) ≡ true → has k keys ≡ false → says_there k (start_fact k) ≡ true

@@ -1,12 +1,13 @@
 // The places of rows, in order, each once.
 
-ghost use Rattle.std.specs.Prelude.{◌≡◌, ◌+◌, ◌-◌, ◌^◌, ◌<◌, ◌≤◌, [], OnOk, false, length, map, nat_lt, not, suc, true};
+ghost use Rattle.std.specs.Prelude.{◌≡◌, ◌+◌, ◌-◌, ◌^◌, ◌<◌, ◌≤◌, [], MatchOption, None, OnOk, Some, drop, false, length, map, nat_lt, not, suc, true};
 ghost use Rattle.login_model.specs.Devices.{taken_in};
 ghost use Rattle.login_model.specs.Names.{IsNext, device_lt, session_lt};
 ghost use Rattle.login_model.specs.declared.fact.Key.{Key as AnyKey};
 ghost use Rattle.login_table.specs.KeyOrder.{key_lt, rank_of};
-ghost use Rattle.login_table.specs.Keys.{KeysAscend, first_named, has, holder_in, is_holder, is_holder_passed, is_passed, is_taken_passed};
-ghost use Rattle.login_table.specs.Places.{PlacesAscend, key_at, key_or, keys_at, put_place, raised};
+ghost use Rattle.login_table.specs.inner.Keys.{KeysAscend, first_named, has, holder_in, is_holder, is_holder_passed, is_passed, is_taken_passed};
+ghost use Rattle.login_table.specs.inner.Places.{PlacesAscend, key_at, key_or, keys_at, put_place, raised};
+ghost use Rattle.login_table.specs.Listed.{first};
 ghost use Rattle.login_table.specs.Rows.{IsFront};
 
 use crate::key_order::{TAKES, is_key_below, rank_of};
@@ -25,7 +26,7 @@ pub(crate) struct Places {
 
 impl Model for Places {
     ghost use Rattle.std.specs.Prelude.{◌-◌, vec_len, vec_capacity};
-    ghost use Rattle.login_table.specs.Places.{PlaceList};
+    ghost use Rattle.login_table.specs.Rows.{PlaceList};
 
     ghost Value = { PlaceList };
 
@@ -40,6 +41,15 @@ fn key_or<'a>(rows: &'a [Row], place: usize, other: &'a Key) -> &'a Key
         Some(row) => &row.key,
         None => other,
     }
+}
+
+/// The first key from so many on.
+fn first_key<'a>(rows: &'a [Row], places: &[usize], from: usize, other: &'a Key) -> Option<&'a Key>
+    requires { other.now ≡ Key.Vt }
+    ensures { MatchOption result (first (drop from (keys_at rows.now places.now)) ≡ None) (λ key. first (drop from (keys_at rows.now places.now)) ≡ Some key.now) }
+{
+    let place = places.get(from)?;
+    Some(key_or(rows, *place, other))
 }
 
 /// How many keys are below that one.
@@ -125,6 +135,20 @@ fn taken_in(session: SessId, key: &Key) -> Option<DevNo>
     }
 }
 
+/// The least device above that one that a session has taken.
+fn next_taken(
+    rows: &[Row],
+    places: &[usize],
+    session: SessId,
+    above: Option<DevNo>,
+) -> Option<DevNo>
+    requires { KeysAscend (keys_at rows.now places.now) }
+    ensures { IsNext device_lt (λ d. has (Key.Taken session d) (keys_at rows.now places.now)) above result }
+{
+    let from = place_taken(rows, places, session, above);
+    taken_in(session, first_key(rows, places, from, &Key::Vt)?)
+}
+
 /// The session of a key about what one has taken.
 fn holder_in(key: &Key) -> Option<SessId>
     ensures { result ≡ holder_in key.now }
@@ -163,12 +187,8 @@ fn next_holder(rows: &[Row], places: &[usize], above: Option<SessId>) -> Option<
     requires { KeysAscend (keys_at rows.now places.now) }
     ensures { IsNext session_lt (λ s. is_holder s (keys_at rows.now places.now)) above result }
 {
-    let at = place_of_holder(rows, places, above);
-    if at < places.len() {
-        holder_in(key_or(rows, places[at], &Key::Vt))
-    } else {
-        None
-    }
+    let from = place_of_holder(rows, places, above);
+    holder_in(first_key(rows, places, from, &Key::Vt)?)
 }
 
 /// Whether a key is there. It is found by halving.
@@ -176,11 +196,9 @@ fn has(rows: &[Row], places: &[usize], key: &Key) -> bool
     requires { KeysAscend (keys_at rows.now places.now) }
     ensures { result ≡ has key.now (keys_at rows.now places.now) }
 {
-    let at = place(rows, places, key);
-    if at < places.len() {
-        is_same_key(key_or(rows, places[at], &Key::Vt), key)
-    } else {
-        false
+    match first_key(rows, places, place(rows, places, key), &Key::Vt) {
+        Some(found) => is_same_key(found, key),
+        None => false,
     }
 }
 
@@ -282,13 +300,11 @@ impl Places {
         ensures list { self.new.list ≡ put_place at true self.old.list }
         ensures spare { self.old.spare ≤ self.new.spare + 1 }
     {
-        let from = count_below(self.places.as_slice(), at);
-        if from < self.places.len() && self.places[from] == at {
-            return;
-        }
-        match self.places.insert(from, at) {
-            Ok(()) => {}
-            Err(_) => unreachable!(),
+        if let Err(from) = self.places.binary_search(&at) {
+            match self.places.insert(from, at) {
+                Ok(()) => {}
+                Err(_) => unreachable!(),
+            }
         }
     }
 
@@ -298,8 +314,7 @@ impl Places {
         ensures list { self.new.list ≡ put_place at false self.old.list }
         ensures spare { self.old.spare ≤ self.new.spare }
     {
-        let from = count_below(self.places.as_slice(), at);
-        if from < self.places.len() && self.places[from] == at {
+        if let Ok(from) = self.places.binary_search(&at) {
             self.places.remove(from);
         }
     }
@@ -337,12 +352,7 @@ impl Places {
         requires { KeysAscend (keys_at rows.now self.now.list) }
         ensures { IsNext device_lt (λ d. has (Key.Taken session d) (keys_at rows.now self.now.list)) above result }
     {
-        let at = place_taken(rows, self.places.as_slice(), session, above);
-        if at < self.places.len() {
-            taken_in(session, key_or(rows, self.places[at], &Key::Vt))
-        } else {
-            None
-        }
+        next_taken(rows, self.places.as_slice(), session, above)
     }
 
     /// The least session above that one whose key is there with the device.

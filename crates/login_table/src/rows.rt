@@ -36,8 +36,9 @@ pub struct Rows {
 
 impl Model for Rows {
     ghost use Rattle.std.specs.Prelude.{◌-◌, length, min, vec_len, vec_capacity};
-    ghost use Rattle.login_table.specs.Places.{PlacesAscend, keys_at};
-    ghost use Rattle.login_table.specs.Rows.{AreThere, Ascend, RowList, as_trail};
+    ghost use Rattle.login_table.specs.inner.Keys.{AreThere};
+    ghost use Rattle.login_table.specs.inner.Places.{PlacesAscend, keys_at};
+    ghost use Rattle.login_table.specs.Rows.{Ascend, RowList, as_trail};
 
     ghost Value = { RowList };
 
@@ -91,7 +92,7 @@ fn says_there(key: &Key, fact: &Fact) -> bool
 
 impl Rows {
     ghost use Rattle.login_table.specs.Listed.{is_there};
-    ghost use Rattle.login_table.specs.Nearest.{nearer};
+    ghost use Rattle.login_table.specs.inner.Nearest.{nearer};
     ghost use Rattle.login_table.specs.Rows.{as_trail};
 
     /// No facts but those at the start. It takes no memory.

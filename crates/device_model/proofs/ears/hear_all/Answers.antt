@@ -1,5 +1,5 @@
 use Rattle.std.proofs.Common.{◌≡◌, ℕ, suc, ◌+◌, ◌<◌, ◌≤◌, ◌∙◌, ap, arith, length, List, get_or, slice_set}
-use Rattle.device_model.specs.Ears.{hear_ear}
+use Rattle.device_model.specs.inner.Ears.{hear_ear}
 use Rattle.device_model.specs.declared.ears.Ear.{Ear}
 use Rattle.device_model.proofs.Listening.{made, made-next, made-all, made-length}
 use Rattle.device_model.proofs.ears.hear_all.Goals as goal

@@ -1,5 +1,5 @@
 use Rattle.std.proofs.Common.{◌≡◌}
-use Rattle.device_model.specs.Ears.{hear_ear}
+use Rattle.device_model.specs.inner.Ears.{hear_ear}
 use Rattle.device_model.proofs.Listening.{made}
 use Rattle.device_model.proofs.ears.hear_all.Given as goal
 

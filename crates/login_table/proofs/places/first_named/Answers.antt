@@ -1,9 +1,9 @@
 use Rattle.std.proofs.Common.{◌≡◌, ◌<◌, ◌∙◌, ℕ, nat_lt, true, sym, ap, arith, length}
 use Rattle.std.proofs.lemmas.Bool.Decides.{nat_tests}
 use Rattle.login_table.specs.KeyOrder.{rank_of}
-use Rattle.login_table.specs.Keys.{first_named}
-use Rattle.login_table.specs.Places.{keys_at}
-use Rattle.login_table.proofs.KeySets.{keys-opened}
+use Rattle.login_table.specs.inner.Keys.{first_named}
+use Rattle.login_table.specs.inner.Places.{keys_at}
+use Rattle.login_table.proofs.Keys.{keys-opened}
 use Rattle.login_table.proofs.NextKey.{beyond-at}
 use Rattle.login_table.proofs.RowPlaces.{drop-keys, key-read, length-keys}
 use Rattle.login_table.proofs.places.first_named.Goals as goal

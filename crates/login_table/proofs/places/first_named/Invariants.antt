@@ -1,6 +1,6 @@
 use Rattle.std.proofs.Common.{◌≡◌, drop}
-use Rattle.login_table.specs.Keys.{first_named}
-use Rattle.login_table.specs.Places.{keys_at}
+use Rattle.login_table.specs.inner.Keys.{first_named}
+use Rattle.login_table.specs.inner.Places.{keys_at}
 use Rattle.login_table.proofs.places.first_named.Given as goal
 
 -- no key so far is about a name

@@ -1,25 +1,22 @@
-use Rattle.std.proofs.Common.{◌<◌, ◌≤◌, arith, length}
-use Rattle.login_table.specs.Places.{keys_at}
-use Rattle.login_table.proofs.KeySets.{keys-opened}
-use Rattle.login_table.proofs.NextTaker.{told-at, told-past}
-use Rattle.login_table.proofs.RowPlaces.{key-read, length-keys}
+use Rattle.std.proofs.Common.{◌∙◌, ap, sym, false, None, Option}
+use Rattle.std.specs.Option.{option_map_or}
+use Rattle.login_model.specs.declared.fact.Key.{Key}
+use Rattle.login_model.specs.Same.{same_key}
+use Rattle.login_table.specs.inner.Places.{keys_at}
+use Rattle.login_table.proofs.Keys.{has-first, keys-opened}
 use Rattle.login_table.proofs.places.has.Goals as goal
 
-pub returns-then-at-places : goal.returns-then-at-places
-returns-then-at-places c =
-    let rows = c.args.rows.now in
-    let places = c.args.places.now in
-    let xs = keys_at rows places in
-    let i = c.place-at.result in
-    let within : i < length xs = omega (arith, c.if-at-places.true, length-keys rows places) in
-    told-at c.args.key.now xs i c.key_or.result.now c.is_same_key.result (keys-opened xs c.requires) c.place-at.ensures.front within
-    (key-read rows places i _ c.key_or.result.now c.if-at-places.true c.key_or.ensures) c.is_same_key.ensures
+pub returns-in-Some : goal.returns-in-Some
+returns-in-Some c =
+    let k = c.args.key.now in
+    let xs = keys_at c.args.rows.now c.args.places.now in
+    c.is_same_key.ensures
+    ∙ ap (λ (r : Option Key). option_map_or (λ (x : Key). same_key x k) r false) (sym c.in-Some.ensures)
+    ∙ has-first k None xs c.place.result (keys-opened xs c.requires) c.place.ensures.front
 
-pub returns-else-at-places : goal.returns-else-at-places
-returns-else-at-places c =
-    let rows = c.args.rows.now in
-    let places = c.args.places.now in
-    let xs = keys_at rows places in
-    let i = c.place-at.result in
-    let past : length xs ≤ i = omega (arith, c.if-at-places.false, length-keys rows places) in
-    told-past c.args.key.now xs i (keys-opened xs c.requires) c.place-at.ensures.front past
+pub returns-in-None : goal.returns-in-None
+returns-in-None c =
+    let k = c.args.key.now in
+    let xs = keys_at c.args.rows.now c.args.places.now in
+    ap (λ (r : Option Key). option_map_or (λ (x : Key). same_key x k) r false) (sym c.in-None.ensures)
+    ∙ has-first k None xs c.place.result (keys-opened xs c.requires) c.place.ensures.front

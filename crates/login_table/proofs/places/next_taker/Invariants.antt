@@ -1,7 +1,7 @@
 use Rattle.std.proofs.Common.{length}
 use Rattle.login_model.specs.declared.fact.Key.TheVariants.{Taken}
-use Rattle.login_table.specs.Keys.{has}
-use Rattle.login_table.specs.Places.{keys_at}
+use Rattle.login_table.specs.inner.Keys.{has}
+use Rattle.login_table.specs.inner.Places.{keys_at}
 use Rattle.login_table.proofs.NextTaker.{Searched, ahead}
 use Rattle.login_table.proofs.places.next_taker.Given as goal
 

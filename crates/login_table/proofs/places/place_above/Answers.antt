@@ -1,4 +1,4 @@
-use Rattle.login_table.specs.Places.{keys_at}
+use Rattle.login_table.specs.inner.Places.{keys_at}
 use Rattle.login_table.proofs.NextKey.{front-above, front-rank}
 use Rattle.login_table.proofs.places.place_above.Goals as goal
 

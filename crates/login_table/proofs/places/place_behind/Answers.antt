@@ -2,9 +2,9 @@ use Rattle.std.proofs.Common.{ℕ, rules, not}
 use Rattle.std.proofs.lemmas.List.Sorted.{IsPartitionPoint-from_clause}
 use Rattle.login_model.specs.declared.fact.Key.{Key}
 use Rattle.login_table.specs.KeyOrder.{key_lt}
-use Rattle.login_table.specs.Places.{key_at}
+use Rattle.login_table.specs.inner.Places.{key_at}
 use Rattle.login_table.proofs.Ascending.{front-point}
-use Rattle.login_table.proofs.KeySets.{keys-up-to}
+use Rattle.login_table.proofs.Keys.{keys-up-to}
 use Rattle.login_table.proofs.RowPlaces.{keys-front, places-parted}
 use Rattle.login_table.proofs.places.place_behind.Goals as goal
 

@@ -1,7 +1,7 @@
 use Rattle.std.proofs.Common.{ℕ, rules}
 use Rattle.std.proofs.lemmas.List.Sorted.{IsPartitionPoint-from_clause}
-use Rattle.login_table.specs.Keys.{is_holder_passed}
-use Rattle.login_table.specs.Places.{key_at}
+use Rattle.login_table.specs.inner.Keys.{is_holder_passed}
+use Rattle.login_table.specs.inner.Places.{key_at}
 use Rattle.login_table.proofs.Ascending.{front-point}
 use Rattle.login_table.proofs.NextTaker.{holder-down}
 use Rattle.login_table.proofs.RowPlaces.{keys-front, places-parted}

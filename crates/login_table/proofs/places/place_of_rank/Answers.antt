@@ -2,9 +2,9 @@ use Rattle.std.proofs.Common.{ℕ, rules, nat_lt}
 use Rattle.std.proofs.lemmas.List.Sorted.{IsPartitionPoint-from_clause}
 use Rattle.login_model.specs.declared.fact.Key.{Key}
 use Rattle.login_table.specs.KeyOrder.{rank_of}
-use Rattle.login_table.specs.Places.{key_at}
+use Rattle.login_table.specs.inner.Places.{key_at}
 use Rattle.login_table.proofs.Ascending.{front-point}
-use Rattle.login_table.proofs.KeySets.{keys-of-kinds}
+use Rattle.login_table.proofs.Keys.{keys-of-kinds}
 use Rattle.login_table.proofs.RowPlaces.{keys-front, places-parted}
 use Rattle.login_table.proofs.places.place_of_rank.Goals as goal
 

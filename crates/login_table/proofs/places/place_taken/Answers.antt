@@ -1,4 +1,4 @@
-use Rattle.login_table.specs.Places.{keys_at}
+use Rattle.login_table.specs.inner.Places.{keys_at}
 use Rattle.login_table.proofs.NextTaken.{front-some, front-none}
 use Rattle.login_table.proofs.places.place_taken.Goals as goal
 

@@ -1,5 +1,6 @@
 use Rattle.std.proofs.Common.{◌∙◌, ap, sym, subst, rules, List, position}
-use Rattle.device_model.specs.Ears.{AreOnce, EarList, heard_of, is_ear_of}
+use Rattle.device_model.specs.Ears.{AreOnce, heard_of, is_ear_of}
+use Rattle.device_model.specs.inner.Ears.{EarList}
 use Rattle.device_model.specs.declared.ears.Ear.{Ear}
 use Rattle.device_model.proofs.Listening.{removed-once, removed-others, removed-own}
 use Rattle.device_model.proofs.Places.{placed}

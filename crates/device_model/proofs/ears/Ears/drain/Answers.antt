@@ -2,7 +2,8 @@ use Rattle.std.proofs.Common.{◌≡◌, ◌==◌, ◌∙◌, ap, sym, true, Lis
 use Rattle.login_base.specs.declared.ids.DevNo.{DevNo}
 use Rattle.login_base.specs.declared.ids.HandleNo.{HandleNo}
 use Rattle.login_model.specs.declared.answer.Input.{Input}
-use Rattle.device_model.specs.Ears.{EarList, heard_of, is_ear_of}
+use Rattle.device_model.specs.Ears.{heard_of, is_ear_of}
+use Rattle.device_model.specs.inner.Ears.{EarList}
 use Rattle.device_model.specs.declared.ears.Ear.{Ear}
 use Rattle.device_model.proofs.Listening.{ear-at, heard-at, parts, set-once, set-others, set-own}
 use Rattle.device_model.proofs.Places.{placed}

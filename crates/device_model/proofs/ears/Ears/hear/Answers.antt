@@ -1,5 +1,6 @@
 use Rattle.std.proofs.Common.{◌≡◌, ◌∙◌, ap, sym, subst, arith, length, List, map, option_map, drop}
-use Rattle.device_model.specs.Ears.{AreOnce, EarList, hear_ear, heard_of, hears}
+use Rattle.device_model.specs.Ears.{AreOnce, heard_of, hears}
+use Rattle.device_model.specs.inner.Ears.{EarList, hear_ear}
 use Rattle.device_model.specs.declared.ears.Ear.{Ear}
 use Rattle.device_model.proofs.Listening.{all-heard, all-once, front-whole}
 use Rattle.device_model.proofs.ears.Ears.hear.Goals as goal

@@ -1,5 +1,6 @@
 use Rattle.std.proofs.Common.{◌∙◌, ap, sym, position, Some}
-use Rattle.device_model.specs.Ears.{EarList, heard_of, is_ear_of}
+use Rattle.device_model.specs.Ears.{heard_of, is_ear_of}
+use Rattle.device_model.specs.inner.Ears.{EarList}
 use Rattle.device_model.specs.declared.ears.Ear.{Ear}
 use Rattle.device_model.proofs.Listening.{heard-at, parts}
 use Rattle.device_model.proofs.Places.{placed}

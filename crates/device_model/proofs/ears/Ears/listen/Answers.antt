@@ -1,6 +1,7 @@
 use Rattle.std.proofs.Common.{◌≡◌, ◌∙◌, ap, sym, subst, rules, List, None, Some}
 use Rattle.login_model.specs.declared.answer.Input.{Input}
-use Rattle.device_model.specs.Ears.{AreOnce, EarList, heard_of}
+use Rattle.device_model.specs.Ears.{AreOnce, heard_of}
+use Rattle.device_model.specs.inner.Ears.{EarList}
 use Rattle.device_model.specs.declared.ears.Ear.{Ear}
 use Rattle.device_model.proofs.Listening.{itself, pushed-once, pushed-other, pushed-own, turned}
 use Rattle.device_model.proofs.ears.Ears.listen.Goals as goal

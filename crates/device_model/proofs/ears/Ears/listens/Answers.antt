@@ -1,5 +1,6 @@
 use Rattle.std.proofs.Common.{◌∙◌, ap, is_some, position}
-use Rattle.device_model.specs.Ears.{EarList, heard_of, is_ear_of}
+use Rattle.device_model.specs.Ears.{heard_of, is_ear_of}
+use Rattle.device_model.specs.inner.Ears.{EarList}
 use Rattle.device_model.proofs.Listening.{heard-where}
 use Rattle.device_model.proofs.ears.Ears.listens.Goals as goal
 

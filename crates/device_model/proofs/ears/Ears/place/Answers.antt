@@ -1,5 +1,6 @@
 use Rattle.std.proofs.Common.{◌∙◌, ap, sym, position}
-use Rattle.device_model.specs.Ears.{EarList, heard_of, is_ear_of}
+use Rattle.device_model.specs.Ears.{heard_of, is_ear_of}
+use Rattle.device_model.specs.inner.Ears.{EarList}
 use Rattle.device_model.proofs.Listening.{some-heard}
 use Rattle.device_model.proofs.Places.{nowhere, placed}
 use Rattle.device_model.proofs.ears.Ears.place.Goals as goal

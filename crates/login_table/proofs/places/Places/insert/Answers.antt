@@ -1,33 +1,13 @@
-use Rattle.std.proofs.Common.{◌≡◌, ◌<◌, ◌∙◌, ℕ, sym, ap, subst, true, nat_lt, arith, length, List, vec_len}
-use Rattle.login_table.specs.Places.{PlaceList, put_place}
-use Rattle.login_table.specs.Rows.{IsFront}
-use Rattle.login_table.proofs.RowPlaces.{else-at, place-found, place-inserted}
-use Rattle.login_table.proofs.places.Places.insert.Goals.{else-from-len-via-then-from-len+else-index-at, else-from-len-via-else-from-len}
+use Rattle.std.proofs.Common.{◌-◌, ◌^◌, ◌∙◌, ap, true}
+use Rattle.login_table.specs.Rows.{PlaceList}
+use Rattle.login_table.proofs.RowPlaces.{place-missed, stays-in}
 use Rattle.login_table.proofs.places.Places.insert.Goals as goal
 
-pub returns-then-index-at-clause-list : goal.returns-then-index-at-clause-list
-returns-then-index-at-clause-list c =
-    let at = c.args.at in
-    let xs = c.self.inside.places.items in
-    let i = c.count_below-from.result in
-    let F : List ℕ → Type 0 = λ ys. IsFront (λ p. nat_lt p at) i ys in
-    let front : F xs = subst F c.as_slice.ensures.value c.count_below-from.ensures.front in
-    let long : length xs ≡ vec_len c.self.inside.places = ap length (sym c.as_slice.ensures.value) ∙ c.as_slice.ensures.len in
-    let within : i < length xs = omega (arith, c.if-from-len.true, c.len.ensures, long) in
-    let P : List ℕ → Type 0 = λ ys. ys ≡ put_place at true ys in
-    subst P (ap (λ (v : PlaceList). v.list) c.self.view_is) (place-found at i c.index.result.now xs front within (sym c.index.ensures ∙ c.if-index-at.true))
-
-pub returns-clause-list : goal.returns-clause-list
-returns-clause-list c =
-    let at = c.args.at in
-    let xs = c.self.inside.places.items in
-    let i = c.count_below-from.result in
-    let F : List ℕ → Type 0 = λ ys. IsFront (λ p. nat_lt p at) i ys in
-    let front : F xs = subst F c.as_slice.ensures.value c.count_below-from.ensures.front in
-    let long : length xs ≡ vec_len c.self.inside.places = ap length (sym c.as_slice.ensures.value) ∙ c.as_slice.ensures.len in
+pub returns-in-Ok-clause-list : goal.returns-in-Ok-clause-list
+returns-in-Ok-clause-list c =
     c.in-Ok.ensures.items
-    ∙ place-inserted at i xs front (elim c.else-from-len.branch [
-      | else-from-len-via-then-from-len+else-index-at w ↦ else-at at i w.index.result.now xs w.index.ensures w.if-index-at.false
-      | else-from-len-via-else-from-len w ↦ (λ d h s. absurd (omega (arith, h, w.if-from-len.false, c.len.ensures, long)))
-    ])
-    ∙ ap (λ (v : PlaceList). put_place at true v.list) c.self.view_is
+    ∙ place-missed c.args.at (2 ^ 64 - 1) c.in-Err.from c.deref.result.now c.self.inside.places.items c.args.self.now.list c.deref.ensures.value (ap (λ (v : PlaceList). v.list) c.self.view_is) c.requires.ascend true c.in-Err.ensures.position
+
+pub returns-in_default-clause-list : goal.returns-in_default-clause-list
+returns-in_default-clause-list c =
+    stays-in c.args.at (2 ^ 64 - 1) c.in_default.field-0 c.deref.result.now c.self.inside.places.items c.args.self.now.list c.deref.ensures.value (ap (λ (v : PlaceList). v.list) c.self.view_is) c.requires.ascend c.in_default.ensures.position

@@ -1,5 +1,5 @@
 use Rattle.std.proofs.Common.{ap}
-use Rattle.login_table.specs.Places.{keys_at}
+use Rattle.login_table.specs.inner.Places.{keys_at}
 use Rattle.login_table.specs.Rows.{RowList}
 use Rattle.login_table.proofs.NextRow.{keys-of, next-there, there-of}
 use Rattle.login_table.proofs.rows.Rows.next.Goals as goal

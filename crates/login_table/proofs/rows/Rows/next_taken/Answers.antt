@@ -3,7 +3,7 @@ use Rattle.login_model.specs.declared.fact.Key.TheVariants.{Taken}
 use Rattle.login_model.specs.Devices.{taken_in, is_handle_fact}
 use Rattle.login_model.specs.Names.{device_lt}
 use Rattle.login_model.proofs.NameLaws.{device_order, taken_keys}
-use Rattle.login_table.specs.Places.{keys_at}
+use Rattle.login_table.specs.inner.Places.{keys_at}
 use Rattle.login_table.specs.Rows.{RowList}
 use Rattle.login_table.proofs.NextRow.{keys-of, next-there, there-of}
 use Rattle.login_table.proofs.rows.Rows.next_taken.Goals as goal

@@ -3,7 +3,7 @@ use Rattle.login_model.specs.Trail.{value}
 use Rattle.login_model.specs.declared.mark.Mark.TheVariants.{Set}
 use Rattle.login_table.specs.Rows.{RowList, as_trail, IsFront}
 use Rattle.login_table.specs.KeyOrder.{key_lt}
-use Rattle.login_table.specs.Places.{PlacesAscend, put_place}
+use Rattle.login_table.specs.inner.Places.{PlacesAscend, put_place}
 use Rattle.login_table.specs.declared.rows.Row.{Row}
 use Rattle.login_table.proofs.Ascending.{exchanged-at, inserted, missed-at, put_row, put-is}
 use Rattle.login_table.proofs.NextRow.{exchanged-hold, inserted-hold}

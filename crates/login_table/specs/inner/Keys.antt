@@ -1,4 +1,4 @@
--- Keys in order, each once.
+-- Keys in order, each once, and what it is for them to tell what is there.
 use Rattle.std.specs.Prelude.{◌≡◌, ℕ, ◌==◌, ◌||◌, nat_lt, not, Bool, true, false, Option, Some, None, List, [], ◌∷◌}
 use Rattle.std.specs.Option.{option_or}
 use Rattle.login_base.specs.declared.ids.SessId.{SessId}
@@ -6,8 +6,12 @@ use Rattle.login_base.specs.declared.ids.DevNo.{DevNo}
 use Rattle.login_model.specs.declared.fact.Key.{Key}
 use Rattle.login_model.specs.declared.fact.Key.TheVariants.{Taken}
 use Rattle.login_model.specs.Same.{same_key}
+use Rattle.login_model.specs.Start.{start_fact}
+use Rattle.login_model.specs.Trail.{Trail, value}
 use Rattle.login_model.specs.Names.{is_above, session_lt}
+use Rattle.login_table.specs.declared.key_order.TheConstants.{TAKES}
 use Rattle.login_table.specs.KeyOrder.{key_lt, rank_of}
+use Rattle.login_table.specs.Rows.{says_there}
 
 -- whether a key is among those
 abbrev pub has : Key → List Key → Bool
@@ -42,7 +46,7 @@ holder_in _ = None
 -- not above
 abbrev pub is_holder_passed : Option SessId → Key → Bool
 is_holder_passed above (Taken s d) = not (is_above session_lt above s)
-is_holder_passed above x = nat_lt (rank_of x) 13
+is_holder_passed above x = nat_lt (rank_of x) TAKES
 
 -- whether a key is about what that session has taken
 abbrev pub is_held_by : SessId → Key → Bool
@@ -58,3 +62,8 @@ is_holder s (x ∷ xs) = is_held_by s x || is_holder s xs
 abbrev pub first_named : {A : Type 0} → (Key → Option A) → List Key → Option A
 first_named name_in [] = None
 first_named name_in (x ∷ xs) = option_or (name_in x) (first_named name_in xs)
+
+-- the keys are those of what the settings say is there, but that one of what is there at the start may be missing
+pub record AreThere (keys : List Key) (t : Trail) : Type 0 where
+  pub sound : (k : Key) → has k keys ≡ true → says_there k (value t k) ≡ true
+  pub whole : (k : Key) → says_there k (value t k) ≡ true → has k keys ≡ false → says_there k (start_fact k) ≡ true

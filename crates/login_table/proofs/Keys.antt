@@ -1,11 +1,13 @@
--- Keys that ascend: which are among them, and what putting one in or taking one out makes of them.
-use Rattle.std.proofs.Common.{◌≡◌, ℕ, zero, suc, nat_lt, ◌<◌, ◌||◌, Bool, true, false, not, Option, Some, None, List, [], ◌∷◌, length, get_or, refl, ap, sym, ◌∙◌, arith, inl, inr}
+-- Keys that ascend: which tests part them, and which keys are among them.
+use Rattle.std.proofs.Common.{◌≡◌, ℕ, zero, suc, nat_lt, ◌<◌, ◌||◌, Bool, true, false, not, Option, Some, None, List, [], ◌∷◌, length, get_or, drop, refl, ap, sym, ◌∙◌, arith, inl, inr}
 use Rattle.std.specs.List.Sorted.{IsPartitionedBy}
+use Rattle.std.specs.Option.{option_map_or}
 use Rattle.login_model.specs.declared.fact.Key.{Key}
 use Rattle.login_model.specs.Same.{same_key}
 use Rattle.login_model.proofs.Keys.{test}
 use Rattle.login_table.specs.KeyOrder.{key_lt, rank_of}
-use Rattle.login_table.specs.Keys.{has, KeysAscend, KeysAscendFrom}
+use Rattle.login_table.specs.inner.Keys.{has, KeysAscend, KeysAscendFrom}
+use Rattle.login_table.specs.Listed.{first}
 use Rattle.login_table.specs.Rows.{IsFront}
 use Rattle.login_table.proofs.KeyOrder.{key_order, rank-below, no-test, below-apart, above-apart, above}
 
@@ -63,26 +65,12 @@ pub none-below : (k : Key) (xs : List Key) → KeysAscendFrom (Some k) xs → ha
 none-below k [] a = refl
 none-below k (x ∷ xs) a = ap (λ (b : Bool). b || has k xs) (above-apart x k a.0) ∙ none-below k xs (keys-lower k x xs a.0 a.1)
 
--- the key at the place of one is another, or there is none
-abbrev pub IsOther : Key → List Key → ℕ → Key → Type 0
-IsOther k xs i d = i < length xs → same_key (get_or xs i d) k ≡ false
-
-pub key-missed : (k : Key) (b : Option Key) (xs : List Key) (i : ℕ) (d : Key) → KeysAscendFrom b xs → IsFront (λ (x : Key). key_lt x k) i xs → IsOther k xs i d → has k xs ≡ false
-key-missed k b [] zero d a f n = refl
-key-missed k b [] (suc i) d a f n = absurd f
-key-missed k b (x ∷ xs) zero d a f n =
-    let e = n (omega arith) in
-    ap (λ (c : Bool). c || has k xs) e ∙ none-below k xs (keys-lower k x xs (above x k f e) a.1)
-key-missed k b (x ∷ xs) (suc i) d a f n = ap (λ (c : Bool). c || has k xs) (below-apart x k f.0) ∙ key-missed k (Some x) xs i d a.1 f.1 (λ h. n (omega arith))
-
-pub key-found : (k : Key) (xs : List Key) (i : ℕ) (d : Key) → IsFront (λ (x : Key). key_lt x k) i xs → i < length xs → same_key (get_or xs i d) k ≡ true → has k xs ≡ true
-key-found k [] i d f h e = absurd (omega arith)
-key-found k (x ∷ xs) zero d f h e = ap (λ (c : Bool). c || has k xs) e
-key-found k (x ∷ xs) (suc i) d f h e = ap (λ (c : Bool). c || has k xs) (below-apart x k f.0) ∙ key-found k xs i d f.1 (omega arith) e
-
--- what indexing reads at the place of a key
-pub other-at : (k : Key) (xs : List Key) (i : ℕ) (y : Key) → y ≡ get_or xs i y → same_key y k ≡ false → IsOther k xs i y
-other-at k xs i y at e h = ap (λ (z : Key). same_key z k) (sym at) ∙ e
-
-pub same-at : (k : Key) (xs : List Key) (i : ℕ) (y : Key) → y ≡ get_or xs i y → same_key y k ≡ true → same_key (get_or xs i y) k ≡ true
-same-at k xs i y at e = ap (λ (z : Key). same_key z k) (sym at) ∙ e
+-- whether a key is among them is told by the first one that is not below it
+pub has-first : (k : Key) (b : Option Key) (xs : List Key) (i : ℕ) → KeysAscendFrom b xs → IsFront (λ (x : Key). key_lt x k) i xs → option_map_or (λ (x : Key). same_key x k) (first (drop i xs)) false ≡ has k xs
+has-first k b [] zero a f = refl
+has-first k b [] (suc i) a f = absurd f
+has-first k b (x ∷ xs) zero a f = elim (test (same_key x k)) [
+  | inl y ↦ y ∙ sym (ap (λ (c : Bool). c || has k xs) y)
+  | inr n ↦ n ∙ sym (ap (λ (c : Bool). c || has k xs) n ∙ none-below k xs (keys-lower k x xs (above x k f n) a.1))
+]
+has-first k b (x ∷ xs) (suc i) a f = has-first k (Some x) xs i a.1 f.1 ∙ sym (ap (λ (c : Bool). c || has k xs) (below-apart x k f.0))
