@@ -21,7 +21,7 @@ use Rattle.login_model.specs.declared.event.Event.TheVariants.{Disconnect}
 use Rattle.login_model.specs.declared.mark.Entry.{Entry}
 use Rattle.login_model.specs.declared.setup.Setup.{Setup}
 use Rattle.wire_out.specs.Conditions.{IsMailable}
-use Rattle.link_serve.specs.Acting.{Closes, ClosesBy, StepsNow}
+use Rattle.link_serve.specs.inner.Acting.{Closes, ClosesBy, StepsNow}
 use Rattle.link_serve.specs.Owners.{entries_of, is_open}
 use Rattle.link_serve.specs.declared.acts.Made.{Made}
 use Rattle.link_serve.specs.inner.Inside.{IsAtDesk}

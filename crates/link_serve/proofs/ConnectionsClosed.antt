@@ -19,7 +19,7 @@ use Rattle.login_office.specs.declared.end.LinkEnd.TheVariants as end
 use Rattle.login_office.specs.declared.end.Unbegun.TheVariants.{Refused, HungUp}
 use Rattle.wire_out.specs.Mail.{bytes_of, mail, wire}
 use Rattle.wire_out.proofs.Growing.{wire_grows}
-use Rattle.link_serve.specs.Acting.{ClosesBy, IsNewTeller}
+use Rattle.link_serve.specs.inner.Acting.{ClosesBy, IsNewTeller}
 use Rattle.link_serve.specs.Owners.{ending, entries_of, event_who, is_let_in, is_open}
 use Rattle.link_serve.specs.Serving.{Came, Causes, FaultsAt, IsShort, Prompt, SaidAt, Served, ServedBy, ServingGoesOn, is_cut}
 use Rattle.link_serve.specs.inner.Standing.{CloseTells, Moment, Stops, who_of}

@@ -13,7 +13,7 @@ use Rattle.desk.specs.declared.view.View.{View}
 use Rattle.login_office.specs.Hearing.{TellerState}
 use Rattle.login_office.specs.declared.end.LinkEnd.{LinkEnd}
 use Rattle.login_office.specs.declared.end.LinkEnd.TheVariants as end
-use Rattle.link_serve.specs.Acting.{FetchGives, Fetched}
+use Rattle.link_serve.specs.inner.Acting.{FetchGives, Fetched}
 use Rattle.link_serve.specs.Owners.{entry_who}
 use Rattle.link_serve.specs.Turned.{Acts}
 use Rattle.link_serve.specs.declared.acts.Mail.{Mail}

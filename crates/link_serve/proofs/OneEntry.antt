@@ -11,7 +11,8 @@ use Rattle.login_office.proofs.Tellers.{place_goes_on}
 use Rattle.login_office.specs.Hearing.{TellerState}
 use Rattle.desk.specs.History.{Appends, StartsWith, of_who}
 use Rattle.wire_out.specs.Places.{IsPlaceIn, Place}
-use Rattle.link_serve.specs.Acting.{ClosesBy, ClosesOne, FitsAlone, FitsBehind, MayStep, StepGives}
+use Rattle.link_serve.specs.Acting.{FitsAlone, FitsBehind, StepGives}
+use Rattle.link_serve.specs.inner.Acting.{ClosesBy, ClosesOne, MayStep}
 use Rattle.link_serve.specs.Owners.{entries_of, entry_who, event_who, is_open}
 use Rattle.link_serve.specs.declared.acts.Made.{Made}
 

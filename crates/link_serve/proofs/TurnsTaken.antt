@@ -15,7 +15,8 @@ use Rattle.login_model.specs.declared.setup.Setup.{Setup}
 use Rattle.desk.specs.History.{entries, of_who}
 use Rattle.desk.specs.Passes.{TakesTurn}
 use Rattle.desk.specs.declared.view.View.{View}
-use Rattle.link_serve.specs.Acting.{ClosesOne, MakesOne, StepGives, Steps}
+use Rattle.link_serve.specs.Acting.{MakesOne, StepGives}
+use Rattle.link_serve.specs.inner.Acting.{ClosesOne, Steps}
 use Rattle.link_serve.specs.Owners.{entries_of, entry_who, event_who}
 use Rattle.link_serve.specs.Turned.{Acts, LookTells, StepTells, StopTells, granted_of}
 use Rattle.link_serve.specs.declared.acts.Made.{Made}

@@ -2,3 +2,4 @@
 pub mod Inside
 pub mod Standing
 pub mod Turning
+pub mod Acting

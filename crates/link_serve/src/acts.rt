@@ -46,7 +46,7 @@ pub struct Greet {
 
 impl Act<CoreAtDesk> for Greet {
     ghost use Rattle.std.specs.Prelude.{[]};
-    ghost use Rattle.link_serve.specs.Acting.{Greets};
+    ghost use Rattle.link_serve.specs.inner.Acting.{Greets};
 
     type Answer = Result<(ConnId, Teller), NoMemory>;
 
@@ -82,7 +82,7 @@ impl Model for Fetch {
     ghost use Rattle.std.specs.Prelude.{IfSome};
     ghost use Rattle.desk.specs.History.{entries};
     ghost use Rattle.wire_out.specs.Places.{IsPlaceIn};
-    ghost use Rattle.link_serve.specs.Acting.{FetchState};
+    ghost use Rattle.link_serve.specs.inner.Acting.{FetchState};
 
     ghost Value = { FetchState };
 
@@ -107,7 +107,7 @@ impl Fetch {
 }
 
 impl Act<CoreAtDesk> for Fetch {
-    ghost use Rattle.link_serve.specs.Acting.{Fetched};
+    ghost use Rattle.link_serve.specs.inner.Acting.{Fetched};
 
     /// The teller and what it fetched; nothing where the act was made before.
     type Answer = Option<(Teller, Result<Mail, NoMemory>)>;
@@ -162,7 +162,7 @@ impl Step {
 
 impl Act<CoreAtDesk> for Step {
     ghost use Rattle.std.specs.Prelude.{[]};
-    ghost use Rattle.link_serve.specs.Acting.{MayStep, Steps};
+    ghost use Rattle.link_serve.specs.inner.Acting.{MayStep, Steps};
 
     /// The entry, or why there is none; nothing where the event is of another connection than the pass, or the act was made
     /// before.
@@ -190,7 +190,7 @@ pub struct Close;
 
 impl Act<CoreAtDesk> for Close {
     ghost use Rattle.std.specs.Prelude.{[]};
-    ghost use Rattle.link_serve.specs.Acting.{ClosesOne};
+    ghost use Rattle.link_serve.specs.inner.Acting.{ClosesOne};
 
     type Answer = bool;
 

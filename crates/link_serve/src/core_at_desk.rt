@@ -9,7 +9,8 @@ ghost use Rattle.login_model.specs.Reading.{is_granted};
 ghost use Rattle.login_model.specs.Setups.{IsSetup};
 ghost use Rattle.login_model.specs.Stopping.{stop_from};
 ghost use Rattle.wire_out.specs.Conditions.{IsMailable};
-ghost use Rattle.link_serve.specs.Acting.{Closes, FitsAlone, FitsBehind, StepsNow};
+ghost use Rattle.link_serve.specs.Acting.{FitsAlone, FitsBehind};
+ghost use Rattle.link_serve.specs.inner.Acting.{Closes, StepsNow};
 ghost use Rattle.link_serve.specs.Owners.{entries_of, event_who};
 
 use crate::acts::Made;

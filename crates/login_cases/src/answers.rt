@@ -115,12 +115,12 @@ const OF_SOME: [(&str, &str); 8] = [
 pub const ANSWERED: [Answered; 2] = [
     Answered {
         name: "nobody is there at first",
-        front: NOBODY,
+        beginning: NOBODY,
         lines: &OF_NOBODY,
     },
     Answered {
         name: "lists are in order",
-        front: SOME,
+        beginning: SOME,
         lines: &OF_SOME,
     },
 ];

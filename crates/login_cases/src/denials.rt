@@ -292,27 +292,27 @@ const BEHIND_CLOSING: [(&str, &str); 11] = [
 pub const ANSWERED: [Answered; 5] = [
     Answered {
         name: "each rule has its text",
-        front: SESSIONS,
+        beginning: SESSIONS,
         lines: &EACH,
     },
     Answered {
         name: "each call asks for its action",
-        front: SESSIONS,
+        beginning: SESSIONS,
         lines: &ACTIONS,
     },
     Answered {
         name: "creations have values of fixed sets",
-        front: SESSIONS,
+        beginning: SESSIONS,
         lines: &CREATIONS,
     },
     Answered {
         name: "the first broken rule is named",
-        front: SESSIONS,
+        beginning: SESSIONS,
         lines: &ORDER,
     },
     Answered {
         name: "a closing session denies",
-        front: CLOSING,
+        beginning: CLOSING,
         lines: &BEHIND_CLOSING,
     },
 ];

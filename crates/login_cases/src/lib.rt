@@ -39,11 +39,11 @@ pub struct Beginning {
     pub entries: u32,
 }
 
-/// Lines behind a front that make no marks, each with what it is answered.
+/// Lines behind a beginning that make no marks, each with what it is answered.
 #[derive(Clone, Copy)]
 pub struct Answered {
     pub name: &'static str,
-    pub front: Beginning,
+    pub beginning: Beginning,
     pub lines: &'static [(&'static str, &'static str)],
 }
 

@@ -556,37 +556,37 @@ const BUS: [(&str, &str); 10] = [
 pub const ANSWERED: [Answered; 7] = [
     Answered {
         name: "properties of the manager",
-        front: SOME,
+        beginning: SOME,
         lines: &MANAGER,
     },
     Answered {
         name: "properties of sessions",
-        front: SOME,
+        beginning: SOME,
         lines: &SESSION,
     },
     Answered {
         name: "properties of users",
-        front: SOME,
+        beginning: SOME,
         lines: &USER,
     },
     Answered {
         name: "properties of seats",
-        front: SOME,
+        beginning: SOME,
         lines: &SEAT,
     },
     Answered {
         name: "states of sessions and users",
-        front: CLOSING,
+        beginning: CLOSING,
         lines: &STATES,
     },
     Answered {
         name: "unknown properties and settings",
-        front: SOME,
+        beginning: SOME,
         lines: &DENIED,
     },
     Answered {
         name: "calls of the bus",
-        front: SOME,
+        beginning: SOME,
         lines: &BUS,
     },
 ];

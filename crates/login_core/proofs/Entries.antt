@@ -18,7 +18,7 @@ use Rattle.login_core.specs.declared.board.Board.{Board}
 use Rattle.login_core.specs.inner.Board.{IsBegun}
 use Rattle.login_core.specs.inner.Draft.{DraftState, marked_by, with_ears}
 use Rattle.login_core.specs.inner.UnderWay.{so_far, entry_of}
-use Rattle.login_core.specs.State.{stop_next}
+use Rattle.login_core.specs.inner.State.{stop_next}
 use Rattle.login_core.proofs.Standing.{so_far-none, so_far-closed}
 
 -- one more legal entry

@@ -9,7 +9,8 @@ use Rattle.login_model.specs.Policy.{verdict}
 use Rattle.login_model.specs.Trail.{Trail}
 use Rattle.login_model.specs.Legal.{trail_of}
 use Rattle.login_model.specs.Full.{connected_after, full, mark_count}
-use Rattle.login_core.specs.Fullness.{always_fits, connected_by, full_by}
+use Rattle.login_core.specs.Fullness.{always_fits}
+use Rattle.login_core.specs.inner.Fullness.{connected_by, full_by}
 
 not-so : true ≡ false → ⊥
 not-so e = cc

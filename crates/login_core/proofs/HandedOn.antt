@@ -11,8 +11,8 @@ use Rattle.login_model.specs.Taking.{lose_seat, set_mode}
 use Rattle.login_model.specs.Direct.{control_from}
 use Rattle.login_base.specs.declared.ids.ConnId.{ConnId}
 use Rattle.login_core.specs.inner.Handles.{owner_fact}
-use Rattle.login_core.specs.inner.HandedOn.{controller_fact, graphics_fact, graphics_seat, absent_or_known}
-use Rattle.login_model.specs.Facts.{controller_in, is_absent, owner_in}
+use Rattle.login_core.specs.inner.HandedOn.{controller_fact, graphics_fact, absent_or_known}
+use Rattle.login_model.specs.Facts.{controller_in, graphics_seat, is_absent, owner_in}
 
 pub greeted : (u : Uid) (f : Fact) (t : Trail) → tell_new_user u (absent_or_known (is_absent f)) t ≡ tell_new_user u f t
 greeted u Absent t = refl

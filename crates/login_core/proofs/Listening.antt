@@ -16,7 +16,8 @@ use Rattle.device_model.specs.Ears.{AreOnce, DeviceList, heard_of, is_ear_of}
 use Rattle.device_model.specs.declared.ears.Ear.{Ear}
 use Rattle.login_laws.specs.Few.{same_handle}
 use Rattle.login_laws.specs.Hearing.{Heard, is_turned}
-use Rattle.login_core.specs.inner.Ears.{AreEnough, KeepsRings, ListenLive, ring_count, turned_by}
+use Rattle.login_core.specs.inner.Ears.{AreEnough, KeepsRings, ListenLive, turned_by}
+use Rattle.login_core.specs.Rings.{ring_count}
 
 -- ---- marks that make a handle live or dead
 

@@ -25,11 +25,13 @@ use Rattle.login_laws.proofs.Comings.{disconnect-connections}
 use Rattle.login_laws.proofs.RoomLaws.{room}
 use Rattle.login_core.specs.Fullness.{always_fits}
 use Rattle.login_core.specs.inner.Board.{IsBegun}
-use Rattle.login_core.specs.inner.Ears.{AreEars, heard_evdev, ring_count, settled}
+use Rattle.login_core.specs.inner.Ears.{AreEars, heard_evdev, settled}
+use Rattle.login_core.specs.Rings.{ring_count}
 use Rattle.login_core.specs.inner.Inside.{IsCore, stop_need}
 use Rattle.login_core.specs.Spares.{AreReady, HaveTexts}
 use Rattle.login_core.specs.inner.UnderWay.{entry_of}
-use Rattle.login_core.specs.State.{CoreState, IsReady, IsRoomFor, answer_next, stop_next}
+use Rattle.login_core.specs.State.{CoreState, IsReady, IsRoomFor}
+use Rattle.login_core.specs.inner.State.{answer_next, stop_next}
 use Rattle.login_core.specs.declared.board.Board.{Board}
 use Rattle.login_core.specs.declared.room.ready.Ready.{Ready}
 use Rattle.login_core.specs.declared.room.texts.Texts.{Texts}

@@ -1,28 +1,10 @@
 -- When the journal is full, from how many entries and marks it has.
-use Rattle.std.specs.Prelude.{ℕ, ◌+◌, Bool, true, false, if◌then◌else◌, Option, None, length}
-use Rattle.login_model.specs.declared.rule.Verdict.{Verdict}
-use Rattle.login_model.specs.declared.count.Count.{Count}
-use Rattle.login_model.specs.declared.count.Count.TheVariants.{Entries, Marks}
+use Rattle.std.specs.Prelude.{Bool, true, false}
 use Rattle.login_model.specs.declared.event.Event.{Event}
-use Rattle.login_model.specs.declared.event.Event.TheVariants.{Connect, Disconnect, Stop}
-use Rattle.login_model.specs.Trail.{Trail}
-use Rattle.login_model.specs.Where.{connections}
-use Rattle.login_model.specs.Full.{is_granted, marks_needed, over}
-use Rattle.login_model.specs.Limits.{entries_limit, marks_limit}
+use Rattle.login_model.specs.declared.event.Event.TheVariants.{Disconnect, Stop}
 
 -- whether an event is one for which the journal never is full
 abbrev pub always_fits : Event → Bool
 always_fits (Disconnect c) = true
 always_fits Stop = true
 always_fits _ = false
-
--- the connections after an event with this verdict
-abbrev pub connected_by : Verdict → Trail → Event → ℕ
-connected_by v t (Connect c u) = if is_granted v then length (connections t) + 1 else length (connections t)
-connected_by v t _ = length (connections t)
-
--- the first count that is above its limit
-abbrev pub full_by : Verdict → Trail → ℕ → ℕ → Event → Option Count
-full_by v t entries marks e =
-    over entries_limit Entries (entries + connected_by v t e + 2)
-    (over marks_limit Marks (marks_needed t marks) None)

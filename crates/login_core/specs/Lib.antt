@@ -1,5 +1,6 @@
 pub mod Texts
 pub mod Spares
 pub mod Fullness
+pub mod Rings
 pub mod State
 pub mod inner

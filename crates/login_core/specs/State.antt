@@ -1,18 +1,15 @@
 -- What a core is seen as.
-use Rattle.std.specs.Prelude.{ℕ, ◌≡◌, ◌+◌, ◌≤◌, List, [], ◌∷◌, ◌++◌, length, Option, Some, None, Result, Ok, Err, if◌then◌else◌}
+use Rattle.std.specs.Prelude.{ℕ, ◌≡◌, ◌+◌, ◌≤◌, List, [], ◌∷◌, ◌++◌, length, Option, Some, None, Result, Ok, Err}
 use Rattle.login_model.specs.Full.{connected_after, full, taken_count}
 use Rattle.login_model.specs.Legal.{answered, trail_of}
 use Rattle.login_laws.specs.Need.{most_marks, most_rise, need}
 use Rattle.login_model.specs.Policy.{verdict}
-use Rattle.login_model.specs.Stopping.{is_stop, stopped}
-use Rattle.login_model.specs.declared.answer.Answer.{Answer}
+use Rattle.login_model.specs.Stopping.{stopped}
 use Rattle.login_model.specs.declared.event.Event.{Event}
 use Rattle.login_model.specs.declared.event.Event.TheVariants.{Disconnect, Stop}
 use Rattle.login_model.specs.declared.mark.Entry.{Entry}
 use Rattle.login_model.specs.declared.setup.Setup.{Setup}
-use Rattle.login_model.specs.declared.answer.Answer.TheVariants.{Nothing}
 use Rattle.login_model.specs.declared.count.Count.{Count}
-use Rattle.login_core.specs.Fullness.{always_fits}
 use Rattle.login_core.specs.Spares.{AreReady}
 use Rattle.login_core.specs.declared.state.Refused.{Refused}
 use Rattle.login_core.specs.declared.state.Refused.TheVariants.{NoMemory, Full, Stopped}
@@ -62,15 +59,6 @@ abbrev pub RoomGives : CoreState → CoreState → Event → Result (Unit {0}) R
 RoomGives old new e (Ok u) = (refusal (stopped old.journal e) (full old.setup old.journal e) ≡ None) × IsReady new e
 RoomGives old new e (Err NoMemory) = refusal (stopped old.journal e) (full old.setup old.journal e) ≡ None
 RoomGives old new e (Err r) = refusal (stopped old.journal e) (full old.setup old.journal e) ≡ Some r
-
--- the number of the stop's entry, after an event whose entry has this number
-abbrev pub stop_next : Option ℕ → Event → ℕ → Option ℕ
-stop_next (Some n) e number = Some n
-stop_next None e number = if is_stop e then Some number else None
-
--- the answer of an event: that which was made ready, if it may have one
-abbrev pub answer_next : Event → Answer → Answer
-answer_next e ready = if always_fits e then Nothing else ready
 
 -- the setup and the journal are as before
 pub record IsSame (old new : CoreState) : Type 0 where

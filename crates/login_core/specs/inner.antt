@@ -18,3 +18,5 @@ pub mod Places
 pub mod Calls
 pub mod Reads
 pub mod Inside
+pub mod State
+pub mod Fullness

@@ -20,7 +20,8 @@ ghost use Rattle.login_model.specs.Fresh.{next_lock, next_session};
 ghost use Rattle.login_core.specs.inner.Counts.{AreCounted};
 ghost use Rattle.device_model.specs.Ears.{heard_of};
 ghost use Rattle.login_core.specs.inner.Draft.{marked_by, reaching, tell, with_ears, with_rings, Fits};
-ghost use Rattle.login_core.specs.inner.Ears.{AreEnough, ListenLive, ring_count, settled};
+ghost use Rattle.login_core.specs.inner.Ears.{AreEnough, ListenLive, settled};
+ghost use Rattle.login_core.specs.Rings.{ring_count};
 
 use crate::board::facts::Facts;
 use crate::board::seating::Seating;

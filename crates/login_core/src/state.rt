@@ -13,7 +13,8 @@ ghost use Rattle.login_model.specs.Stopping.{is_stop, stopped};
 ghost use Rattle.login_model.specs.Where.{is_connected};
 ghost use Rattle.login_model.specs.declared.event.Event.TheVariants.{Disconnect};
 ghost use Rattle.login_core.specs.Fullness.{always_fits};
-ghost use Rattle.login_core.specs.State.{CoreState, IsReady, IsRoomFor, IsSame, Appends, RoomGives, answer_next, stop_next};
+ghost use Rattle.login_core.specs.State.{CoreState, IsReady, IsRoomFor, IsSame, Appends, RoomGives};
+ghost use Rattle.login_core.specs.inner.State.{answer_next, stop_next};
 ghost use Rattle.login_core.specs.contracts.state.Core.{the_row};
 ghost use Rattle.login_model.specs.Limits.{entries_limit, marks_limit};
 
@@ -112,7 +113,7 @@ impl Drop for Core {
 
 impl Model for Core {
     ghost use Rattle.login_core.specs.State.{CoreState};
-    ghost use Rattle.login_core.specs.inner.Ears.{ring_count};
+    ghost use Rattle.login_core.specs.Rings.{ring_count};
     ghost use Rattle.login_core.specs.inner.Inside.{IsCore};
 
     ghost Value = { CoreState };

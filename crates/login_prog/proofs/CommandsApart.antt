@@ -1,6 +1,7 @@
 -- The words of one command are those of no other.
 use Rattle.std.proofs.Common.{◌≡◌, ℕ, List, [], ◌∷◌, sym, ap, ◌∙◌, subst, arith}
-use Rattle.login_prog.specs.Words.{AreReplay, AreWordsOf, ServesIn, ServesNot}
+use Rattle.login_prog.specs.Words.{AreReplay, ServesIn, ServesNot}
+use Rattle.login_prog.specs.inner.Words.{AreWordsOf}
 use Rattle.login_prog.specs.declared.words.Command.{Command}
 use Rattle.login_prog.specs.declared.words.Command.TheVariants as command
 

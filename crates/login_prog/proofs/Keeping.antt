@@ -25,7 +25,8 @@ use Rattle.link_serve.specs.declared.acts.Made.{Made}
 use Rattle.login_prog.specs.declared.serve.accepting.House.{House}
 use Rattle.login_prog.specs.declared.serve.troubles.Troubles.{Troubles}
 use Rattle.login_prog.specs.inner.Endings.{with_refused}
-use Rattle.login_prog.specs.inner.House.{Door, Far, FaultsSay, FaultsSayOne, FullForTick, HasTicked, HasTrouble, Held, IsListed, IsUntold, KeepsAt, MayStop, NoMore, Since, WasAsked, all_out, stopped_now, tick}
+use Rattle.replay.specs.Rising.{Rises}
+use Rattle.login_prog.specs.inner.House.{Door, Far, FaultsSay, FullForTick, HasTicked, HasTrouble, Held, IsListed, IsUntold, KeepsAt, MayStop, NoMore, Since, WasAsked, all_out, stopped_now, tick}
 use Rattle.login_prog.specs.inner.Jobs.{PassOfCore}
 use Rattle.login_prog.proofs.ReaderPass.{by_count, by_stop}
 use Rattle.login_prog.proofs.GoingOn.{SeesMore, acts-more, entries-on, first-acts, full-on, placed-on, stopped-on}
@@ -113,7 +114,7 @@ module _ {L N P : Type 0} (number : L → ℕ) (talk : L → Option (List Exchan
         closed = λ e. ⊎_elim (λ m. inl (worse.no_memory m)) (λ r. inr r) (k.closed e);
         asked = let q = asked-worse x t house.came house.troubles.no_memory troubles.no_memory door.register worse.no_memory k.asked in record { asked = q.asked; as_often = q.as_often };
         listener_or_clock = subst (λ (b : Bool). FaultsSay b x.listener_faults door.faults x.clock_faults t.clock_faults) (sym listener) k.listener_or_clock;
-        spawner = subst (λ (b : Bool). FaultsSayOne b x.spawner_faults (spawner_faults house.spawner)) (sym spawner) k.spawner;
+        spawner = subst (λ (b : Bool). Rises b x.spawner_faults (spawner_faults house.spawner)) (sym spawner) k.spawner;
         dropped = k.dropped;
         untold = worse.untold k.untold;
       }

@@ -27,7 +27,8 @@ use Rattle.login_prog.specs.Served.{dropped_among, most_links}
 use Rattle.login_prog.specs.declared.serve.accepting.Child.{Child}
 use Rattle.login_prog.specs.declared.serve.accepting.House.{House}
 use Rattle.login_prog.specs.declared.serve.troubles.Troubles.{Troubles}
-use Rattle.login_prog.specs.inner.House.{AreOut, ArePlaced, CameAs, Door, Far, FaultsSay, FaultsSayOne, FewDropped, FullForTick, HasCalled, HasTicked, Held, IsChild, IsFirstOf, IsHeld, IsListed, KeepsAt, NoMore, Since, WasAsked, all_out, asked_once, count_of, held_of}
+use Rattle.replay.specs.Rising.{Rises}
+use Rattle.login_prog.specs.inner.House.{AreOut, ArePlaced, CameAs, Door, Far, FaultsSay, FewDropped, FullForTick, HasCalled, HasTicked, Held, IsChild, IsFirstOf, IsHeld, IsListed, KeepsAt, NoMore, Since, WasAsked, all_out, asked_once, count_of, held_of}
 use Rattle.login_prog.specs.inner.Jobs.{PassOfCore}
 use Rattle.login_prog.proofs.ClockRead.{both-map, one-call-more}
 use Rattle.login_prog.proofs.GoingOn.{SeesMore, placed-on}
@@ -156,7 +157,7 @@ module _ {L N P : Type 0} (number : L → ℕ) (talk : L → Option (List Exchan
             (λ p. inr (⊎_elim (λ m. inl (worse.no_memory m)) (λ q. inr (⊎_elim (λ c. inl (late-closed door.register c)) (λ n. not-last n) q)) p.0, let less = p.1 in omega (arith, less))) k.asked.as_often;
       };
       listener_or_clock = subst (λ (b : Bool). FaultsSay b x.listener_faults door.faults x.clock_faults t.clock_faults) (sym same-listener) k.listener_or_clock;
-      spawner = subst (λ (b : Bool). FaultsSayOne b x.spawner_faults (spawner_faults house.spawner)) (sym same-spawner) k.spawner;
+      spawner = subst (λ (b : Bool). Rises b x.spawner_faults (spawner_faults house.spawner)) (sym same-spawner) k.spawner;
       dropped = k.dropped;
       untold = worse.untold k.untold;
     }
@@ -255,7 +256,7 @@ module _ {L N P : Type 0} (number : L → ℕ) (talk : L → Option (List Exchan
         }
 
         pub came-keeps : (es : Vec (Option LinkEnd) Global) (spawner : P) (flag : Bool) (listener : N) → es.items ≡ ends2
-            → FaultsSayOne flag x.spawner_faults (spawner_faults spawner) → ((d : ℕ) → after_calls x.spawner_faults d ≤ spawner_faults house.spawner → after_calls x.spawner_faults d ≤ spawner_faults spawner)
+            → Rises flag x.spawner_faults (spawner_faults spawner) → ((d : ℕ) → after_calls x.spawner_faults d ≤ spawner_faults house.spawner → after_calls x.spawner_faults d ≤ spawner_faults spawner)
             → At door2 (asked_once t) (h ∷ []) (record house { pass = pass; listener = listener; spawner = spawner; ends = es; came = came; troubles = record house.troubles { spawn_fault = flag } })
         came-keeps es spawner flag listener are says rises = record {
           pass = subst (λ (z : List (Option LinkEnd)). IsFirstOf x.desk x.setup (length z) (length (all_out house.children.items (h ∷ []))) pass) (sym are) first-split;

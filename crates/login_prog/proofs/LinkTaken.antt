@@ -20,7 +20,8 @@ use Rattle.login_prog.specs.declared.serve.accepting.Child.{Child}
 use Rattle.login_prog.specs.declared.serve.accepting.House.{House}
 use Rattle.login_prog.specs.declared.serve.link_job.LinkOut.{LinkOut}
 use Rattle.login_prog.specs.declared.serve.troubles.Troubles.{Troubles}
-use Rattle.login_prog.specs.inner.House.{Comes, ComesBack, Door, Far, FaultsSayOne, FewDropped, Held, IsChild, Keeps, KeepsAt, Returns, Since, all_out, asked_once, door_of}
+use Rattle.replay.specs.Rising.{Rises}
+use Rattle.login_prog.specs.inner.House.{Comes, ComesBack, Door, Far, FewDropped, Held, IsChild, Keeps, KeepsAt, Returns, Since, all_out, asked_once, door_of}
 use Rattle.login_prog.specs.inner.Jobs.{LinkGives, PassOfCore}
 use Rattle.login_prog.proofs.ClockRead.{rose-more}
 use Rattle.login_prog.proofs.Keeping.{Worse, other-fields, same-door, same-trouble}
@@ -28,12 +29,12 @@ use Rattle.login_prog.proofs.LinkCame.{came-keeps, child-keeps, late-keeps, late
 use Rattle.login_prog.proofs.Outs.{dropped-append}
 
 -- the spawner's count rose again
-pub says-again : (flag : Bool) (before now later : ℕ) → Rose now later → FaultsSayOne flag before now → Rose before later
+pub says-again : (flag : Bool) (before now later : ℕ) → Rose now later → Rises flag before now → Rose before later
 says-again true before now later rose s = rose-more before now later s rose
 says-again false before now later rose s = subst (λ (n : ℕ). Rose n later) s rose
 
-says-still : (flag : Bool) (before now later : ℕ) → later ≡ now → FaultsSayOne flag before now → FaultsSayOne flag before later
-says-still flag before now later same s = subst (λ (n : ℕ). FaultsSayOne flag before n) (sym same) s
+says-still : (flag : Bool) (before now later : ℕ) → later ≡ now → Rises flag before now → Rises flag before later
+says-still flag before now later same s = subst (λ (n : ℕ). Rises flag before n) (sym same) s
 
 rises-on : (d before now later : ℕ) → Rose now later → after_calls before d ≤ now → after_calls before d ≤ later
 rises-on d before now later rose r = omega (arith, rose, r)
@@ -117,7 +118,7 @@ module _ {L N P : Type 0} (number : L → ℕ) (talk : L → Option (List Exchan
           (λ p. absurd (let k : false ≡ true = sym unclosed ∙ p.1 in let no : ⊥ = cc in no)) c.keeps.listed.all
 
       module _ (pass : PassOfCore) (same : pass.desk ≡ house.pass.desk) (split : pass.view ≡ after_split house.came house.pass.view) (ends : Vec (Option LinkEnd) Global) (ends-are : ends.items ≡ house.ends.items ++ None ∷ []) where
-        out-with : (spawner : P) (flag : Bool) → FaultsSayOne flag x.spawner_faults (spawner_faults spawner)
+        out-with : (spawner : P) (flag : Bool) → Rises flag x.spawner_faults (spawner_faults spawner)
             → ((d : ℕ) → after_calls x.spawner_faults d ≤ spawner_faults house.spawner → after_calls x.spawner_faults d ≤ spawner_faults spawner)
             → Keeps number talk left faults spawner_faults told given listener_faults x (asked_once t) (h ∷ []) (record house { pass = pass; spawner = spawner; ends = ends; troubles = record house.troubles { spawn_fault = flag } })
         out-with spawner flag says rises =

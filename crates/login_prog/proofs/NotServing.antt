@@ -15,7 +15,8 @@ use Rattle.replay.specs.Written.{joined}
 use Rattle.replay.specs.declared.cause.Cause.{Cause}
 use Rattle.replay.specs.declared.reporting.StatusLine.TheVariants as line
 use Rattle.desk.specs.Views.{first_view}
-use Rattle.login_prog.specs.Outcome.{Caused, Given, IsEnding, IsOpened, NotServed, change, given}
+use Rattle.login_prog.specs.Outcome.{Given, IsOpened, NotServed, change, given}
+use Rattle.login_prog.specs.inner.Causes.{Caused, IsEnding}
 use Rattle.login_prog.specs.inner.Endings.{ReportsEnd, status_of}
 use Rattle.login_prog.specs.inner.Left.{IsReady, Prepares}
 use Rattle.login_prog.specs.declared.serve.troubles.ServeEnd.{ServeEnd}

@@ -20,7 +20,8 @@ use Rattle.login_prog.specs.Served.{dropped_among}
 use Rattle.login_prog.specs.declared.serve.accepting.Child.{Child}
 use Rattle.login_prog.specs.declared.serve.accepting.House.{House}
 use Rattle.login_prog.specs.declared.serve.troubles.Troubles.{Troubles}
-use Rattle.login_prog.specs.inner.House.{AreOut, ArePlaced, Door, Far, FaultsSayOne, FaultsSay, FewDropped, HasCalled, HasTicked, Held, IsChild, IsFirstOf, IsListed, IsNew, IsUntold, Keeps, KeepsAt, Since, all_out, at_start, no_troubles}
+use Rattle.replay.specs.Rising.{Rises}
+use Rattle.login_prog.specs.inner.House.{AreOut, ArePlaced, Door, Far, FaultsSay, FewDropped, HasCalled, HasTicked, Held, IsChild, IsFirstOf, IsListed, IsNew, IsUntold, Keeps, KeepsAt, Since, all_out, at_start, no_troubles}
 use Rattle.login_prog.specs.inner.Jobs.{PassOfCore, ReaderGives}
 use Rattle.login_prog.specs.declared.serve.reader_job.ReaderEnd.{ReaderEnd}
 use Rattle.atomic_table.specs.Seated.{TableId}
@@ -50,7 +51,7 @@ module _ {L N P : Type 0} (number : L → ℕ) (talk : L → Option (List Exchan
   nobody-placed v out ends (Some r) c = λ k a there. absurd (let b = slice_get_within r.links k a there in omega (arith, b, c))
 
   pub fresh-keeps : (pass : PassOfCore) (spawner : P) (flag is_alone : Bool) → pass.desk ≡ house.pass.desk → pass.view ≡ after_split 0 house.pass.view
-      → FaultsSayOne flag (spawner_faults house.spawner) (spawner_faults spawner) → after_calls (spawner_faults house.spawner) 0 ≤ spawner_faults spawner
+      → Rises flag (spawner_faults house.spawner) (spawner_faults spawner) → after_calls (spawner_faults house.spawner) 0 ≤ spawner_faults spawner
       → Keeps number talk left faults spawner_faults told given listener_faults x (at_start x.clock_faults is_alone) [] (record house { pass = pass; spawner = spawner; troubles = record house.troubles { spawn_fault = flag } })
   fresh-keeps pass spawner flag is_alone same split says more =
       let view : pass.view ≡ after_split 0 (first_view x.setup) = split ∙ ap (after_split 0) n.view_is in
@@ -86,7 +87,7 @@ module _ {L N P : Type 0} (number : L → ℕ) (talk : L → Option (List Exchan
         closed = λ e. absurd (let k : false ≡ true = sym n.open_is ∙ e in let no : ⊥ = cc in no);
         asked = record { asked = subst (λ (r : Option (Register L)). BothTold r (told house.listener) (λ q s. HasCalled q.asked 0 s.asked)) n.register_is (unasked (told house.listener)); as_often = inl refl };
         listener_or_clock = subst (λ (b : Bool). FaultsSay b x.listener_faults (listener_faults house.listener) x.clock_faults x.clock_faults) (sym (ap (λ (z : Troubles). z.listener_or_clock) trouble)) (n.listener_faults_are, refl);
-        spawner = subst (λ (f : ℕ). FaultsSayOne flag f (spawner_faults spawner)) n.spawner_faults_are says;
+        spawner = subst (λ (f : ℕ). Rises flag f (spawner_faults spawner)) n.spawner_faults_are says;
         dropped = record { rises = 0; rose = let e = n.spawner_faults_are in omega (arith, more, e); few = let e : dropped_among house.ends.items ≡ 0 = ap dropped_among n.no_ends in omega (arith, e) };
         untold = record { read_fault = ap (λ (z : Troubles). z.read_fault) trouble; refused_line = ap (λ (z : Troubles). z.refused_line) trouble; write_fault = ap (λ (z : Troubles). z.write_fault) trouble };
       }

@@ -11,7 +11,8 @@ use Rattle.desk.specs.Passes.{Closes, IsFirst}
 use Rattle.desk.specs.Views.{first_view}
 use Rattle.desk.specs.declared.view.View.{View}
 use Rattle.link_serve.specs.Owners.{entry_who}
-use Rattle.login_prog.specs.Outcome.{Caused, Change, Given, HasServed, IsEnding, IsOpened, change, given}
+use Rattle.login_prog.specs.Outcome.{Change, Given, HasServed, IsOpened, change, given}
+use Rattle.login_prog.specs.inner.Causes.{Caused, IsEnding}
 use Rattle.login_prog.specs.inner.House.{Door, IsNew, Since, all_out, no_troubles}
 use Rattle.login_prog.specs.inner.Jobs.{PassOfCore}
 use Rattle.login_prog.specs.inner.Left.{Finished, Finishes, HasLeft}

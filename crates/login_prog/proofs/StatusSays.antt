@@ -12,7 +12,8 @@ use Rattle.login_model.specs.declared.setup.Setup.{Setup}
 use Rattle.login_office.specs.declared.end.LinkEnd.{LinkEnd}
 use Rattle.replay.specs.Reporting.{Reported, full_line, refusal}
 use Rattle.replay.specs.declared.cause.Cause.{Cause}
-use Rattle.login_prog.specs.Outcome.{Change, HasFailed, IsEnding, IsLastLine, IsSteady, WroteLines, WroteRecording}
+use Rattle.login_prog.specs.Outcome.{Change, HasFailed, IsLastLine, IsSteady, WroteLines, WroteRecording}
+use Rattle.login_prog.specs.inner.Causes.{IsEnding}
 use Rattle.login_prog.specs.Served.{link_lines}
 use Rattle.login_prog.specs.inner.Endings.{EndsSo, ReportsEnd, last_line, status_of}
 use Rattle.login_prog.specs.inner.Left.{Finishes, Writes, with_written}

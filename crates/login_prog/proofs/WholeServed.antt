@@ -28,11 +28,13 @@ use Rattle.desk.specs.declared.view.Numbered.{Numbered}
 use Rattle.desk.specs.declared.view.View.{View}
 use Rattle.desk.specs.inner.Appended.{entries_append}
 use Rattle.link_serve.specs.Owners.{entry_who}
-use Rattle.login_prog.specs.Outcome.{BehindGo, BothTold, Caused, Change, GaveBack, Given, HasServed, IsEnding, IsFirstTrouble, IsLastReading, IsOpened, IsWellRead, TookTurns, WasFull, WasRefused, WasTaken, WasTicked, after_calls, change}
+use Rattle.login_prog.specs.Outcome.{BehindGo, BothTold, Change, GaveBack, Given, HasServed, IsFirstTrouble, IsLastReading, IsOpened, IsWellRead, TookTurns, WasFull, WasRefused, WasTaken, WasTicked, after_calls, change}
+use Rattle.login_prog.specs.inner.Causes.{Caused, IsEnding}
 use Rattle.login_prog.specs.Script.{BrokenOff, CutAt, ReadSome, ReadToStop, RefusedAt}
 use Rattle.login_prog.specs.Served.{AreTicks, HasStopped, IsStopAlone, dropped_among, happened, hardware_of, last_tick, most_links, none, tick_length, ticked, ticks_of}
 use Rattle.login_prog.specs.inner.Endings.{last_line, status_of}
-use Rattle.login_prog.specs.inner.House.{ArePlaced, Door, Far, FaultsSay, FaultsSayOne, FullForTick, Goes, GoesUpTo, HasCalled, HasTrouble, KeepsAt, NoMore, Since, all_out, tick, with_end}
+use Rattle.replay.specs.Rising.{Rises}
+use Rattle.login_prog.specs.inner.House.{ArePlaced, Door, Far, FaultsSay, FullForTick, Goes, GoesUpTo, HasCalled, HasTrouble, KeepsAt, NoMore, Since, all_out, tick, with_end}
 use Rattle.login_prog.specs.inner.House.{WasRead as WasClocked}
 use Rattle.login_prog.specs.inner.Input.{MayStop}
 use Rattle.login_prog.specs.inner.Input.{WasFull as WasFullFor}
@@ -83,11 +85,11 @@ one-stop (x ∷ []) e = (x, refl, cc)
 one-stop (x ∷ y ∷ J) e = absurd (let z : ⊥ = cc in z)
 
 -- counts of faults, by what is known of them
-say-one : (b : Bool) (before now : ℕ) → FaultsSayOne b before now → b ≡ true → Rose before now
+say-one : (b : Bool) (before now : ℕ) → Rises b before now → b ≡ true → Rose before now
 say-one true before now h e = h
 say-one false before now h e = absurd (true≢false (sym e))
 
-say-none : (b : Bool) (before now : ℕ) → FaultsSayOne b before now → b ≡ false → now ≡ before
+say-none : (b : Bool) (before now : ℕ) → Rises b before now → b ≡ false → now ≡ before
 say-none true before now h e = absurd (true≢false e)
 say-none false before now h e = h
 

@@ -28,7 +28,7 @@ use Rattle.replay.specs.declared.cause.Cause.{Cause}
 use Rattle.replay.specs.declared.reporting.StatusLine.TheVariants as line
 use Rattle.link_serve.specs.Owners.{entry_who}
 use Rattle.login_prog.specs.Script.{BrokenOff, CutAt, ReadSome, ReadToStop, RefusedAt}
-use Rattle.login_prog.specs.Served.{AreGivenBack, AreTicks, HasStopped, IsStopAlone, dropped_among, hardware_of, last_tick, link_lines, most_links, tick_length, ticks_of}
+use Rattle.login_prog.specs.Served.{AreGivenBack, AreTicks, HasStopped, IsStopAlone, dropped_among, hardware_of, last_link, last_tick, link_lines, most_links, tick_length, ticks_of}
 use Rattle.login_prog.specs.Statuses.{RefusedSo, Says}
 
 -- what an object tells, and its count of faults, before a run and behind it
@@ -179,7 +179,7 @@ pub record TookTurns {L : Type 0} (failed : Type 0) (r s : Register L) (q p : Re
   pub some : 0 < accepts
   pub asked : s.asked ≡ after_calls r.asked accepts
   pub read : p.asked ≡ after_calls q.asked readings
-  pub as_often : (readings ≡ accepts) ⊎ ((failed × (readings + 1 ≡ accepts)) ⊎ (((s.closed ≡ true) ⊎ (length s.links ≡ 4294967295)) × (accepts ≤ readings)))
+  pub as_often : (readings ≡ accepts) ⊎ ((failed × (readings + 1 ≡ accepts)) ⊎ (((s.closed ≡ true) ⊎ (length s.links ≡ last_link)) × (accepts ≤ readings)))
 
 -- ---- the outputs
 
@@ -246,17 +246,6 @@ pub record HasServed {L : Type 0} (talk : L → Option (List Exchange)) (left : 
   pub errors : WroteLines x.errors (link_lines 1 ends) last
   pub last_is : IsLastLine status last
   pub first : IsFirstTrouble status x
-
--- a status with which serving ends
-abbrev pub IsEnding : ℕ → Type 0
-IsEnding status = (status ≡ 0) ⊎ ((2 ≤ status) × (status ≤ 8))
-
--- each fault has its cause
-pub record Caused {L : Type 0} (status : ℕ) (x : Given L) : Type 0 where
-  pub read : status ≡ 3 → HasFailed x.input
-  pub write : status ≡ 4 → HasFailed x.output ⊎ HasFailed x.errors
-  pub asked : status ≡ 7 → HasFailed x.listener ⊎ HasFailed x.clock
-  pub started : status ≡ 8 → HasFailed x.spawner
 
 abbrev pub Serves : {L : Type 0} → (talk : L → Option (List Exchange)) → (left : L → Option (List ℕ)) → (faults : L → ℕ) → ℕ → Given L → Type 0
 Serves talk left faults status x = NotServed status x ⊎ HasServed talk left faults status x

@@ -77,6 +77,10 @@ IsStopAlone J = (e : Entry) × (J ≡ e ∷ []) × (e.event ≡ Stop)
 abbrev pub most_links : ℕ
 most_links = 10000
 
+-- the greatest number of a link; no link comes behind it
+abbrev pub last_link : ℕ
+last_link = 4294967295
+
 -- the line of a link on the errors
 abbrev pub link_line : ℕ → LinkEnd → List ℕ
 link_line c e = codes "link " ++ (decimal c ++ named_end_text e)

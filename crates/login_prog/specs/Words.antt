@@ -1,7 +1,5 @@
 -- Which words of the command line are which command.
-use Rattle.std.specs.Prelude.{ℕ, ◌≡◌, ◌≢◌, ◌⊎◌, List, [], ◌∷◌, ◌++◌, codes, Option, Some, None}
-use Rattle.login_prog.specs.declared.words.Command.{Command}
-use Rattle.login_prog.specs.declared.words.Command.TheVariants as command
+use Rattle.std.specs.Prelude.{ℕ, ◌≡◌, ◌≢◌, ◌⊎◌, List, [], ◌∷◌, ◌++◌, codes}
 
 -- the words are `replay` alone
 abbrev pub AreReplay : List (List ℕ) → Type 0
@@ -27,13 +25,3 @@ ServesNot words = (dir : List ℕ) → ServesIn dir words → ⊥
 -- the words are no command
 abbrev pub AreNone : List (List ℕ) → Type 0
 AreNone words = (AreReplay words → ⊥) × ServesNot words
-
--- the words are those of the command
-abbrev pub AreWordsOf : Command → List (List ℕ) → Type 0
-AreWordsOf command.Replay words = AreReplay words
-AreWordsOf (command.Serve dir) words = ServesIn dir.now words
-
--- the words are those of this command, or of no command
-abbrev pub Means : List (List ℕ) → Option Command → Type 0
-Means words (Some command) = AreWordsOf command words
-Means words None = AreNone words

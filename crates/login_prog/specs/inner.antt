@@ -4,3 +4,5 @@ pub mod Input
 pub mod Jobs
 pub mod House
 pub mod Left
+pub mod Words
+pub mod Causes

@@ -1,7 +1,8 @@
 // The words of the command line, and which command they are.
 
 ghost use Rattle.std.specs.Prelude.{ℕ, List, ◌≡◌, ◌≢◌, ◌++◌, ◌↔◌, codes, IsTrue, MatchOption};
-ghost use Rattle.login_prog.specs.Words.{AreReplay, IsFolder, Means, NamesFolder, ServesIn, ServesNot};
+ghost use Rattle.login_prog.specs.Words.{AreReplay, IsFolder, NamesFolder, ServesIn, ServesNot};
+ghost use Rattle.login_prog.specs.inner.Words.{Means};
 
 use login_base::{Items, Word};
 

@@ -263,7 +263,7 @@ pub fn answer_cases<R: Abort + Wait + Threads + Sync>(
     cases: &[Answered],
 ) -> Result<(), Fail> {
     for case in cases {
-        answer(rt, alloc, case.name, &case.front, case.lines)?;
+        answer(rt, alloc, case.name, &case.beginning, case.lines)?;
     }
     Ok(())
 }

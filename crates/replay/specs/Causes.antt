@@ -37,10 +37,6 @@ own_fault BadName = Some fault.BadName
 own_fault BadAction = None
 own_fault Ended = Some fault.Ended
 
-abbrev pub MeansFault : LineFault → Option Cause → Type 0
-MeansFault f (Some cause) = own_fault cause ≡ Some f
-MeansFault f None = f ≡ fault.NoMemory
-
 -- the first line of what is left is refused for this cause, whatever stands before it: it is none of
 -- the grammar
 abbrev pub IsOwnCause : Cause → List ℕ → Type 0

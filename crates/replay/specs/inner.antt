@@ -10,3 +10,4 @@ pub mod Player
 pub mod Apart
 pub mod Making
 pub mod Telling
+pub mod Causes

@@ -1,7 +1,8 @@
 // Why a line of a recording is refused.
 
 ghost use Rattle.std.specs.Prelude.{◌≡◌};
-ghost use Rattle.replay.specs.Causes.{cause_word, MeansFault};
+ghost use Rattle.replay.specs.Causes.{cause_word};
+ghost use Rattle.replay.specs.inner.Causes.{MeansFault};
 
 use recording::LineFault;
 

@@ -8,6 +8,7 @@ mod early;
 mod law;
 mod linking;
 mod making;
+mod numbered;
 mod own;
 mod placing;
 mod play;

@@ -7,10 +7,10 @@ ghost use Rattle.replay.specs.Reporting.{Reported, status_line, refusal, full_li
 
 use crate::cause::Cause;
 use crate::closed::not_begun_number;
+use login_base::push_decimal;
 use login_edge::{Sink, write_all};
 use login_model::Count;
 use login_office::LinkEnd;
-use recording::push_decimal;
 use std::alloc::{AllocError, Global};
 
 /// A line that is the same whenever it is said.

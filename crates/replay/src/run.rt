@@ -1,6 +1,6 @@
 // A recording is played behind its preamble, and its transcript written.
 
-ghost use Rattle.std.specs.Prelude.{ℕ, List, Option, ◌≤◌, ◌≡◌, ◌+◌, ◌<◌, [], false, length, IfOk, OnOk, string_bytes};
+ghost use Rattle.std.specs.Prelude.{ℕ, List, Option, ◌≤◌, ◌≡◌, ◌+◌, ◌<◌, [], false, length, IfOk, OnOk};
 ghost use Rattle.recording.specs.Lines.{IsLine};
 ghost use Rattle.recording.specs.Reading.{left_to};
 ghost use Rattle.replay.specs.Front.{going, ended};
@@ -18,16 +18,17 @@ ghost use Rattle.replay.specs.inner.Writing.{Writes};
 use crate::ahead::{Ahead, MOST_LINES, next_line, read_ahead, read_past};
 use crate::cause::Cause;
 use crate::early::Early;
+use crate::numbered::end_numbered;
 use crate::placing::may_come;
 use crate::play::play_line;
 use crate::player::Player;
 use crate::start::start_text;
 use crate::writing::write_text;
-use login_base::Items;
+use login_base::{Items, NoMemory};
 use login_conf::Diagnostic;
 use login_edge::{Sink, Source};
 use recording::{Line, LineReader};
-use std::alloc::{AllocError, Global};
+use std::alloc::Global;
 
 /// The cause of a line behind so many, of which this is its own: behind the most it is too long a
 /// recording.
@@ -43,10 +44,12 @@ fn cause_behind(lines: u32, own: Cause) -> Cause
 }
 
 /// The last line of a transcript, after so many entries.
-fn end_text(alloc: Global, count: usize) -> Result<String, AllocError>
-    ensures { IfOk result (λ text. string_bytes text ≡ transcript_end count) }
+fn end_text(alloc: Global, count: usize) -> Result<Vec<u8>, NoMemory>
+    ensures { IfOk result (λ text. text.items ≡ transcript_end count) }
 {
-    format!(in alloc; "end {count}\n")
+    let mut text = Vec::new(alloc);
+    end_numbered(&mut text, b"end ", count as u64)?;
+    Ok(text)
 }
 
 /// Whether a line ends a recording.
@@ -97,7 +100,7 @@ impl Run {
         ensures cause { Rises (failed of_writing result) (K.faults sink.old) (K.faults sink.new) }
     {
         let text = end_text(self.alloc, self.player.core().journal().len())?;
-        write_text(sink, text.as_bytes())
+        write_text(sink, text.as_slice())
     }
 
     /// Ends the transcript after the line `end`, and sees that no line follows.

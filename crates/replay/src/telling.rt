@@ -105,7 +105,7 @@ fn fetch(alloc: Global, office: &mut Office, who: ConnId) -> Result<Bytes, NoMem
 }
 
 /// Replies, and mail behind them.
-fn joined(alloc: Global, replies: &[u8], mail: Bytes) -> Result<Bytes, NoMemory>
+fn replies_and_mail(alloc: Global, replies: &[u8], mail: Bytes) -> Result<Bytes, NoMemory>
     ensures { IfOk result (λ bytes. bytes ≡ replies.now ++ mail) }
 {
     if replies.is_empty() {
@@ -145,7 +145,7 @@ fn write_closed<K: Sink>(
     match end {
         Some(end) => {
             let text = closed_line(alloc, who, end)?;
-            write_text(sink, text.as_bytes())
+            write_text(sink, text.as_slice())
         }
         None => Ok(()),
     }
@@ -179,7 +179,7 @@ fn tell_one<K: Sink>(
     ensures cause { Rises (failed of_writing result) (K.faults sink.old) (K.faults sink.new) }
 {
     let mail = fetch(alloc, office, who)?;
-    let bytes = joined(alloc, own_replies(own, who), mail)?;
+    let bytes = replies_and_mail(alloc, own_replies(own, who), mail)?;
     write_told(alloc, who, bytes.as_slice(), own_end(own, who), sink)
 }
 

@@ -24,7 +24,7 @@ use Rattle.login_office.specs.declared.end.Unbegun.TheVariants.{HungUp}
 use Rattle.login_office.specs.declared.teller.HeardPiece.{HeardPiece}
 use Rattle.wire_out.specs.Mail.{wire}
 use Rattle.wire_out.specs.Places.{place_of}
-use Rattle.link_serve.specs.Acting.{ClosesOne}
+use Rattle.link_serve.specs.inner.Acting.{ClosesOne}
 use Rattle.link_serve.specs.Turned.{Acts}
 use Rattle.link_serve.specs.Owners.{entries_of, events_heard, is_open, was_denied}
 use Rattle.link_serve.specs.Serving.{Came, Causes, FaultsAt, IsShort, IsShown, Prompt, SaidAt, SaidThrough, has_hung_up, is_cut, is_hang_up, is_too_many}

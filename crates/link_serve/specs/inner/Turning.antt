@@ -15,7 +15,7 @@ use Rattle.login_office.specs.Hearing.{MayCome, TellerState}
 use Rattle.login_office.specs.Links.{end_heard, is_begun}
 use Rattle.login_office.specs.declared.end.LinkEnd.{LinkEnd}
 use Rattle.login_office.specs.declared.teller.HeardPiece.{HeardPiece}
-use Rattle.link_serve.specs.Acting.{IsNewTeller}
+use Rattle.link_serve.specs.inner.Acting.{IsNewTeller}
 use Rattle.link_serve.specs.Owners.{entries_of, events_heard, is_open}
 use Rattle.link_serve.specs.inner.Standing.{Moment, Rests, Stands, Stops, new_events, who_of}
 use Rattle.link_serve.specs.declared.serving.Progress.{Progress}

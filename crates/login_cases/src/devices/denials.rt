@@ -205,22 +205,22 @@ pub const CASES: [Case; 1] = [Case {
 pub const ANSWERED: [Answered; 4] = [
     Answered {
         name: "devices are taken and given back",
-        front: DEVICES,
+        beginning: DEVICES,
         lines: &TAKING,
     },
     Answered {
         name: "pauses are acknowledged",
-        front: DEVICES,
+        beginning: DEVICES,
         lines: &PAUSING,
     },
     Answered {
         name: "handles are used",
-        front: DEVICES,
+        beginning: DEVICES,
         lines: &USING,
     },
     Answered {
         name: "devices come and go",
-        front: DEVICES,
+        beginning: DEVICES,
         lines: &HAPPENING,
     },
 ];

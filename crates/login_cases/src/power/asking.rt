@@ -293,17 +293,17 @@ pub const CASES: [Case; 3] = [
 pub const ANSWERED: [Answered; 3] = [
     Answered {
         name: "users can ask",
-        front: WITH_BOB,
+        beginning: WITH_BOB,
         lines: &CAN,
     },
     Answered {
         name: "sessions of others are asked for",
-        front: WITH_BOB,
+        beginning: WITH_BOB,
         lines: &WITH_OTHERS,
     },
     Answered {
         name: "each operation asks for its action",
-        front: ALONE,
+        beginning: ALONE,
         lines: &WITHOUT_SESSION,
     },
 ];

@@ -349,12 +349,12 @@ pub const CASES: [Case; 4] = [
 pub const ANSWERED: [Answered; 2] = [
     Answered {
         name: "what no lock holds up",
-        front: WITH_BOB,
+        beginning: WITH_BOB,
         lines: &MISFITS,
     },
     Answered {
         name: "each word asks for its action",
-        front: WITH_BOB,
+        beginning: WITH_BOB,
         lines: &ACTIONS,
     },
 ];

@@ -1,5 +1,5 @@
 -- What handles hear: how it is settled behind the marks of an entry, and what a core keeps of it.
-use Rattle.std.specs.Prelude.{ℕ, ◌≡◌, ◌+◌, ◌≤◌, Bool, true, false, if◌then◌else◌, Option, Some, None, IsSome, List, length}
+use Rattle.std.specs.Prelude.{ℕ, ◌≡◌, ◌≤◌, Bool, true, false, if◌then◌else◌, Option, Some, None, IsSome, List, length}
 use Rattle.std.specs.List.{AllByRecursion, IsDistinct}
 use Rattle.login_base.specs.declared.ids.DevNo.{DevNo}
 use Rattle.login_base.specs.declared.ids.HandleNo.{HandleNo}
@@ -22,6 +22,7 @@ use Rattle.device_model.specs.Ears.{DeviceList, heard_of}
 use Rattle.device_model.specs.declared.ears.Ear.{Ear}
 use Rattle.login_laws.specs.Few.{same_handle}
 use Rattle.login_laws.specs.Hearing.{Heard, begins, heard_event, heard_in, is_turned}
+use Rattle.login_core.specs.Rings.{ring_count}
 
 -- the handle that a mark makes live or dead
 abbrev pub turned_by : Mark → Option HandleNo
@@ -78,10 +79,6 @@ ListenOn ears ms t = (h : HandleNo) → is_turned h ms ≡ false → IsSome (hea
 -- so many rings are enough for all handles that can be live
 abbrev pub AreEnough : ℕ → Trail → Type 0
 AreEnough rings t = (handles : List HandleNo) → IsDistinct same_handle handles → AllByRecursion (λ h. is_live t h ≡ true) handles → length handles ≤ rings
-
--- the rings, in use or spare
-abbrev pub ring_count : List Ear → ℕ → ℕ
-ring_count ears rings = length ears + rings
 
 -- no fact changes, and no ring comes or goes
 pub record KeepsRings (old new : DeviceList) : Type 0 where

@@ -5,11 +5,7 @@ use Rattle.login_model.specs.declared.fact.Fact.TheVariants.{Absent, Device, Kno
 use Rattle.login_model.specs.declared.hardware.DevKind.TheVariants.{Drm}
 pub use Rattle.switch_core.specs.inner.HandedOn.{controller_fact}
 
--- the seat of a graphics device
-abbrev pub graphics_seat : Fact → Option (List ℕ)
-graphics_seat (Device Drm seat) = Some seat
-graphics_seat _ = None
-
+-- a graphics device on the seat, if there is one
 abbrev pub graphics_fact : Option (List ℕ) → Fact
 graphics_fact (Some seat) = Device Drm seat
 graphics_fact None = Absent

@@ -11,6 +11,7 @@ use Rattle.login_model.specs.declared.fact.Fact.{Fact}
 use Rattle.login_model.specs.declared.fact.Fact.TheVariants as fact
 use Rattle.login_model.specs.declared.fact.Owner.TheVariants as owner
 use Rattle.login_model.specs.Direct.{fifo_in}
+use Rattle.login_model.specs.Facts.{controller_in, lock_in_fact}
 use Rattle.login_model.specs.Names.{insert_some, is_above}
 use Rattle.login_model.specs.Trail.{Trail, value}
 use Rattle.login_model.specs.Where.{is_open, is_session}
@@ -73,13 +74,11 @@ is_other a b = holding_lt a b || holding_lt b a
 
 -- what a connection has by the fact of a session's controller
 abbrev pub control_in : SessId → Fact → Option Holding
-control_in s (fact.Controller c) = Some (record { who = c; thing = Session s })
-control_in s _ = None
+control_in s x = option_map (λ c. record { who = c; thing = Session s }) (controller_in x)
 
 -- what a connection has by the fact of a lock
 abbrev pub held_lock_in : LockNo → Fact → Option Holding
-held_lock_in l (fact.Lock x) = Some (record { who = x.holder; thing = Lock l })
-held_lock_in l _ = None
+held_lock_in l x = option_map (λ y. record { who = y.holder; thing = Lock l }) (lock_in_fact x)
 
 -- what a connection has by the fact of a handle's owner
 abbrev pub owned_fifo_in : HandleNo → Fact → Option Holding

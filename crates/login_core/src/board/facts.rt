@@ -12,8 +12,9 @@ ghost use Rattle.device_model.specs.Ears.{heard_of};
 ghost use Rattle.login_base.specs.declared.ids.DevNo.{DevNo as AnyDevice};
 ghost use Rattle.login_base.specs.declared.ids.HandleNo.{HandleNo as AnyHandle};
 ghost use Rattle.login_model.specs.declared.answer.Input.{Input as AnyInput};
-ghost use Rattle.login_core.specs.inner.Ears.{AreEnough, ListenOn, ring_count, settled};
-ghost use Rattle.login_core.specs.inner.Facts.{StandFor, StandForFew, table, gives};
+ghost use Rattle.login_core.specs.inner.Ears.{AreEnough, ListenOn, settled};
+ghost use Rattle.login_core.specs.Rings.{ring_count};
+ghost use Rattle.login_core.specs.inner.Facts.{StandFor, StandForFew, table};
 ghost use Rattle.login_core.specs.inner.Holding.{AreSuch};
 
 use crate::board::hearing::settle;
@@ -80,16 +81,6 @@ impl Model for Facts {
     } };
 
     ghost invariant = { λ f. (f.spare ≤ f.users.spare) × (f.spare ≤ f.sessions.spare) × (f.spare ≤ f.seats.spare) × (f.spare ≤ f.devices.spare) × (f.spare ≤ f.controls.spare) × (f.spare ≤ f.takes.spare) × (f.spare ≤ f.locks.spare) × (f.spare ≤ f.power.spare) × (f.spare ≤ f.holdings.spare) };
-}
-
-/// How many handles a setting gives out.
-fn given(key: &Key, fact: &Fact) -> u32
-    ensures { result ≡ gives key.now fact.now }
-{
-    match key {
-        Key::Owner(_) => { if fact.is_owned() { 1 } else { 0 } }
-        _ => 0,
-    }
 }
 
 #[tactic(auto, unfolding(crate::specs::inner::Facts::StandFor))]
@@ -192,7 +183,7 @@ impl Facts {
         self.counts = self.counts.moved(lost, gained);
         self.holdings.shift(lost_thing, holding_in(&key, &fact));
         self.session += gained.opened;
-        self.handle += given(&key, &fact);
+        self.handle += key.gives(&fact);
         self.lock += gained.locks;
         self.spare -= 1;
         match Home::of(&key) {

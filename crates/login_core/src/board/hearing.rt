@@ -4,7 +4,8 @@ ghost use Rattle.std.specs.Prelude.{◌≡◌, ◌==◌, false, true, IsSome, No
 ghost use Rattle.login_base.specs.declared.ids.HandleNo.{HandleNo as AnyHandle};
 ghost use Rattle.device_model.specs.Ears.{heard_of};
 ghost use Rattle.login_laws.specs.Hearing.{begins, drained, heard_event, is_turned};
-ghost use Rattle.login_core.specs.inner.Ears.{AreEnough, KeepsRings, ListenLive, ListenOn, begun_anew, deafened, heard_with, is_evdev, listened_to, of_evdev, ring_count, settled, turned_by};
+ghost use Rattle.login_core.specs.inner.Ears.{AreEnough, KeepsRings, ListenLive, ListenOn, begun_anew, deafened, heard_with, is_evdev, listened_to, of_evdev, settled, turned_by};
+ghost use Rattle.login_core.specs.Rings.{ring_count};
 
 use device_model::DeviceModel;
 use device_revoke::DeviceRevoke;

@@ -135,26 +135,18 @@ impl Holding {
 fn control_in(session: SessId, fact: &Fact) -> Option<Holding>
     ensures { result ≡ control_in session fact.now }
 {
-    match fact {
-        Fact::Controller(who) => Some(Holding {
-            who: *who,
-            thing: Thing::Session(session),
-        }),
-        _ => None,
-    }
+    let who = fact.controller()?;
+    let thing = Thing::Session(session);
+    Some(Holding { who, thing })
 }
 
 /// What a connection has by the fact of a lock.
 fn held_lock_in(number: LockNo, fact: &Fact) -> Option<Holding>
     ensures { result ≡ held_lock_in number fact.now }
 {
-    match fact {
-        Fact::Lock(lock) => Some(Holding {
-            who: lock.get().holder,
-            thing: Thing::Lock(number),
-        }),
-        _ => None,
-    }
+    let who = fact.lock()?.holder;
+    let thing = Thing::Lock(number);
+    Some(Holding { who, thing })
 }
 
 /// What a connection has by the fact of a handle's owner.

@@ -7,7 +7,7 @@ ghost use Rattle.login_model.specs.Procedure.{each, revoke, shut};
 ghost use Rattle.login_model.specs.Taking.{add_device, appear_seat, has_graphics, lose_seat, remove_device, takers};
 ghost use Rattle.login_laws.proofs.Grows.{revoke-grows};
 ghost use Rattle.login_core.specs.Spares.{AreClosing};
-ghost use Rattle.login_core.specs.inner.HandedOn.{graphics_fact, graphics_seat};
+ghost use Rattle.login_core.specs.inner.HandedOn.{graphics_fact};
 ghost use Rattle.login_core.specs.inner.Draft.{marked_by, Fits};
 
 use crate::board::Draft;
@@ -29,16 +29,6 @@ impl Task<SessId> for RevokeFrom {
 
     fn run(&self, draft: &mut Draft, session: SessId) {
         draft.revoke(session, self.0);
-    }
-}
-
-/// The seat of a graphics device.
-fn graphics_seat(fact: &Fact) -> Option<SeatName>
-    ensures { result ≡ graphics_seat fact.now }
-{
-    match fact {
-        Fact::Device(DevKind::Drm, seat) => Some(*seat.get()),
-        _ => None,
     }
 }
 
@@ -145,7 +135,7 @@ impl Draft {
         ensures marked { self.new ≡ marked_by (remove_device device) self.old }
         ensures copies { AreClosing closing.new.items self.new.trail }
     {
-        let graphics = graphics_seat(self.fact(&Key::Dev(device)));
+        let graphics = self.fact(&Key::Dev(device)).graphics_seat();
         self.drop_device(device);
         self.lose_seat(graphics, closing);
     }

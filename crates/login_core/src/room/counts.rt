@@ -7,6 +7,9 @@ ghost use Rattle.login_core.specs.inner.Counts.{AreCounted, CanAllMove, Follow, 
 
 use login_model::{Fact, Key};
 
+/// What is kept for marks beside the sums over what stands.
+const MARKS_IN_RESERVE: u64 = 64;
+
 /// How many there are of what needs room in the journal or has a limit.
 #[derive(Clone, Copy)]
 pub struct Counts {
@@ -124,6 +127,6 @@ impl Counts {
             + 32 * u64::from(self.taken)
             + 8 * u64::from(self.present)
             + 4 * u64::from(self.users)
-            + 64
+            + MARKS_IN_RESERVE
     }
 }

@@ -8,7 +8,8 @@ ghost use Rattle.login_model.specs.Full.{is_granted, mark_count, full};
 ghost use Rattle.login_model.specs.Policy.{verdict as policy_verdict};
 ghost use Rattle.login_model.specs.Trail.{Trail};
 ghost use Rattle.login_core.specs.inner.Counts.{AreCounted, HoldersAreThere};
-ghost use Rattle.login_core.specs.Fullness.{always_fits, connected_by, full_by};
+ghost use Rattle.login_core.specs.Fullness.{always_fits};
+ghost use Rattle.login_core.specs.inner.Fullness.{connected_by, full_by};
 
 use crate::room::counts::Counts;
 use login_model::{Count, Event, Verdict};

@@ -31,10 +31,11 @@ use Rattle.desk.specs.declared.view.Numbered.{Numbered}
 use Rattle.desk.specs.declared.view.View.{View}
 use Rattle.link_serve.specs.Serving.{ServedBy}
 use Rattle.login_prog.specs.Outcome.{BothTold, after_calls}
-use Rattle.login_prog.specs.Served.{AreTicks, dropped_among, last_tick, most_links, tick_length}
+use Rattle.login_prog.specs.Served.{AreTicks, dropped_among, last_link, last_tick, most_links, tick_length}
 use Rattle.login_prog.specs.inner.Endings.{with_reading}
 use Rattle.login_prog.specs.inner.Jobs.{LinkGives, PassOfCore, ReaderGives}
 use Rattle.recording.specs.Reading.{left_to}
+use Rattle.replay.specs.Rising.{Rises}
 use Rattle.login_prog.specs.declared.serve.accepting.Child.{Child}
 use Rattle.login_prog.specs.declared.serve.accepting.House.{House}
 use Rattle.login_prog.specs.declared.serve.accepting.Ticking.{Ticking}
@@ -246,7 +247,7 @@ pub record IsListed (came : ℕ) (is_closed no_memory : Bool) (many given : ℕ)
 
 -- no link comes any more, or memory is wanting
 abbrev pub NoMore : {L : Type 0} → ℕ → Bool → Option (Register L) → Type 0
-NoMore came no_memory register = (no_memory ≡ true) ⊎ (IfSome register (λ r. r.closed ≡ true) ⊎ (came ≡ 4294967295))
+NoMore came no_memory register = (no_memory ≡ true) ⊎ (IfSome register (λ r. r.closed ≡ true) ⊎ (came ≡ last_link))
 
 -- the listener was asked so often since the start, as often as turns began, or less where no link comes any more
 pub record WasAsked {L : Type 0} (x : Since L) (t : Far) (came : ℕ) (no_memory : Bool) (register : Option (Register L)) : Type 0 where
@@ -257,10 +258,6 @@ pub record WasAsked {L : Type 0} (x : Since L) (t : Far) (came : ℕ) (no_memory
 abbrev pub FaultsSay : Bool → (before now started later : ℕ) → Type 0
 FaultsSay true before now started later = Rose before now ⊎ Rose started later
 FaultsSay false before now started later = (now ≡ before) × (later ≡ started)
-
-abbrev pub FaultsSayOne : Bool → ℕ → ℕ → Type 0
-FaultsSayOne true before now = Rose before now
-FaultsSayOne false before now = now ≡ before
 
 -- links were dropped at most as often as the spawner's count rose
 pub record FewDropped (before now : ℕ) (ends : List (Option LinkEnd)) (out : ℕ) : Type 0 where
@@ -336,7 +333,7 @@ module _ {L N P : Type 0} (number : L → ℕ) (talk : L → Option (List Exchan
     pub closed : house.is_closed ≡ true → (house.troubles.no_memory ≡ true) ⊎ IfSome door.register (λ r. r.closed ≡ true)
     pub asked : WasAsked x t house.came house.troubles.no_memory door.register
     pub listener_or_clock : FaultsSay house.troubles.listener_or_clock x.listener_faults door.faults x.clock_faults t.clock_faults
-    pub spawner : FaultsSayOne house.troubles.spawn_fault x.spawner_faults (spawner_faults house.spawner)
+    pub spawner : Rises house.troubles.spawn_fault x.spawner_faults (spawner_faults house.spawner)
     pub dropped : FewDropped x.spawner_faults (spawner_faults house.spawner) house.ends.items (length (all_out house.children.items hands))
     pub untold : IsUntold house.troubles
 
@@ -365,7 +362,7 @@ module _ {L N P : Type 0} (number : L → ℕ) (talk : L → Option (List Exchan
     pub record Comes (door : Door L) (x : Since L) (t : Far) (link : L) (uid : Uid) (house : House L N P) : Type 0 where
       pub keeps : KeepsAt door x t [] (record house { came = door.given })
       pub came_is : house.came ≡ door.given + 1
-      pub below : door.given ≡ 4294967295 → ⊥
+      pub below : door.given ≡ last_link → ⊥
       pub numbered : number link ≡ house.came
       pub told_is : told house.listener ≡ option_map (accepted (Came link uid)) door.register
       pub given_is : given house.listener ≡ door.given + 1

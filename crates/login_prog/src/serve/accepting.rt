@@ -2,6 +2,7 @@
 
 ghost use Rattle.std.specs.Prelude.{◌≡◌, ◌+◌, ◌<◌, ◌≤◌, ◌⊎◌, ◌∷◌, [], ℕ, Bool, List, Option, IfOk, None, true, false, vec_len, vec_capacity};
 ghost use Rattle.link_serve.specs.Turned.{StopTells};
+ghost use Rattle.login_prog.specs.Served.{most_links, tick_length};
 ghost use Rattle.login_prog.specs.inner.House.{Accepts, Comes, Door, Far, HasCome, HasKept, HasReturned, HasTurning, Held, IsBegun, IsClock, Keeps, MayStop, Reads, Returns, Since, TickGives, Turned, Turning, asked_once, failing, stopped_now};
 
 use crate::serve::link_job::{DoneBell, LinkJob, LinkNote, LinkOut};
@@ -78,8 +79,8 @@ type Flags = (Arc<AtomicBool, Global>, Arc<AtomicBool, Global>);
 
 /// Whether a moment is far enough behind the last tick.
 fn is_due(last: Millis, moment: Millis) -> bool
-    ensures due { result ≡ true → last.0 + 1000 ≤ moment.0 }
-    ensures early { result ≡ false → moment.0 < last.0 + 1000 }
+    ensures due { result ≡ true → last.0 + tick_length ≤ moment.0 }
+    ensures early { result ≡ false → moment.0 < last.0 + tick_length }
 {
     moment.0 >= TICK && moment.0 - TICK >= last.0
 }
@@ -131,7 +132,7 @@ impl<L: Link, N: Listener<Link = L>, P: Spawner> House<L, N, P> {
         requires came { HasCome L.number L.talk L.left L.faults P.faults N.told N.given N.faults shared.now.desk.now link uid self.old }
         requires desk { self.old.pass.desk ≡ shared.now.desk.now }
         requires above { 0 < self.old.came }
-        requires some { self.old.came ≤ 10000 }
+        requires some { self.old.came ≤ most_links }
         requires unclosed { self.old.is_closed ≡ false }
         requires room { (vec_len self.old.children < vec_capacity self.old.children) × (vec_len self.old.ends < vec_capacity self.old.ends) }
         ensures desk { self.new.pass.desk ≡ self.old.pass.desk }

@@ -8,7 +8,8 @@ ghost use Rattle.login_model.specs.Conf.{IsAllowed};
 ghost use Rattle.login_model.specs.Setups.{IsSetup};
 ghost use Rattle.recording.specs.Reading.{left_to};
 ghost use Rattle.replay.specs.Recording.{most_lines};
-ghost use Rattle.login_prog.specs.Outcome.{Caused, HasServed, IsEnding, Serves, change, given};
+ghost use Rattle.login_prog.specs.Outcome.{HasServed, Serves, change, given};
+ghost use Rattle.login_prog.specs.inner.Causes.{Caused, IsEnding};
 ghost use Rattle.login_prog.specs.inner.House.{IsFresh, IsNew, Since, door_of, no_troubles};
 ghost use Rattle.login_prog.specs.inner.Left.{Finished, Finishes, HasLeft, IsReady, Leaves, Prepares, Writes, with_written};
 

@@ -2,7 +2,7 @@ use Rattle.std.proofs.Common.{refl, sym, subst, Option, Result}
 use Rattle.desk.specs.History.{entries}
 use Rattle.login_core.specs.declared.state.Refused.{Refused}
 use Rattle.login_model.specs.declared.event.Event.{Event}
-use Rattle.link_serve.specs.Acting.{MayStep}
+use Rattle.link_serve.specs.inner.Acting.{MayStep}
 use Rattle.link_serve.specs.Turned.{StepTells, granted_of}
 use Rattle.link_serve.specs.declared.acts.Made.{Made}
 use Rattle.link_serve.proofs.TurnsTaken.{never-another, step-tells}

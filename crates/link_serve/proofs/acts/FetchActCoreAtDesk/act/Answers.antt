@@ -3,7 +3,7 @@ use Rattle.desk.specs.History.{StartsWith, entries}
 use Rattle.login_model.specs.declared.mark.Entry.{Entry}
 use Rattle.wire_out.specs.Conditions.{IsMailable}
 use Rattle.wire_out.specs.Places.{IsPlaceIn}
-use Rattle.link_serve.specs.Acting.{FetchState}
+use Rattle.link_serve.specs.inner.Acting.{FetchState}
 use Rattle.link_serve.proofs.OneEntry.{appends-none, held-placed, placed-later}
 use Rattle.link_serve.proofs.acts.FetchActCoreAtDesk.act.Goals as goal
 

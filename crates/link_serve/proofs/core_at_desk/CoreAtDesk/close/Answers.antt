@@ -2,7 +2,7 @@ use Rattle.std.proofs.Common.{◌≡◌, ap, sym, subst, ◌∙◌, true, false}
 use Rattle.login_core.specs.State.{CoreState}
 use Rattle.login_model.specs.Legal.{trail_of}
 use Rattle.login_model.specs.Where.{is_connected, is_connected_fact}
-use Rattle.link_serve.specs.Acting.{Closes}
+use Rattle.link_serve.specs.inner.Acting.{Closes}
 use Rattle.link_serve.proofs.AtDesk.{at-desk-more, closed-none, closed-one}
 use Rattle.link_serve.proofs.core_at_desk.CoreAtDesk.close.Goals as goal
 

@@ -2,7 +2,8 @@ use Rattle.std.proofs.Common.{◌≡◌, ap, sym, subst, Ok, Err}
 use Rattle.login_core.specs.State.{CoreState}
 use Rattle.login_model.specs.Legal.{IsAsked}
 use Rattle.login_model.specs.declared.event.Event.{Event}
-use Rattle.link_serve.specs.Acting.{FitsAlone, FitsBehind, StepsNow}
+use Rattle.link_serve.specs.Acting.{FitsAlone, FitsBehind}
+use Rattle.link_serve.specs.inner.Acting.{StepsNow}
 use Rattle.link_serve.specs.Owners.{entries_of, event_who}
 use Rattle.link_serve.specs.inner.Inside.{IsAtDesk}
 use Rattle.link_serve.proofs.AtDesk.{at-desk-more, at-desk-same, may-come, none-made, one-made}

@@ -2,6 +2,7 @@ use Rattle.std.proofs.Common.{◌≡◌, ◌∙◌, ℕ, List, Option, ap, refl,
 use Rattle.login_base.specs.declared.ids.DevNo.{DevNo}
 use Rattle.login_model.specs.declared.fact.Fact.TheVariants.{Absent, Number}
 use Rattle.login_model.specs.declared.fact.Key.TheVariants.{Dev, Mode}
+use Rattle.login_model.specs.Facts.{graphics_seat}
 use Rattle.login_model.specs.Procedure.{each, revoke}
 use Rattle.login_model.specs.Taking.{lose_seat, remove_device, takers}
 use Rattle.login_model.specs.Trail.{Trail, put, value}
@@ -9,7 +10,7 @@ use Rattle.login_laws.proofs.Carried.{each-carried, put-behind, revoke-carried}
 use Rattle.login_laws.proofs.Grows.{lose_seat-grows}
 use Rattle.login_laws.proofs.Tame.{Tame, tame}
 use Rattle.login_core.specs.inner.Draft.{DraftState, with_trail, marked_by}
-use Rattle.login_core.specs.inner.HandedOn.{graphics_fact, graphics_seat}
+use Rattle.login_core.specs.inner.HandedOn.{graphics_fact}
 use Rattle.login_core.proofs.Growing.{fits, trails}
 use Rattle.login_core.proofs.TextsKept.{closing-later}
 use Rattle.login_core.proofs.HandedOn.{lost}

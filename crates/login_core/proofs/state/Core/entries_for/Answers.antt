@@ -4,7 +4,7 @@ use Rattle.login_model.specs.Legal.{trail_of}
 use Rattle.login_model.specs.Trail.{Trail}
 use Rattle.login_core.specs.inner.Counts.{AreCounted}
 use Rattle.login_core.specs.State.{CoreState}
-use Rattle.login_core.specs.Fullness.{connected_by}
+use Rattle.login_core.specs.inner.Fullness.{connected_by}
 use Rattle.login_core.proofs.Filling.{connected-is}
 use Rattle.login_core.proofs.state.Core.entries_for.Goals as goal
 

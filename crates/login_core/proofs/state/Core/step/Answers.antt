@@ -17,11 +17,13 @@ use Rattle.device_model.specs.Ears.{heard_of}
 use Rattle.device_model.specs.declared.ears.Ear.{Ear}
 use Rattle.login_core.specs.inner.Board.{IsBegun}
 use Rattle.login_core.specs.inner.Draft.{DraftState, marked_by, with_ears}
-use Rattle.login_core.specs.inner.Ears.{AreEnough, ListenLive, ring_count, settled}
+use Rattle.login_core.specs.inner.Ears.{AreEnough, ListenLive, settled}
+use Rattle.login_core.specs.Rings.{ring_count}
 use Rattle.login_core.specs.inner.Inside.{IsCore}
 use Rattle.login_core.specs.Spares.{HaveTexts}
 use Rattle.login_core.specs.inner.UnderWay.{so_far, entry_of}
-use Rattle.login_core.specs.State.{CoreState, IsReady, answer_next, stop_next}
+use Rattle.login_core.specs.State.{CoreState, IsReady}
+use Rattle.login_core.specs.inner.State.{answer_next, stop_next}
 use Rattle.login_core.specs.declared.board.Board.{Board}
 use Rattle.login_core.specs.declared.room.ready.Ready.{Ready}
 use Rattle.login_core.specs.declared.room.texts.Texts.{Texts}

@@ -1,5 +1,6 @@
 use Rattle.std.proofs.Common.{inl, inr, refl, subst, sym, ◌∙◌}
-use Rattle.login_prog.specs.Outcome.{Caused, HasServed, IsEnding}
+use Rattle.login_prog.specs.Outcome.{HasServed}
+use Rattle.login_prog.specs.inner.Causes.{Caused, IsEnding}
 use Rattle.login_prog.specs.declared.serve.troubles.ServeEnd.TheVariants as end
 use Rattle.login_prog.proofs.NotServing.{no-memory-by, unopened-by, unprepared-by}
 use Rattle.login_prog.proofs.ServingWhole.{opened-before}

@@ -1,5 +1,6 @@
 use Rattle.std.proofs.Common.{refl}
-use Rattle.login_prog.specs.Outcome.{Caused, HasServed}
+use Rattle.login_prog.specs.Outcome.{HasServed}
+use Rattle.login_prog.specs.inner.Causes.{Caused}
 use Rattle.login_prog.proofs.ServingWhole.{finished, handed-back, is-new, last-desk, last-first, last-out, none-given, since}
 use Rattle.login_prog.proofs.serve.whole.serve_ready.Goals as goal
 

@@ -5,7 +5,7 @@ use Rattle.login_model.specs.declared.mark.Entry.{Entry}
 use Rattle.login_model.specs.declared.setup.Setup.{Setup}
 use Rattle.desk.specs.declared.view.View.{View}
 use Rattle.login_prog.specs.declared.serve.troubles.Troubles.{Troubles}
-use Rattle.login_prog.specs.inner.House.{FaultsSayOne}
+use Rattle.replay.specs.Rising.{Rises}
 use Rattle.login_prog.proofs.JobSent.{reader-job-send}
 use Rattle.login_prog.proofs.ReaderStarted.{fresh-keeps, reader-from}
 use Rattle.login_prog.proofs.serve.accepting.House.start_reader.Goals as goal
@@ -46,7 +46,7 @@ pub returns-in-Running-clause-keeps : goal.returns-in-Running-clause-keeps
 returns-in-Running-clause-keeps g c = λ x is_alone n.
     let same = c.in-Running.ensures.same _ refl in
     fresh-keeps _ _ _ _ _ _ _ _ x c.args.self.now n c.split.new.pass c.start.new.self c.args.self.now.troubles.spawn_fault is_alone c.split.ensures.desk.0 c.split.ensures.first
-    (subst (λ (b : Bool). FaultsSayOne b (g.P.Spawner.faults c.args.self.now.spawner) (g.P.Spawner.faults c.start.new.self)) (sym (ap (λ (z : Troubles). z.spawn_fault) n.no_trouble)) same) (omega (arith, same))
+    (subst (λ (b : Bool). Rises b (g.P.Spawner.faults c.args.self.now.spawner) (g.P.Spawner.faults c.start.new.self)) (sym (ap (λ (z : Troubles). z.spawn_fault) n.no_trouble)) same) (omega (arith, same))
 
 pub returns-in-Back-clause-started : goal.returns-in-Back-clause-started
 returns-in-Back-clause-started g c = reader-from _ _ _ _ c.split.result _ _ _ _ _ _ c.split.ensures.desk.1 c.split.ensures.new (c.in-Back.ensures.back _ refl)
