@@ -23,9 +23,11 @@ program=$top/crates/login/out/login
 mark=$program.built # the checksum of the sources that the program was built from, and its own
 log=$program.log    # what rt said while it was built
 
-# Whether the words are a command of the program.
+# Whether the words are a command of the program. The name of a folder is not empty and does not begin with a dash.
 is_command() {
-    [[ ($# == 1 && $1 == replay) || ($# == 2 && $1 == serve && $2 == --dir=*) || ($# == 3 && $1 == serve && $2 == --dir) ]]
+    [[ ($# == 1 && $1 == replay) ||
+        ($# == 2 && $1 == serve && $2 == --dir=[!-]*) ||
+        ($# == 3 && $1 == serve && $2 == --dir && $3 == [!-]*) ]]
 }
 
 # The program's line for words that are no command, as its sources have it.
