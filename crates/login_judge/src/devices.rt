@@ -12,14 +12,8 @@ use crate::owners::{no_such_handle, not_in_control, not_yours};
 use crate::places::{no_seat, no_such_session, session_closing};
 use crate::session_calls::{NO_SESSION, first_broken};
 use login_base::{ConnId, DevNo, HandleNo, SessId};
-use login_model::{DevKind, Key, Limit, Look, Rule, Verdict};
+use login_model::{DevKind, Key, Limit, Look, MOST_DEVICES, MOST_TAKEN, Rule, Verdict};
 use login_table::{are_taken_at_least, seat_of_session};
-
-/// The most devices that a session may have taken.
-const MOST_TAKEN: u32 = 128;
-
-/// The most devices that may be present.
-const MOST_DEVICES: u32 = 4096;
 
 fn is_device<F: Look>(facts: &F, device: DevNo) -> bool
     ensures { result ≡ is_device (F.trail facts.now) device }

@@ -8,11 +8,8 @@ ghost use Rattle.login_model.specs.Limits.{links_limit};
 
 use crate::arguments::{broken_if, is_seat0};
 use login_base::{SeatName, SessId, Uid, Word};
-use login_model::{Key, Limit, Look, Rule, Setup};
+use login_model::{Key, Limit, Look, MOST_LINKS, Rule, Setup};
 use login_table::{is_on_seat, seat_of_session, session_on};
-
-/// The most links that may be connected.
-const MOST_LINKS: u32 = 64;
 
 pub(crate) fn no_such_session<F: Look>(facts: &F, session: SessId) -> Option<Rule>
     ensures { result ≡ no_such_session (F.trail facts.now) session }

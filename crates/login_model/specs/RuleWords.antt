@@ -3,6 +3,7 @@ use Rattle.std.specs.Prelude.{ℕ, List, [], ◌∷◌, codes}
 use Rattle.std.specs.Fmt.{decimal}
 use Rattle.login_base.specs.SessionId.{session_text}
 use Rattle.login_model.specs.Action.{name}
+use Rattle.login_model.specs.Limits.{links_limit, taken_limit, devices_limit}
 use Rattle.login_model.specs.Words.{operation_word}
 use Rattle.login_model.specs.declared.rule.Limit.{Limit}
 use Rattle.login_model.specs.declared.rule.Limit.TheVariants.{Links, Sessions, Inhibitors, DevicesTaken, Devices}
@@ -48,13 +49,25 @@ rule_label (rule.ClockBackwards m) = codes "P33 clock-backwards"
 rule_label rule.KeyIgnored = codes "P34 key-ignored"
 rule_label rule.Nobody = codes "P35 nobody"
 
+-- the name of a limit
+abbrev pub limit_name : Limit → List ℕ
+limit_name Links = codes "links"
+limit_name (Sessions most) = codes "SessionsMax"
+limit_name (Inhibitors most) = codes "InhibitorsMax"
+limit_name DevicesTaken = codes "devices-taken"
+limit_name Devices = codes "devices"
+
+-- the number of a limit
+abbrev pub limit_number : Limit → ℕ
+limit_number Links = links_limit
+limit_number (Sessions most) = most
+limit_number (Inhibitors most) = most
+limit_number DevicesTaken = taken_limit
+limit_number Devices = devices_limit
+
 -- the name and the number of a limit
 abbrev pub limit_words : Limit → List (List ℕ)
-limit_words Links = codes "links" ∷ codes "64" ∷ []
-limit_words (Sessions most) = codes "SessionsMax" ∷ decimal most ∷ []
-limit_words (Inhibitors most) = codes "InhibitorsMax" ∷ decimal most ∷ []
-limit_words DevicesTaken = codes "devices-taken" ∷ codes "128" ∷ []
-limit_words Devices = codes "devices" ∷ codes "4096" ∷ []
+limit_words limit = limit_name limit ∷ decimal (limit_number limit) ∷ []
 
 -- what a rule names: the action, whoever is in control, the session that has the terminal, the kind of the
 -- operation, the lock, the limit, or the clock

@@ -55,7 +55,7 @@ pub use property::{
     ManagerProperty, Property, PropertyRow, PropertyValue, SeatProperty, SessionProperty,
     UserProperty,
 };
-pub use rule::{Limit, Rule, Verdict};
+pub use rule::{Limit, MOST_DEVICES, MOST_LINKS, MOST_TAKEN, Rule, Verdict};
 pub use same::{is_same_fact, is_same_key};
 pub use session::{Class, KillWhom, Phase, Session, SessionTexts, SessionType};
 pub use setup::{Setup, UserRow};

@@ -4,19 +4,58 @@ use crate::action::Action;
 use crate::operation::OpKind;
 use login_base::{ConnId, LockNo, Millis, SessId};
 
-/// A number that was reached.
+/// The most connections that may be connected.
+pub const MOST_LINKS: u32 = 64;
+
+/// The most devices that a session may have taken.
+pub const MOST_TAKEN: u32 = 128;
+
+/// The most devices that may be present.
+pub const MOST_DEVICES: u32 = 4096;
+
+/// A number that was reached. It prints as its name and the number, as `links 64`.
 #[derive(Clone, Copy, Debug, PartialEq, Eq)]
 pub enum Limit {
-    /// 64 connections are connected. It prints as `links 64`.
+    /// As many connections are connected as may be.
     Links,
-    /// As many sessions as the configuration allows are not gone. It prints as `SessionsMax N`.
+    /// As many sessions as the configuration allows are not gone.
     Sessions(u32),
-    /// As many locks as the configuration allows stand. It prints as `InhibitorsMax N`.
+    /// As many locks as the configuration allows stand.
     Inhibitors(u32),
-    /// The session has 128 devices taken. It prints as `devices-taken 128`.
+    /// The session has as many devices taken as it may.
     DevicesTaken,
-    /// 4096 devices are present. It prints as `devices 4096`.
+    /// As many devices are present as may be.
     Devices,
+}
+
+impl Limit {
+    ghost use Rattle.std.specs.Prelude.{◌≡◌};
+    ghost use Rattle.login_model.specs.RuleWords.{limit_name, limit_number};
+
+    /// The name of the limit: the configuration's key where it sets the number.
+    pub fn name(self) -> &'static [u8]
+        ensures { result.now ≡ limit_name self }
+    {
+        match self {
+            Limit::Links => b"links",
+            Limit::Sessions(_) => b"SessionsMax",
+            Limit::Inhibitors(_) => b"InhibitorsMax",
+            Limit::DevicesTaken => b"devices-taken",
+            Limit::Devices => b"devices",
+        }
+    }
+
+    /// The number that was reached.
+    pub fn number(self) -> u32
+        ensures { result ≡ limit_number self }
+    {
+        match self {
+            Limit::Links => MOST_LINKS,
+            Limit::Sessions(most) | Limit::Inhibitors(most) => most,
+            Limit::DevicesTaken => MOST_TAKEN,
+            Limit::Devices => MOST_DEVICES,
+        }
+    }
 }
 
 /// A rule that an event breaks, with what the rule names.

@@ -16,13 +16,7 @@ use login_model::{Answer, Limit, Rule, Verdict};
 fn push_limit(text: &mut LineText, limit: Limit) -> Result<(), NoMemory>
     ensures { OnOk result (text.new ≡ text.old ++ spaced (limit_words limit)) }
 {
-    match limit {
-        Limit::Links => text.push(b" links 64"),
-        Limit::Sessions(most) => push_numbered(text, b"SessionsMax", most),
-        Limit::Inhibitors(most) => push_numbered(text, b"InhibitorsMax", most),
-        Limit::DevicesTaken => text.push(b" devices-taken 128"),
-        Limit::Devices => text.push(b" devices 4096"),
-    }
+    push_numbered(text, limit.name(), limit.number())
 }
 
 /// Adds what a rule names.

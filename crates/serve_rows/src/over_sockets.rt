@@ -5,6 +5,7 @@ ghost use Rattle.std.specs.Prelude.{◌<◌, ◌≤◌};
 use crate::handshakes::{HANDSHAKE, REPLIES, ping, pong};
 use crate::running::{Outcome, lines_like, plays_again, run_with, sink};
 use login_base::NoMemory;
+use login_model::MOST_LINKS;
 use login_prog::Outside;
 use login_real::{
     LinkWaker, MonotonicClock, ReaderSource, SocketListener, ThreadSpawner, WakingGate,
@@ -21,9 +22,7 @@ use std::test::Fail;
 use std::thread::{Scope, Threads};
 use std::{env, fs, io, process, thread};
 
-/// So many links may be connected, and each makes so many calls.
-const MOST_LINKS: u32 = 64;
-
+/// So many calls are made by each of as many links as may be connected.
 const CALLS: u32 = 500;
 
 /// So many calls are made in all, and so many of them behind the first call of a link.

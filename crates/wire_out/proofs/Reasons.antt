@@ -3,7 +3,7 @@ use Rattle.std.proofs.Common.{ℕ, ◌+◌, ◌<◌, ◌≤◌, ◌^◌, List, [
 use Rattle.login_base.specs.SessionId.{session_text}
 use Rattle.login_base.proofs.Decimals.{decimal_long, decimal_short}
 use Rattle.login_model.specs.Action.{name, operation_name, suffix}
-use Rattle.login_model.specs.RuleWords.{detail_words, limit_words, rule_label}
+use Rattle.login_model.specs.RuleWords.{detail_words, limit_name, limit_number, limit_words, rule_label}
 use Rattle.login_model.specs.Words.{operation_word}
 use Rattle.login_model.specs.declared.action.Action.{Action}
 use Rattle.login_model.specs.declared.action.Action.TheVariants as action
@@ -19,7 +19,7 @@ use Rattle.login_model.specs.declared.rule.Rule.{Rule}
 use Rattle.login_model.specs.declared.rule.Rule.TheVariants as rule
 use Rattle.wire_out.specs.Errors.{rule_text}
 use Rattle.wire_out.specs.Messages.{text}
-use Rattle.wire_out.specs.inner.Numbers.{HasLimitNumber, HasRuleNumber}
+use Rattle.wire_out.specs.inner.Numbers.{HasRuleNumber}
 use Rattle.wire_out.specs.inner.Parts.{IsBody, most_body}
 use Rattle.wire_out.proofs.ValueParts.{body_of, one}
 use Rattle.wire_out.proofs.Parts.{text_part, weaker}
@@ -102,12 +102,22 @@ numbered_word w n p short small =
     let l = decimal_short n small in
     record { plain = (p, (decimal_plain n (omega (arith, small)), tt)); short = omega (arith, l, short) }
 
-limit_list : (x : Limit) → HasLimitNumber x → AreShort 100 (limit_words x)
-limit_list limits.Links n = record { plain = (refl, (refl, tt)); short = omega arith }
-limit_list (limits.Sessions most) n = numbered_word (codes "SessionsMax") most refl (omega arith) n
-limit_list (limits.Inhibitors most) n = numbered_word (codes "InhibitorsMax") most refl (omega arith) n
-limit_list limits.DevicesTaken n = record { plain = (refl, (refl, tt)); short = omega arith }
-limit_list limits.Devices n = record { plain = (refl, (refl, tt)); short = omega arith }
+limit_plain : (x : Limit) → ArePlain (limit_name x)
+limit_plain limits.Links = refl
+limit_plain (limits.Sessions most) = refl
+limit_plain (limits.Inhibitors most) = refl
+limit_plain limits.DevicesTaken = refl
+limit_plain limits.Devices = refl
+
+limit_short : (x : Limit) → length (limit_name x) ≤ 20
+limit_short limits.Links = omega arith
+limit_short (limits.Sessions most) = omega arith
+limit_short (limits.Inhibitors most) = omega arith
+limit_short limits.DevicesTaken = omega arith
+limit_short limits.Devices = omega arith
+
+limit_list : (x : Limit) → limit_number x < 2 ^ 32 → AreShort 100 (limit_words x)
+limit_list x n = numbered_word (limit_name x) (limit_number x) (limit_plain x) (limit_short x) n
 
 detail_list : (r : Rule) → HasRuleNumber r → AreShort 100 (detail_words r)
 detail_list (rule.ActionRefused a) n = action_word a

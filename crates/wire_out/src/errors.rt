@@ -1,11 +1,11 @@
 // The names and texts of errors.
 
-ghost use Rattle.std.specs.Prelude.{◌≡◌, ◌++◌, ◌∷◌, [], IfOk, OnOk};
+ghost use Rattle.std.specs.Prelude.{◌≡◌, ◌++◌, ◌∷◌, IfOk, OnOk};
 ghost use Rattle.std.specs.Fmt.{decimal};
 ghost use Rattle.login_base.specs.SessionId.{session_text};
-ghost use Rattle.login_model.specs.RuleWords.{detail_words, limit_words};
+ghost use Rattle.login_model.specs.RuleWords.{detail_words, limit_number, limit_words};
 ghost use Rattle.wire_out.specs.Errors.{error_name, nobody_error, rule_text};
-ghost use Rattle.wire_out.specs.inner.Numbers.{HasLimitNumber, HasRuleNumber, IsNumber};
+ghost use Rattle.wire_out.specs.inner.Numbers.{HasRuleNumber, IsNumber};
 ghost use Rattle.wire_out.specs.inner.Spaced.{spaced};
 
 use login_base::{NoMemory, SessId, Word, append_decimal};
@@ -94,34 +94,13 @@ fn push_session(alloc: Global, out: &mut Vec<u8>, session: SessId) -> Result<(),
     push_word(out, id.as_slice())
 }
 
-/// Adds the name of a limit and its number.
-fn push_numbered(out: &mut Vec<u8>, name: &[u8], most: u32) -> Result<(), NoMemory>
-    ensures { OnOk result (out.new.items ≡ out.old.items ++ spaced (name.now ∷ decimal most ∷ [])) }
-{
-    push_word(out, name)?;
-    push_number(out, u64::from(most))
-}
-
-/// Adds two words.
-fn push_words(out: &mut Vec<u8>, first: &[u8], second: &[u8]) -> Result<(), NoMemory>
-    ensures { OnOk result (out.new.items ≡ out.old.items ++ spaced (first.now ∷ second.now ∷ [])) }
-{
-    push_word(out, first)?;
-    push_word(out, second)
-}
-
 /// Adds the name and the number of a limit.
 fn push_limit(out: &mut Vec<u8>, limit: Limit) -> Result<(), NoMemory>
     ensures text { OnOk result (out.new.items ≡ out.old.items ++ spaced (limit_words limit)) }
-    ensures ranged { OnOk result (HasLimitNumber limit) }
+    ensures ranged { OnOk result (IsNumber (limit_number limit)) }
 {
-    match limit {
-        Limit::Links => push_words(out, b"links", b"64"),
-        Limit::Sessions(most) => push_numbered(out, b"SessionsMax", most),
-        Limit::Inhibitors(most) => push_numbered(out, b"InhibitorsMax", most),
-        Limit::DevicesTaken => push_words(out, b"devices-taken", b"128"),
-        Limit::Devices => push_words(out, b"devices", b"4096"),
-    }
+    push_word(out, limit.name())?;
+    push_number(out, u64::from(limit.number()))
 }
 
 /// Adds what a rule names.

@@ -4,6 +4,7 @@ use Rattle.std.specs.Int.{w32}
 use Rattle.std.specs.List.{AllByRecursion}
 use Rattle.login_base.specs.declared.ids.DevNo.{DevNo}
 use Rattle.login_base.specs.declared.ids.SessId.{SessId}
+use Rattle.login_model.specs.RuleWords.{limit_number}
 use Rattle.login_model.specs.declared.answer.Answer.{Answer}
 use Rattle.login_model.specs.declared.answer.Answer.TheVariants as answer
 use Rattle.login_model.specs.declared.answer.Created.{Created}
@@ -14,8 +15,6 @@ use Rattle.login_model.specs.declared.lock.Lock.{Lock}
 use Rattle.login_model.specs.declared.property.PropertyRow.{PropertyRow}
 use Rattle.login_model.specs.declared.property.PropertyValue.{PropertyValue}
 use Rattle.login_model.specs.declared.property.PropertyValue.TheVariants as property
-use Rattle.login_model.specs.declared.rule.Limit.{Limit}
-use Rattle.login_model.specs.declared.rule.Limit.TheVariants as limit
 use Rattle.login_model.specs.declared.rule.Rule.{Rule}
 use Rattle.login_model.specs.declared.rule.Rule.TheVariants as rule
 use Rattle.login_model.specs.declared.mark.Notice.{Notice}
@@ -87,15 +86,10 @@ HasNoticeNumbers (notice.UserRemoved u) = IsNumber u.0
 HasNoticeNumbers (notice.Active seat before now) = IsNumberIf before × IsNumberIf now
 HasNoticeNumbers _ = Unit {0}
 
-abbrev pub HasLimitNumber : Limit → Type 0
-HasLimitNumber (limit.Sessions most) = IsNumber most
-HasLimitNumber (limit.Inhibitors most) = IsNumber most
-HasLimitNumber _ = Unit {0}
-
 abbrev pub HasRuleNumber : Rule → Type 0
 HasRuleNumber (rule.Controlled c) = IsNumber c.0
 HasRuleNumber (rule.VtBusy s) = IsNumber s.0
 HasRuleNumber (rule.Inhibited l) = IsNumber l.0
-HasRuleNumber (rule.Limit x) = HasLimitNumber x
+HasRuleNumber (rule.Limit x) = IsNumber (limit_number x)
 HasRuleNumber (rule.ClockBackwards m) = m.0 < 2 ^ 64
 HasRuleNumber _ = Unit {0}
