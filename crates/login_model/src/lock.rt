@@ -10,15 +10,30 @@ use crate::operation::OpKind;
 use login_base::{ConnId, NoMemory, Uid, Word};
 use std::alloc::Global;
 
+// The words of what a lock holds up.
+const SHUTDOWN: &[u8] = b"shutdown";
+
+const SLEEP: &[u8] = b"sleep";
+
+const IDLE: &[u8] = b"idle";
+
+const HANDLE_POWER_KEY: &[u8] = b"handle-power-key";
+
+const HANDLE_SUSPEND_KEY: &[u8] = b"handle-suspend-key";
+
+const HANDLE_HIBERNATE_KEY: &[u8] = b"handle-hibernate-key";
+
+const HANDLE_LID_SWITCH: &[u8] = b"handle-lid-switch";
+
 /// All words of what a lock holds up.
 const WORDS: [&[u8]; 7] = [
-    b"shutdown",
-    b"sleep",
-    b"idle",
-    b"handle-power-key",
-    b"handle-suspend-key",
-    b"handle-hibernate-key",
-    b"handle-lid-switch",
+    SHUTDOWN,
+    SLEEP,
+    IDLE,
+    HANDLE_POWER_KEY,
+    HANDLE_SUSPEND_KEY,
+    HANDLE_HIBERNATE_KEY,
+    HANDLE_LID_SWITCH,
 ];
 
 fn is_lock_word(word: &[u8]) -> bool
@@ -110,13 +125,13 @@ impl Inhibited {
             return None;
         }
         Some(Inhibited {
-            shutdown: has_word(text, b"shutdown"),
-            sleep: has_word(text, b"sleep"),
-            idle: has_word(text, b"idle"),
-            handle_power_key: has_word(text, b"handle-power-key"),
-            handle_suspend_key: has_word(text, b"handle-suspend-key"),
-            handle_hibernate_key: has_word(text, b"handle-hibernate-key"),
-            handle_lid_switch: has_word(text, b"handle-lid-switch"),
+            shutdown: has_word(text, SHUTDOWN),
+            sleep: has_word(text, SLEEP),
+            idle: has_word(text, IDLE),
+            handle_power_key: has_word(text, HANDLE_POWER_KEY),
+            handle_suspend_key: has_word(text, HANDLE_SUSPEND_KEY),
+            handle_hibernate_key: has_word(text, HANDLE_HIBERNATE_KEY),
+            handle_lid_switch: has_word(text, HANDLE_LID_SWITCH),
         })
     }
 
@@ -124,19 +139,19 @@ impl Inhibited {
     fn push_general(&self, out: &mut Vec<u8>) -> Result<(), NoMemory>
         ensures { OnOk result (out.new.items ≡ out.old.items ++ prefixed 58 (general_words self.now)) }
     {
-        push_word_if(out, self.shutdown, b"shutdown")?;
-        push_word_if(out, self.sleep, b"sleep")?;
-        push_word_if(out, self.idle, b"idle")
+        push_word_if(out, self.shutdown, SHUTDOWN)?;
+        push_word_if(out, self.sleep, SLEEP)?;
+        push_word_if(out, self.idle, IDLE)
     }
 
     /// Adds which of the keys and the lid, a colon before each.
     fn push_handled(&self, out: &mut Vec<u8>) -> Result<(), NoMemory>
         ensures { OnOk result (out.new.items ≡ out.old.items ++ prefixed 58 (handled_words self.now)) }
     {
-        push_word_if(out, self.handle_power_key, b"handle-power-key")?;
-        push_word_if(out, self.handle_suspend_key, b"handle-suspend-key")?;
-        push_word_if(out, self.handle_hibernate_key, b"handle-hibernate-key")?;
-        push_word_if(out, self.handle_lid_switch, b"handle-lid-switch")
+        push_word_if(out, self.handle_power_key, HANDLE_POWER_KEY)?;
+        push_word_if(out, self.handle_suspend_key, HANDLE_SUSPEND_KEY)?;
+        push_word_if(out, self.handle_hibernate_key, HANDLE_HIBERNATE_KEY)?;
+        push_word_if(out, self.handle_lid_switch, HANDLE_LID_SWITCH)
     }
 
     /// All its words, a colon before each.
