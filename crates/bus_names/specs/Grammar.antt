@@ -1,7 +1,7 @@
 -- How names are read: byte by byte, with the place that is reached in a name.
 use Rattle.std.specs.Prelude.{ℕ, ◌+◌, List, [], ◌∷◌, nat_le, ◌==◌, ◌&&◌, ◌||◌, Bool, true, false, Option, Some, None, if◌then◌else◌}
 use Rattle.std.specs.Option.{option_and_then, option_map_or}
-use Rattle.bus_names.specs.Limits.{most_name}
+use Rattle.login_base.specs.Limits.{most_name}
 use Rattle.login_base.specs.Names.{Letters, words, identifiers, labels, numbered}
 use Rattle.bus_names.specs.declared.grammar.Grammar.{Grammar}
 use Rattle.bus_names.specs.declared.grammar.Grammar.TheVariants.{Path, Interface, Member, WellKnown, Unique}

@@ -1,3 +1,4 @@
+pub mod Limits
 pub mod Padded
 pub mod Plain
 pub mod Number

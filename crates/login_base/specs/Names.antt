@@ -1,6 +1,7 @@
 -- Names of the D-Bus Specification ("Valid Object Paths", "Valid Names"), as texts of bytes.
 use Rattle.std.specs.Prelude.{ℕ, ◌≡◌, ◌≤◌, ◌<◌, ◌+◌, List, [], ◌∷◌, ◌++◌, length, take, nat_le, ◌==◌, ◌&&◌, ◌||◌, not, Bool, IsTrue, ◌⊎◌}
 use Rattle.std.specs.List.{list_all, flat_map, AllByRecursion}
+use Rattle.login_base.specs.Limits.{most_name}
 
 abbrev pub is_digit : ℕ → Bool
 is_digit b = nat_le 48 b && nat_le b 57
@@ -63,11 +64,11 @@ IsPath text = (text ≡ 47 ∷ []) ⊎ IsSlashed text
 
 -- the name of an interface or of an error
 abbrev pub IsInterface : List ℕ → Type 0
-IsInterface text = IsDotted identifiers text × (length text ≤ 255)
+IsInterface text = IsDotted identifiers text × (length text ≤ most_name)
 
 -- the name of a method, a signal or a property
 abbrev pub IsMember : List ℕ → Type 0
-IsMember text = IsElement identifiers text × (length text ≤ 255)
+IsMember text = IsElement identifiers text × (length text ≤ most_name)
 
 -- the unique name of a connection: a colon, and elements behind it
 pub record IsUnique (text : List ℕ) : Type 0 where
@@ -77,7 +78,7 @@ pub record IsUnique (text : List ℕ) : Type 0 where
 
 -- the name of a connection
 abbrev pub IsBusName : List ℕ → Type 0
-IsBusName text = (IsDotted labels text ⊎ IsUnique text) × (length text ≤ 255)
+IsBusName text = (IsDotted labels text ⊎ IsUnique text) × (length text ≤ most_name)
 
 -- The first byte with which no continuation is a name; the length, where each byte has one.
 pub record IsFault (IsName : List ℕ → Type 0) (text : List ℕ) (offset : ℕ) : Type 0 where

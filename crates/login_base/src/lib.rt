@@ -26,6 +26,6 @@ pub use lines::first_line;
 pub use memory::NoMemory;
 pub use number::{read_number, read_whole};
 pub use reserved::Reserved;
-pub use seat_name::{SeatFault, SeatName};
+pub use seat_name::{LONGEST_SEAT_NAME, SeatFault, SeatName};
 pub use text::is_text;
 pub use word::Word;

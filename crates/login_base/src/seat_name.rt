@@ -1,6 +1,7 @@
 // Names of seats, kept in place.
 
 ghost use Rattle.std.specs.Prelude.{◌≡◌, ◌↔◌, ◌≤◌, true, length, IsTrue, IsOk, IfOk, codes, replicate, ◌++◌, ◌-◌};
+ghost use Rattle.login_base.specs.Limits.{most_seat_name};
 ghost use Rattle.login_base.specs.Seat.{seat0, is_seat_name, is_seat_byte};
 ghost use Rattle.std.specs.List.{list_all};
 ghost use Rattle.std.specs.Str.{bytes_eq};
@@ -13,7 +14,7 @@ use std::alloc::Global;
 use std::marker::Model;
 
 /// The longest name of a seat, in bytes.
-const MOST: usize = 255;
+pub const LONGEST_SEAT_NAME: usize = 255;
 
 /// Why a text is no seat's name.
 #[derive(Clone, Copy, Debug, PartialEq, Eq)]
@@ -26,11 +27,12 @@ pub enum SeatFault {
 #[derive(Clone, Copy, Debug)]
 pub struct SeatName {
     size: usize,
-    bytes: [u8; 255],
+    bytes: [u8; LONGEST_SEAT_NAME],
 }
 
 impl Model for SeatName {
     ghost use Rattle.std.specs.Prelude.{List, ℕ, length, take, replicate, ◌++◌, ◌-◌};
+    ghost use Rattle.login_base.specs.Limits.{most_seat_name};
     ghost use Rattle.login_base.specs.Padded.{IsPadded, length_of_name, padded_again};
 
     ghost Value = { List ℕ };
@@ -40,7 +42,7 @@ impl Model for SeatName {
     ghost invariant = { λ s. IsPadded s.size s.bytes };
 
     // The bytes behind the name are zero, so that equal names are equal to the byte.
-    ghost inverse = { λ text. record { size = length text; bytes = text ++ replicate (255 - length text) 0 } };
+    ghost inverse = { λ text. record { size = length text; bytes = text ++ replicate (most_seat_name - length text) 0 } };
 
     ghost inverse_ok = { λ s h i. record {
       size = length_of_name s.size s.bytes h i;
@@ -66,15 +68,18 @@ fn are_allowed(text: &[u8]) -> bool
 fn is_name(text: &[u8]) -> bool
     ensures { result ≡ is_seat_name text.now }
 {
-    text.len() >= 4 && &text[..4] == b"seat".as_slice() && are_allowed(text) && text.len() <= MOST
+    text.len() >= 4
+        && &text[..4] == b"seat".as_slice()
+        && are_allowed(text)
+        && text.len() <= LONGEST_SEAT_NAME
 }
 
 /// The text with zeros behind it.
-fn padded(text: &[u8]) -> [u8; 255]
-    requires { length text.now ≤ 255 }
-    ensures { result ≡ text.now ++ replicate (255 - length text.now) 0 }
+fn padded(text: &[u8]) -> [u8; LONGEST_SEAT_NAME]
+    requires { length text.now ≤ most_seat_name }
+    ensures { result ≡ text.now ++ replicate (most_seat_name - length text.now) 0 }
 {
-    let mut bytes = [0; 255];
+    let mut bytes = [0; LONGEST_SEAT_NAME];
     bytes[..text.len()].copy_from_slice(text);
     bytes
 }

@@ -1,6 +1,7 @@
 // The objects that have properties, and their paths (org.freedesktop.login1(5)).
 
 ghost use Rattle.std.specs.Prelude.{◌≡◌, ◌≤◌, ◌<◌, ◌∷◌, [], IfOk, IfSome, IsNone, MatchOption, length, take};
+ghost use Rattle.login_base.specs.Limits.{most_seat_name};
 ghost use Rattle.login_model.specs.Objects.{decoded, is_label, is_object, named_object, seat_at, session_at, user_at};
 
 use crate::paths::{
@@ -9,11 +10,10 @@ use crate::paths::{
 };
 use crate::property::{ManagerProperty, SeatProperty, SessionProperty, UserProperty};
 use crate::rule::Rule;
-use login_base::{NoMemory, SeatName, SessId, Uid, escape, hex_value, is_text, read_number};
+use login_base::{
+    LONGEST_SEAT_NAME, NoMemory, SeatName, SessId, Uid, escape, hex_value, is_text, read_number,
+};
 use std::alloc::Global;
-
-/// The longest name of a seat, in bytes. No session's id is longer.
-const LONGEST_NAME: usize = 255;
 
 /// An object with properties, whether there is such a one or not.
 #[derive(Clone, Copy, Debug)]
@@ -98,16 +98,16 @@ fn decoded(alloc: Global, element: &[u8]) -> Result<Vec<u8>, NoMemory>
 }
 
 /// Puts the text of which an element may be the escape at the front of memory, and tells how long it is; none where
-/// it is longer than any name.
-fn decode(element: &[u8], text: &mut [u8; 255]) -> Option<usize>
-    ensures within { IfSome result (λ size. size ≤ 255) }
+/// it is longer than any seat's name, as no session's id is.
+fn decode(element: &[u8], text: &mut [u8; LONGEST_SEAT_NAME]) -> Option<usize>
+    ensures within { IfSome result (λ size. size ≤ most_seat_name) }
     ensures text { IfSome result (λ size. take size text.new ≡ decoded element.now) }
-    ensures long { IsNone result → 255 < length (decoded element.now) }
+    ensures long { IsNone result → most_seat_name < length (decoded element.now) }
 {
     let mut size = 0;
     let mut rest = element;
     while let Some((byte, behind)) = first_decoded(rest) {
-        if size == LONGEST_NAME {
+        if size == LONGEST_SEAT_NAME {
             return None;
         }
         text[size] = byte;
@@ -121,7 +121,7 @@ fn decode(element: &[u8], text: &mut [u8; 255]) -> Option<usize>
 fn session_at(element: &[u8]) -> Option<Object>
     ensures { result ≡ session_at element.now }
 {
-    let mut text = [0; 255];
+    let mut text = [0; LONGEST_SEAT_NAME];
     let size = decode(element, &mut text)?;
     Some(Object::Session(SessId::read(&text[..size])?))
 }
@@ -130,7 +130,7 @@ fn session_at(element: &[u8]) -> Option<Object>
 fn seat_at(element: &[u8]) -> Option<Object>
     ensures { result ≡ seat_at element.now }
 {
-    let mut text = [0; 255];
+    let mut text = [0; LONGEST_SEAT_NAME];
     let size = decode(element, &mut text)?;
     match SeatName::read(&text[..size]) {
         Ok(seat) => Some(Object::Seat(seat)),
