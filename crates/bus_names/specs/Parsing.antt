@@ -12,7 +12,7 @@ use Rattle.bus_names.specs.declared.parse.Refusal.{Refusal}
 use Rattle.bus_names.specs.declared.parse.Refusal.TheVariants.{Bad, Deep, NoMemory}
 use Rattle.bus_names.specs.declared.parse.Parser.{Parser}
 use Rattle.bus_names.specs.Types.{Shape, basic, variant, array, dict, struct_of}
-use Rattle.bus_names.specs.Limits.{most_letters}
+use Rattle.bus_names.specs.Limits.{most_letters, most_nested}
 use Rattle.bus_names.specs.Letters.{basic_at}
 use Rattle.bus_names.specs.Frames.{array_count, struct_count, is_closed}
 
@@ -104,7 +104,7 @@ parse_from limit s offset (b ∷ bs) = elim (step limit s b) [ Ok t ↦ parse_fr
 
 -- the types of a signature, or its first fault
 unfoldable pub signature_of : List ℕ → Result (List Shape) NameFault
-signature_of text = if nat_lt most_letters (length text) then Err (BadSignature most_letters) else parse_from 32 start 0 text
+signature_of text = if nat_lt most_letters (length text) then Err (BadSignature most_letters) else parse_from most_nested start 0 text
 
 -- what a step answers, unless there was no memory
 abbrev pub Steps : Result (Unit {0}) Refusal → Parser → Result Parser Refusal → Type 0

@@ -3,7 +3,7 @@ use Rattle.std.specs.Prelude.{ℕ, ◌≡◌, ◌≤◌, ◌<◌, ◌+◌, List,
 use Rattle.login_base.specs.Names.{IsFault}
 use Rattle.bus_names.specs.declared.fault.NameFault.{NameFault}
 use Rattle.bus_names.specs.declared.fault.NameFault.TheVariants.{BadName, BadLabel, BadSignature, TooDeep, NoMemory}
-use Rattle.bus_names.specs.Limits.{most_letters}
+use Rattle.bus_names.specs.Limits.{most_letters, most_nested}
 use Rattle.bus_names.specs.Types.{Shape, signature_text, arrays_all, structs_all}
 
 -- arrays and structs are nested within a limit, each counted apart
@@ -11,9 +11,9 @@ pub record IsNested (limit : ℕ) (ts : List Shape) : Type 0 where
   pub in_arrays : arrays_all ts ≤ limit
   pub in_structs : structs_all ts ≤ limit
 
--- the types of a signature: up to 32 arrays and up to 32 structs deep, and so many letters long at most
+-- the types of a signature: arrays and structs are nested within the limit, and so are its letters
 pub record IsWithin (ts : List Shape) : Type 0 where
-  pub nested : IsNested 32 ts
+  pub nested : IsNested most_nested ts
   pub short : length (signature_text ts) ≤ most_letters
 
 -- a text of types that are nested within a limit
@@ -30,12 +30,12 @@ pub record IsUnlimited (text : List ℕ) : Type 0 where
 -- the letter at the offset opens a container that is one too many
 pub record IsTooDeep (text : List ℕ) (offset : ℕ) : Type 0 where
   pub letter : offset < length text
-  pub fault : IsFault (IsSignature 32) text offset
+  pub fault : IsFault (IsSignature most_nested) text offset
   pub opening : (more : List ℕ) × IsUnlimited (take (offset + 1) text ++ more)
 
 -- no continuation of the text through the offset is one of types, however deep they are nested
 pub record IsBad (text : List ℕ) (offset : ℕ) : Type 0 where
-  pub fault : IsFault (IsSignature 32) text offset
+  pub fault : IsFault (IsSignature most_nested) text offset
   pub whatever_depth : IsFault IsUnlimited text offset
 
 -- A text is the signature of the types; or it is too long; or a fault is the first letter with which no

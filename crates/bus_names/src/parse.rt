@@ -1,7 +1,7 @@
 // How signatures are read: letter by letter, with the containers that are open.
 
 ghost use Rattle.std.specs.Prelude.{◌≡◌, ◌<◌, ◌≤◌, ◌^◌, ◌+◌, length, OnOk, IsTrue};
-ghost use Rattle.bus_names.specs.Limits.{most_letters};
+ghost use Rattle.bus_names.specs.Limits.{most_letters, most_nested};
 ghost use Rattle.bus_names.specs.Parsing.{complete, open_array, open_struct, open_entry, close_struct, other_letter, first_letter, key_letter, end_letter, step, Steps, is_ready, start, parse_from, Parses};
 
 use crate::basic::Basic;
@@ -110,7 +110,7 @@ impl Parser {
 
     /// Opens an array.
     fn open_array(&mut self) -> Result<(), Refusal>
-        ensures { Steps result self.new (open_array 32 self.old.done self.old.frames) }
+        ensures { Steps result self.new (open_array most_nested self.old.done self.old.frames) }
     {
         if self.frames.array_count() >= MOST_DEEP {
             return Err(Refusal::Deep);
@@ -122,7 +122,7 @@ impl Parser {
 
     /// Opens a struct.
     fn open_struct(&mut self, alloc: Global) -> Result<(), Refusal>
-        ensures { Steps result self.new (open_struct 32 self.old.done self.old.frames) }
+        ensures { Steps result self.new (open_struct most_nested self.old.done self.old.frames) }
     {
         if self.frames.struct_count() >= MOST_DEEP {
             return Err(Refusal::Deep);
@@ -160,7 +160,7 @@ impl Parser {
 
     /// Takes a letter that is of no basic type.
     fn other_letter(&mut self, alloc: Global, letter: u8) -> Result<(), Refusal>
-        ensures { Steps result self.new (other_letter 32 self.old.done self.old.frames letter) }
+        ensures { Steps result self.new (other_letter most_nested self.old.done self.old.frames letter) }
     {
         match letter {
             b'v' => {
@@ -177,7 +177,7 @@ impl Parser {
 
     /// Takes the first letter of a type, or the end of a struct.
     fn first_letter(&mut self, alloc: Global, letter: u8) -> Result<(), Refusal>
-        ensures { Steps result self.new (first_letter 32 self.old.done self.old.frames letter) }
+        ensures { Steps result self.new (first_letter most_nested self.old.done self.old.frames letter) }
     {
         match Basic::from_letter(letter) {
             Some(kind) => {
@@ -221,7 +221,7 @@ impl Parser {
 
     /// Takes the next letter. An `Err` leaves it unfit for further letters.
     fn step(&mut self, alloc: Global, letter: u8) -> Result<(), Refusal>
-        ensures { Steps result self.new (step 32 self.old letter) }
+        ensures { Steps result self.new (step most_nested self.old letter) }
     {
         match mem::replace(&mut self.turn, Turn::First) {
             Turn::First => self.first_letter(alloc, letter),
@@ -234,7 +234,7 @@ impl Parser {
 /// The types whose signatures stand in the text one after another.
 pub fn parse(alloc: Global, text: &[u8]) -> Result<Items<Type>, NameFault>
     requires { length text.now ≤ most_letters }
-    ensures { Parses result (parse_from 32 start 0 text.now) }
+    ensures { Parses result (parse_from most_nested start 0 text.now) }
 {
     let mut parser = Parser::new(alloc);
     let mut at = 0;

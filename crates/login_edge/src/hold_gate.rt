@@ -1,6 +1,7 @@
 // A gate in memory that holds one call.
 
 ghost use Rattle.std.specs.Prelude.{◌≡◌, IfOk};
+ghost use Rattle.login_edge.specs.Limits.{most_holds};
 
 use crate::gate::{Gate, Leave};
 use login_base::{ConnId, NoMemory};
@@ -26,7 +27,7 @@ impl HoldGate {
     pub fn new(held: (ConnId, u32), until: (ConnId, u32)) -> Result<HoldGate, NoMemory>
         ensures held { IfOk result (λ gate. gate.held ≡ held) }
         ensures until { IfOk result (λ gate. gate.until ≡ until) }
-        ensures most { IfOk result (λ gate. gate.most ≡ 1000000) }
+        ensures most { IfOk result (λ gate. gate.most ≡ most_holds) }
     {
         HoldGate::at_most(MOST_HOLDS, held, until)
     }
