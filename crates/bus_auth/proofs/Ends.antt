@@ -3,7 +3,8 @@ use Rattle.std.proofs.Common.{◌≡◌, ◌≢◌, ℕ, zero, suc, ◌+◌, ◌
 use Rattle.std.proofs.lemmas.Bool.Decides.{nat_tests}
 use Rattle.std.proofs.lemmas.List.{take_at, take_all}
 use Rattle.std.proofs.Math.Seq.{take-suc, drop-cons}
-use Rattle.bus_auth.specs.Cutting.{Lines, Whole, Open, is_line_end, cut, without_cr, IsFirstEnd, IsLeastLength}
+use Rattle.bus_auth.specs.Cutting.{Lines, Whole, Open, is_line_end, cut, without_cr, IsLeastLength}
+use Rattle.bus_auth.specs.inner.Cutting.{IsFirstEnd}
 use Rattle.bus_auth.proofs.Cuts.{open-push, cut-line, least-longer}
 
 -- the first byte ends no line

@@ -10,7 +10,8 @@ use Rattle.bus_auth.specs.declared.table.Turn.TheVariants.{Answer, Begin, End}
 use Rattle.bus_auth.specs.declared.hearing.Talk.{Talk}
 use Rattle.bus_auth.specs.Cutting.{Lines, Whole, Open, cut, without_cr}
 use Rattle.bus_auth.specs.Table.{reply_text}
-use Rattle.bus_auth.specs.Greeting.{Greeting, State, Talking, Ended, with_no_reply, behind_replies, turn_of, answered, follow, run, first_talk, greet, resume}
+use Rattle.bus_auth.specs.Greeting.{Greeting, State, Talking, Ended, with_no_reply, behind_replies, turn_of, answered, follow, run, first_talk, greet}
+use Rattle.bus_auth.specs.inner.Greeting.{resume}
 use Rattle.bus_auth.proofs.Cuts.{graft, cut-append, HasOpenEnd, HasOpenEnd-cut, least, least-longer}
 
 -- a line that is too long ends the handshake

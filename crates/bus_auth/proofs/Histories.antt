@@ -6,9 +6,11 @@ use Rattle.login_base.specs.declared.ids.Uid.{Uid}
 use Rattle.login_base.specs.declared.memory.NoMemory.{NoMemory}
 use Rattle.bus_auth.specs.declared.step.AuthState.{AuthState}
 use Rattle.bus_auth.specs.declared.step.AuthStep.{AuthStep}
-use Rattle.bus_auth.specs.Greeting.{Greeting, State, Begun, Ended, behind_replies, greet, resume}
+use Rattle.bus_auth.specs.Greeting.{Greeting, State, Begun, Ended, behind_replies, greet}
+use Rattle.bus_auth.specs.inner.Greeting.{resume}
 use Rattle.bus_auth.specs.Standing.{Handshake}
-use Rattle.bus_auth.specs.Hearing.{HasHeard, Gives, Hears, WasFed, new, fed, greeting, shown}
+use Rattle.bus_auth.specs.Hearing.{HasHeard, Hears, WasFed, new, fed, greeting, shown}
+use Rattle.bus_auth.specs.inner.Hearing.{Gives}
 use Rattle.bus_auth.specs.Laws.{InAnyPieces, EndedForGood}
 use Rattle.bus_auth.proofs.GreetingLaws.{greet-append}
 use Rattle.bus_auth.proofs.Pieces.{heard_next, replies_next, state_next}

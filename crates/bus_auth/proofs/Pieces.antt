@@ -8,9 +8,11 @@ use Rattle.bus_auth.specs.declared.step.AuthStep.{AuthStep}
 use Rattle.bus_auth.specs.declared.step.AuthState.{AuthState}
 use Rattle.bus_auth.specs.declared.step.AuthState.TheVariants.{Going, Ended as ended}
 use Rattle.bus_auth.specs.Cutting.{cut}
-use Rattle.bus_auth.specs.Greeting.{Greeting, State, WaitingForNul, Talking, Begun, Ended, behind_replies, run, first_talk, greet, resume}
+use Rattle.bus_auth.specs.Greeting.{Greeting, State, WaitingForNul, Talking, Begun, Ended, behind_replies, run, first_talk, greet}
+use Rattle.bus_auth.specs.inner.Greeting.{resume}
 use Rattle.bus_auth.specs.Standing.{Handshake, kept, open_line}
-use Rattle.bus_auth.specs.Hearing.{HasHeard, Gives, Tells, greeting, shown}
+use Rattle.bus_auth.specs.Hearing.{HasHeard, Tells, greeting, shown}
+use Rattle.bus_auth.specs.inner.Hearing.{Gives}
 use Rattle.bus_auth.proofs.GreetingLaws.{greet-append}
 
 -- before the NUL nothing changes

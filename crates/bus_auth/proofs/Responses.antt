@@ -6,7 +6,8 @@ use Rattle.std.proofs.lemmas.Slice.Eq.{bytes_eq-Decides}
 use Rattle.std.specs.Str.{bytes_eq}
 use Rattle.login_base.specs.declared.ids.Uid.{Uid}
 use Rattle.bus_auth.specs.declared.command.Response.TheVariants.{Other}
-use Rattle.bus_auth.specs.Commands.{identity, response_of, response_behind}
+use Rattle.bus_auth.specs.Commands.{identity, response_of}
+use Rattle.bus_auth.specs.inner.Commands.{response_behind}
 
 bytes_eq-front : (front a b : List ℕ) → bytes_eq (front ++ a) (front ++ b) ≡ bytes_eq a b
 bytes_eq-front [] a b = refl

@@ -11,7 +11,8 @@ use Rattle.bus_auth.specs.declared.table.Turn.TheVariants.{Answer, Begin, End}
 use Rattle.bus_auth.specs.declared.hearing.Talk.{Talk}
 use Rattle.bus_auth.specs.declared.hearing.Outcome.{Outcome}
 use Rattle.bus_auth.specs.declared.hearing.Outcome.TheVariants.{Ended as ended, Talking as talking}
-use Rattle.bus_auth.specs.Cutting.{Lines, Whole, Open, cut, without_cr, IsFirstEnd}
+use Rattle.bus_auth.specs.Cutting.{Lines, Whole, Open, cut, without_cr}
+use Rattle.bus_auth.specs.inner.Cutting.{IsFirstEnd}
 use Rattle.bus_auth.specs.Table.{reply_text}
 use Rattle.bus_auth.specs.Greeting.{Greeting, State, Begun, Ended, Talking, run, follow, turn_of, answered, with_no_reply, behind_replies}
 use Rattle.bus_auth.specs.inner.Outcomes.{state_in, open_outcome, IsOpenIn}

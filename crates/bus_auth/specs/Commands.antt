@@ -1,5 +1,5 @@
 -- What the lines of a client say.
-use Rattle.std.specs.Prelude.{ℕ, ◌==◌, ◌||◌, ◌++◌, List, [], codes, if◌then◌else◌}
+use Rattle.std.specs.Prelude.{ℕ, ◌==◌, ◌||◌, ◌++◌, List, codes, if◌then◌else◌}
 use Rattle.std.specs.List.{before_first}
 use Rattle.std.specs.Str.{bytes_eq}
 use Rattle.std.specs.Fmt.{decimal}
@@ -23,13 +23,6 @@ unfoldable pub response_of : Uid → List ℕ → List ℕ → Response
 response_of uid front line =
     if bytes_eq line front || bytes_eq line (front ++ codes " ") then Empty
     else if bytes_eq line (front ++ (codes " " ++ identity uid.0)) then Identity
-    else other
-
--- the same, of what stands behind the front
-abbrev pub response_behind : Uid → List ℕ → Response
-response_behind uid rest =
-    if bytes_eq rest [] || bytes_eq rest (codes " ") then Empty
-    else if bytes_eq rest (codes " " ++ identity uid.0) then Identity
     else other
 
 -- the command that a line's first word is

@@ -1,5 +1,5 @@
 -- The lines of a text, each ended by CR LF.
-use Rattle.std.specs.Prelude.{ℕ, ◌≡◌, ◌≤◌, ◌+◌, ◌==◌, ◌&&◌, Bool, List, [], ◌∷◌, ◌++◌, length, take, drop, if◌then◌else◌}
+use Rattle.std.specs.Prelude.{ℕ, ◌≡◌, ◌≤◌, ◌+◌, ◌==◌, ◌&&◌, Bool, List, [], ◌∷◌, ◌++◌, length, take, if◌then◌else◌}
 
 -- the whole lines without their CR LF, each with the bytes behind it; and then the line that is open,
 -- of which no CR LF has come
@@ -27,11 +27,6 @@ abbrev pub without_cr : List ℕ → List ℕ
 without_cr [] = []
 without_cr (b ∷ []) = if b == 13 then [] else b ∷ []
 without_cr (b ∷ c ∷ bs) = b ∷ without_cr (c ∷ bs)
-
--- the first line of a text is whole, and its CR LF stands at this place
-pub record IsFirstEnd (text : List ℕ) (place : ℕ) : Type 0 where
-  pub within : place + 2 ≤ length text
-  pub whole : cut text ≡ Whole (take place text) (drop (place + 2) text) (cut (drop (place + 2) text))
 
 -- whatever follows, an open line has so many bytes before its CR LF, and with some bytes no more
 pub record IsLeastLength (line : List ℕ) (count : ℕ) : Type 0 where

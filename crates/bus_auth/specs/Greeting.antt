@@ -64,10 +64,3 @@ first_talk = record { stage = WaitingForAuth; lines = 0 }
 unfoldable pub greet : Uid → List ℕ → List ℕ → Greeting
 greet uid guid [] = with_no_reply WaitingForNul
 greet uid guid (b ∷ bs) = if b == 0 then run uid guid first_talk (cut bs) else with_no_reply (Ended NoNul)
-
--- a handshake that was in a state, and then these bytes
-abbrev pub resume : Uid → List ℕ → State → List ℕ → Greeting
-resume uid guid WaitingForNul bytes = greet uid guid bytes
-resume uid guid (Talking talk line) bytes = run uid guid talk (cut (line ++ bytes))
-resume uid guid (Begun rest) bytes = with_no_reply (Begun (rest ++ bytes))
-resume uid guid (Ended ending) bytes = with_no_reply (Ended ending)

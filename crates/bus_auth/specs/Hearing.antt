@@ -36,12 +36,6 @@ Tells Going state = IsGoing state
 Tells (begun rest) state = state ≡ Begun []
 Tells (ended ending) state = state ≡ Ended ending
 
--- a step that gives what a greeting is, and keeps its state
-pub record Gives (greeting : Greeting) (old new : Handshake) (step : AuthStep) : Type 0 where
-  pub replies : step.replies ≡ greeting.replies
-  pub state : step.state ≡ shown greeting.state
-  pub kept : new ≡ record old { state = kept greeting.state }
-
 -- the answer of a handshake that has ended
 abbrev pub IsEnded : Result AuthStep NoMemory → Ending → Type 0
 IsEnded (Ok step) ending = (step.replies ≡ []) × (step.state ≡ ended ending)

@@ -1,9 +1,11 @@
 // A handshake, heard in any pieces.
 
 ghost use Rattle.std.specs.Prelude.{◌≡◌, ◌≢◌, ◌↔◌, ◌++◌, List, ℕ, [], IsTrue, IsOk, IfOk, OnOk, OnErr, ◌<◌};
-ghost use Rattle.bus_auth.specs.Greeting.{WaitingForNul, Begun, Ended, greet, run, resume};
+ghost use Rattle.bus_auth.specs.Greeting.{WaitingForNul, Begun, Ended, greet, run};
+ghost use Rattle.bus_auth.specs.inner.Greeting.{resume};
 ghost use Rattle.bus_auth.specs.Standing.{ending_of, kept, state_of, open_line, IsKept};
-ghost use Rattle.bus_auth.specs.Hearing.{HasHeard, Hears, shown, Tells, Gives, IsEnded};
+ghost use Rattle.bus_auth.specs.Hearing.{HasHeard, Hears, shown, Tells, IsEnded};
+ghost use Rattle.bus_auth.specs.inner.Hearing.{Gives};
 ghost use Rattle.bus_auth.specs.Cutting.{cut};
 ghost use Rattle.bus_auth.specs.inner.Outcomes.{state_in, IsOpenIn};
 

@@ -1,7 +1,8 @@
 // What the lines of a client say.
 
 ghost use Rattle.std.specs.Prelude.{◌≡◌, ◌==◌, ◌↔◌, IsTrue, position};
-ghost use Rattle.bus_auth.specs.Commands.{first_word, identity, response_of, response_behind, command_of};
+ghost use Rattle.bus_auth.specs.Commands.{first_word, identity, response_of, command_of};
+ghost use Rattle.bus_auth.specs.inner.Commands.{response_behind};
 
 use login_base::{Uid, read_number};
 

@@ -1,7 +1,8 @@
 // Where a line ends.
 
 ghost use Rattle.std.specs.Prelude.{◌≡◌, ◌≤◌, length, take, MatchOption};
-ghost use Rattle.bus_auth.specs.Cutting.{Open, cut, without_cr, IsFirstEnd, IsLeastLength};
+ghost use Rattle.bus_auth.specs.Cutting.{Open, cut, without_cr, IsLeastLength};
+ghost use Rattle.bus_auth.specs.inner.Cutting.{IsFirstEnd};
 
 /// The place of the first line's CR LF, if the line is whole. In the first `seen` bytes no CR LF stands.
 pub(crate) fn first_end(text: &[u8], seen: usize) -> Option<usize>

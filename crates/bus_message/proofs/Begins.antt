@@ -8,7 +8,7 @@ use Rattle.bus_message.specs.Cutting.{Showing, Open, Bad, Whole, front, Cutting,
 use Rattle.bus_message.specs.Grammar.{AreBytes}
 use Rattle.bus_message.specs.Stream.{Begins, Leaves, IsCut}
 use Rattle.bus_message.specs.Feeding.{AreMessages}
-use Rattle.bus_message.specs.Outcomes.{IsCutFrom, cut_at, ended}
+use Rattle.bus_message.specs.inner.Outcomes.{IsCutFrom, cut_at, ended}
 use Rattle.bus_message.proofs.Cuts.{cut_open, cut_bad, cut_whole, count_least}
 use Rattle.bus_message.proofs.Sound.{are_dropped, whole_message}
 

@@ -9,7 +9,7 @@ use Rattle.bus_message.specs.declared.message.Message.{Message}
 use Rattle.bus_message.specs.Headers.{size, header_of}
 use Rattle.bus_message.specs.Reading.{message_of}
 use Rattle.bus_message.specs.Cutting.{Showing, Open, Bad, Whole, front_read, front_by, front, Cutting, open_at, bad_at, behind, go_on, cut_from}
-use Rattle.bus_message.specs.Outcomes.{before, cut_at}
+use Rattle.bus_message.specs.inner.Outcomes.{before, cut_at}
 
 -- a test of two numbers, and what it says
 tested : {A : Type 0} (m n : ℕ) → (m < n → A) → (n ≤ m → A) → A

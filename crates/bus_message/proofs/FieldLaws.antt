@@ -3,7 +3,7 @@ use Rattle.std.proofs.Common.{◌≡◌, ℕ, zero, suc, ◌+◌, ◌<◌, ◌�
 use Rattle.std.proofs.lemmas.Bool.Decides.{nat_tests}
 use Rattle.bus_value.specs.declared.basic_value.BasicValue.TheVariants.{Byte}
 use Rattle.bus_value.specs.Values.{Val, basic}
-use Rattle.bus_message.specs.Checks.{field_at}
+use Rattle.bus_message.specs.inner.Checks.{field_at}
 use Rattle.bus_value.specs.Fields.{number, held}
 use Rattle.bus_message.specs.Fields.{found, is_typed, is_bad}
 

@@ -8,7 +8,7 @@ use Rattle.bus_message.specs.declared.message.Message.{Message}
 use Rattle.bus_message.specs.Cutting.{Whole, front, Cutting, behind, in_stream, cut, cut_from}
 use Rattle.bus_message.specs.Feeding.{Stream, HasFed, Feeds, WasFed, new, fed}
 use Rattle.bus_message.specs.Laws.{InAnyPieces, OneCut, NoContinuation, MessageIsCut, OneMessage}
-use Rattle.bus_message.specs.Outcomes.{before, cut_at}
+use Rattle.bus_message.specs.inner.Outcomes.{before, cut_at}
 use Rattle.bus_message.specs.Stream.{Begins, Leaves}
 use Rattle.bus_message.proofs.Cuts.{front-short, whole_front, cut_open, cut_bad, cut_whole}
 use Rattle.bus_message.proofs.Pieces.{whole_cut, malformed_for_good}

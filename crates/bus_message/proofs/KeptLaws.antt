@@ -20,12 +20,13 @@ use Rattle.bus_message.specs.declared.fault.Refusal.{Refusal}
 use Rattle.bus_message.specs.declared.fault.Refusal.TheVariants.{Malformed}
 use Rattle.bus_message.specs.declared.header.Header.{Header}
 use Rattle.bus_message.specs.declared.message.Message.{Message}
-use Rattle.bus_message.specs.Faults.{fault, is_at, and_then, for_cause, Gives}
+use Rattle.bus_message.specs.Faults.{fault, is_at, and_then, for_cause}
+use Rattle.bus_message.specs.inner.Faults.{Gives}
 use Rattle.bus_message.specs.Fields.{found, plain, path_in, text_in, u32_in, types_in, without_fault, is_typed, is_bad, bad_field, has_required, handles}
 use Rattle.bus_message.specs.inner.KnownFields.{basic_or_none, shown_field, shown, first_bad, fields_known, known_hold, with_known, known_message}
 use Rattle.bus_message.specs.Reading.{fields_read, padding_read, headed, body_read, fields_kept, with_fields, unless_bad, message_of}
 use Rattle.bus_message.specs.Headers.{body_start}
-use Rattle.bus_message.specs.Checks as checks
+use Rattle.bus_message.specs.inner.Checks as checks
 use Rattle.bus_message.proofs.FieldLaws.{found_later, found_here, item_is}
 
 -- what is kept of a value is what counts of it

@@ -10,8 +10,9 @@ use Rattle.bus_message.specs.declared.cutting.Next.{Next}
 use Rattle.bus_message.specs.declared.cutting.Next.TheVariants as next
 use Rattle.bus_message.specs.declared.cutting.Pieces.{Pieces}
 use Rattle.bus_message.specs.Cutting.{Whole, front, Cutting, cut_from, cut}
-use Rattle.bus_message.specs.Feeding.{Stream, kept, HasFed, Feeds, IsKept, Shows}
-use Rattle.bus_message.specs.Outcomes.{before, ended, cut_at, LeavesOpen, IsCutFrom, Gives}
+use Rattle.bus_message.specs.Feeding.{Stream, kept, HasFed, Feeds, IsKept}
+use Rattle.bus_message.specs.inner.Feeding.{Shows}
+use Rattle.bus_message.specs.inner.Outcomes.{before, ended, cut_at, LeavesOpen, IsCutFrom, Gives}
 use Rattle.bus_message.specs.Laws.{MalformedForGood}
 use Rattle.bus_message.proofs.Zeros.{reported_small}
 use Rattle.bus_message.proofs.Cuts.{cut_open, cut_bad, cut_whole, onward, resume, cut-append}

@@ -23,7 +23,8 @@ use Rattle.bus_value.specs.Alignment.{boundary}
 use Rattle.bus_message.specs.declared.fault.Cause.TheVariants.{BadField, BadBody}
 use Rattle.bus_message.specs.declared.fault.Refusal.{Refusal}
 use Rattle.bus_message.specs.declared.header.Header.{Header}
-use Rattle.bus_message.specs.Faults.{for_cause, Gives}
+use Rattle.bus_message.specs.Faults.{for_cause}
+use Rattle.bus_message.specs.inner.Faults.{Gives}
 use Rattle.bus_message.specs.Headers.{fields_end, body_start}
 use Rattle.bus_message.specs.Reading.{fields_read, body_read}
 use Rattle.bus_message.specs.inner.Names.{Names}

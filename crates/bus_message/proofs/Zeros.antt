@@ -7,7 +7,8 @@ use Rattle.bus_value.proofs.Padding.{zeros_stop, zeros_go, zeros_end}
 use Rattle.bus_message.specs.declared.fault.Cause.TheVariants.{BadField}
 use Rattle.bus_message.specs.declared.fault.Refusal.{Refusal}
 use Rattle.bus_message.specs.declared.fault.Refusal.TheVariants.{Malformed}
-use Rattle.bus_message.specs.Faults.{fault, for_cause, Gives}
+use Rattle.bus_message.specs.Faults.{fault, for_cause}
+use Rattle.bus_message.specs.inner.Faults.{Gives}
 
 pub reported_small : (n : ℕ) → n < 2 ^ 64 → reported n ≡ n
 unfolding reported

@@ -1,12 +1,11 @@
 -- What is wrong with a message.
-use Rattle.std.specs.Prelude.{ℕ, ◌≡◌, Result, Ok, Err, ⊤}
+use Rattle.std.specs.Prelude.{ℕ, Result, Ok, Err}
 use Rattle.bus_value.specs.declared.fault.ValueFault.{ValueFault}
 use Rattle.bus_value.specs.declared.fault.ValueFault.TheVariants as values
 use Rattle.bus_message.specs.declared.fault.Cause.{Cause}
 use Rattle.bus_message.specs.declared.fault.Cause.TheVariants.{BadOrder, BadVersion, ZeroSerial, MissingField, BadField, BadBody, TooLong, FdsNotAgreed, BadKind}
 use Rattle.bus_message.specs.declared.fault.Fault.{Fault}
-use Rattle.bus_message.specs.declared.fault.Refusal.{Refusal}
-use Rattle.bus_message.specs.declared.fault.Refusal.TheVariants.{Malformed, NoMemory}
+use Rattle.bus_message.specs.declared.fault.Refusal.TheVariants.{NoMemory}
 
 -- the number under which a cause is known
 abbrev pub number_of : Cause → ℕ
@@ -46,14 +45,3 @@ and_then (Err e) f = Err e
 abbrev pub for_cause : {A : Type 0} → Cause → Result A ValueFault → Result A Fault
 for_cause cause (Ok a) = Ok a
 for_cause cause (Err e) = is_at cause (offset_of e)
-
--- the same as an answer
-abbrev pub refusal_for : Cause → ValueFault → Refusal
-refusal_for cause values.NoMemory = NoMemory
-refusal_for cause e = Malformed (fault cause (offset_of e))
-
--- what a reader answers: what the definition says, unless there was no memory
-abbrev pub Gives : {A : Type 0} → Result A Refusal → Result A Fault → Type 0
-Gives (Ok a) found = found ≡ Ok a
-Gives (Err (Malformed e)) found = found ≡ Err e
-Gives (Err NoMemory) found = ⊤

@@ -1,17 +1,13 @@
 -- A stream that is fed in pieces.
-use Rattle.std.specs.Prelude.{ℕ, ◌≡◌, ◌≤◌, List, [], ◌∷◌, ◌++◌, Option, Some, None, Result, Ok, Err, ⊤}
+use Rattle.std.specs.Prelude.{ℕ, ◌≡◌, List, [], ◌∷◌, ◌++◌, Option, Some, None, Result, Ok, Err}
 use Rattle.std.specs.List.{AllByRecursion}
 use Rattle.login_base.specs.declared.memory.NoMemory.{NoMemory}
 use Rattle.bus_value.specs.Faults.{reported}
 use Rattle.bus_message.specs.declared.fault.Malformed.{Malformed}
-use Rattle.bus_message.specs.declared.fault.Refusal.{Refusal}
-use Rattle.bus_message.specs.declared.fault.Refusal.TheVariants as refusals
 use Rattle.bus_message.specs.declared.message.Message.{Message}
 use Rattle.bus_message.specs.declared.cutter.Cut.{Cut}
-use Rattle.bus_message.specs.declared.cutting.Next.{Next}
-use Rattle.bus_message.specs.declared.cutting.Next.TheVariants as next
 use Rattle.bus_message.specs.Grammar.{IsMessage}
-use Rattle.bus_message.specs.Cutting.{Showing, Open, Bad, Whole, front, Cutting, cut}
+use Rattle.bus_message.specs.Cutting.{Open, front, Cutting, cut}
 
 -- what is kept between two pieces: the place behind the messages, as it is reported; the bytes from there on, of a
 -- message that is not whole; and what is wrong there
@@ -52,15 +48,3 @@ IsKept (Some place) rest = rest ≡ []
 abbrev pub IsEnded : Result Cut NoMemory → Malformed → Type 0
 IsEnded (Ok c) place = (c.messages ≡ []) × (c.malformed ≡ Some place)
 IsEnded (Err e) place = ⊥
-
--- what was found at the front of a text of so many bytes
-abbrev pub Shows : Next → Showing → ℕ → Type 0
-Shows next.Open found count = found ≡ Open
-Shows (next.Whole m size) found count = (found ≡ Whole size m) × (16 ≤ size) × (size ≤ count)
-Shows (next.Malformed e) found count = found ≡ Bad e
-
--- the same, unless there was no memory
-abbrev pub Finds : Result Next Refusal → Showing → ℕ → Type 0
-Finds (Ok n) found count = Shows n found count
-Finds (Err (refusals.Malformed e)) found count = found ≡ Bad e
-Finds (Err refusals.NoMemory) found count = ⊤

@@ -1,5 +1,5 @@
 -- The first 16 bytes of a message: the D-Bus Specification, "Message Format".
-use Rattle.std.specs.Prelude.{ℕ, ◌+◌, ◌<◌, ◌^◌, ◌==◌, not, nat_lt, List, slice_index, drop, Option, Some, None, Result, Ok, if◌then◌else◌}
+use Rattle.std.specs.Prelude.{ℕ, ◌+◌, ◌^◌, ◌==◌, not, nat_lt, List, slice_index, drop, Option, Some, None, Result, Ok, if◌then◌else◌}
 use Rattle.bus_value.specs.declared.order.Order.{Order}
 use Rattle.bus_value.specs.declared.order.Order.TheVariants.{Little, Big}
 use Rattle.bus_value.specs.Spelling.{pad_size}
@@ -26,10 +26,6 @@ body_start h = fields_end h + pad_size (fields_end h) 8
 
 abbrev pub size : Header → ℕ
 size h = body_start h + h.body
-
--- both lengths are numbers of four bytes
-abbrev pub HasRoom : Header → Type 0
-HasRoom h = (h.fields < 2 ^ 32) × (h.body < 2 ^ 32)
 
 -- how many bytes a message has at most that is cut, and one that is written
 abbrev pub most : ℕ

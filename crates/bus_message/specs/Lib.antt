@@ -5,7 +5,6 @@ pub mod Reading
 pub mod Checks
 pub mod Cutting
 pub mod Feeding
-pub mod Outcomes
 pub mod Bodies
 pub mod Spelling
 pub mod Grammar

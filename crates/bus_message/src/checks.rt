@@ -1,9 +1,10 @@
 // Whether the fields of a message are as they are to be.
 
 ghost use Rattle.std.specs.Prelude.{◌≡◌, ◌<◌, length, take, []};
-ghost use Rattle.bus_message.specs.Faults.{Gives};
+ghost use Rattle.bus_message.specs.inner.Faults.{Gives};
 ghost use Rattle.bus_message.specs.Fields.{found, is_typed, is_bad, has_required};
-ghost use Rattle.bus_message.specs.Checks.{field_at, Tells};
+ghost use Rattle.bus_message.specs.Checks.{Tells};
+ghost use Rattle.bus_message.specs.inner.Checks.{field_at};
 ghost use Rattle.bus_message.specs.inner.KnownFields.{first_bad, known_hold, shown};
 ghost use Rattle.bus_message.specs.Reading.{unless_bad};
 

@@ -4,7 +4,7 @@ ghost use Rattle.std.specs.Prelude.{◌≡◌, ◌≤◌, ℕ, [], length, drop,
 ghost use Rattle.std.specs.Fn.{FnOnceReturnsAt};
 ghost use Rattle.bus_value.specs.Faults.{reported};
 ghost use Rattle.bus_message.specs.Feeding.{AreMessages, Feeds, HasFed, IsEnded, IsKept};
-ghost use Rattle.bus_message.specs.Outcomes.{IsCutFrom, Gives, ended, cut_at};
+ghost use Rattle.bus_message.specs.inner.Outcomes.{IsCutFrom, Gives, ended, cut_at};
 
 use crate::cutting::{Pieces, cut_messages};
 use crate::fault::{Fault, Malformed};

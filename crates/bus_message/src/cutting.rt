@@ -2,9 +2,9 @@
 
 ghost use Rattle.std.specs.Prelude.{◌≤◌, length, IfOk, Ok};
 ghost use Rattle.bus_message.specs.Cutting.{front, front_by};
-ghost use Rattle.bus_message.specs.Feeding.{Finds, Shows};
+ghost use Rattle.bus_message.specs.inner.Feeding.{Finds, Shows};
 ghost use Rattle.bus_message.specs.Headers.{most, size};
-ghost use Rattle.bus_message.specs.Outcomes.{IsCutFrom};
+ghost use Rattle.bus_message.specs.inner.Outcomes.{IsCutFrom};
 
 use crate::fault::{Fault, Refusal};
 use crate::header::{Header, SIZE, read_header};

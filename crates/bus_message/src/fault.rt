@@ -1,7 +1,8 @@
 // Why a stream is refused.
 
 ghost use Rattle.std.specs.Prelude.{◌≡◌, Err};
-ghost use Rattle.bus_message.specs.Faults.{number_of, offset_of, refusal_for};
+ghost use Rattle.bus_message.specs.Faults.{number_of, offset_of};
+ghost use Rattle.bus_message.specs.inner.Faults.{refusal_for};
 
 use bus_value::ValueFault;
 use login_base::NoMemory;

@@ -1,8 +1,9 @@
 // The first 16 bytes of a message.
 
 ghost use Rattle.std.specs.Prelude.{◌≡◌, ◌≤◌, ◌<◌, length, IfOk};
-ghost use Rattle.bus_message.specs.Faults.{Gives};
-ghost use Rattle.bus_message.specs.Headers.{order_of, stated, header_of, fields_end, body_start, size, most, HasRoom};
+ghost use Rattle.bus_message.specs.inner.Faults.{Gives};
+ghost use Rattle.bus_message.specs.Headers.{order_of, stated, header_of, fields_end, body_start, size, most};
+ghost use Rattle.bus_message.specs.inner.Headers.{HasRoom};
 
 use crate::fault::{Cause, Refusal, refuse};
 use bus_value::{Order, pad_size, read_u32};

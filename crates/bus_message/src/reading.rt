@@ -3,8 +3,10 @@
 ghost use Rattle.std.specs.Prelude.{◌≡◌, ◌<◌, ◌+◌, ◌^◌, length, IfOk};
 ghost use Rattle.bus_value.specs.Faults.{zeros};
 ghost use Rattle.bus_value.specs.Reading.{read_all};
-ghost use Rattle.bus_message.specs.Faults.{Gives, for_cause};
-ghost use Rattle.bus_message.specs.Headers.{HasRoom, size};
+ghost use Rattle.bus_message.specs.Faults.{for_cause};
+ghost use Rattle.bus_message.specs.inner.Faults.{Gives};
+ghost use Rattle.bus_message.specs.Headers.{size};
+ghost use Rattle.bus_message.specs.inner.Headers.{HasRoom};
 ghost use Rattle.bus_message.specs.inner.KnownFields.{fields_known, known_message, shown, with_known};
 ghost use Rattle.bus_message.specs.inner.Parts.{target_in, parties_in};
 ghost use Rattle.bus_message.specs.Reading.{padding_read, headed, body_read, message_of};

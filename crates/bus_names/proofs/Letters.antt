@@ -6,7 +6,8 @@ use Rattle.bus_names.specs.declared.fault.NameFault.TheVariants.{BadSignature}
 use Rattle.bus_names.specs.declared.parse.Refusal.{Refusal}
 use Rattle.bus_names.specs.declared.parse.Parser.{Parser}
 use Rattle.bus_names.specs.Types.{Shape}
-use Rattle.bus_names.specs.Parsing.{parse_from, step, refused_at, is_ready, Steps}
+use Rattle.bus_names.specs.Parsing.{parse_from, step, refused_at, is_ready}
+use Rattle.bus_names.specs.inner.Parsing.{Steps}
 
 abbrev taken : ℕ → ℕ → List ℕ → Result Parser Refusal → Result (List Shape) NameFault
 taken limit at bs (Ok t) = parse_from limit t (at + 1) bs

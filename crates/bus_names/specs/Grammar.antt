@@ -43,13 +43,6 @@ is_path Member = false
 is_path WellKnown = false
 is_path Unique = false
 
-abbrev pub start : Grammar → Place
-start Path = Slash
-start Interface = First
-start Member = Gap
-start WellKnown = First
-start Unique = First
-
 -- within an element, or behind it
 abbrev pub onward : Grammar → Place → Bool → ℕ → Option Place
 onward g p more b = if stands g b then Some p else (if (b == separator g) && more then Some Gap else None)

@@ -106,13 +106,6 @@ parse_from limit s offset (b ∷ bs) = elim (step limit s b) [ Ok t ↦ parse_fr
 unfoldable pub signature_of : List ℕ → Result (List Shape) NameFault
 signature_of text = if nat_lt most_letters (length text) then Err (BadSignature most_letters) else parse_from most_nested start 0 text
 
--- what a step answers, unless there was no memory
-abbrev pub Steps : Result (Unit {0}) Refusal → Parser → Result Parser Refusal → Type 0
-Steps (Ok u) new found = found ≡ Ok new
-Steps (Err Bad) new found = found ≡ Err Bad
-Steps (Err Deep) new found = found ≡ Err Deep
-Steps (Err NoMemory) new found = ⊤
-
 -- what a reader of signatures answers, unless there was no memory
 abbrev pub Parses : Result (List Shape) NameFault → Result (List Shape) NameFault → Type 0
 Parses (Ok ts) found = found ≡ Ok ts

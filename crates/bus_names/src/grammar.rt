@@ -2,7 +2,8 @@
 
 ghost use Rattle.std.specs.Prelude.{◌≡◌, ◌≤◌, ◌<◌, ◌+◌, ◌^◌, length};
 ghost use Rattle.login_base.specs.Names.{is_digit, is_word_byte};
-ghost use Rattle.bus_names.specs.Grammar.{stands, begins, separator, repeats, start, next, wanted, is_path, fits, step, fault_from};
+ghost use Rattle.bus_names.specs.Grammar.{stands, begins, separator, repeats, next, wanted, is_path, fits, step, fault_from};
+ghost use Rattle.bus_names.specs.inner.Grammar.{start};
 
 /// The longest name, in bytes, unless it is a path.
 const MOST_BYTES: usize = 255;

@@ -2,7 +2,8 @@
 
 ghost use Rattle.std.specs.Prelude.{◌≡◌, ◌<◌, ◌≤◌, ◌^◌, ◌+◌, length, OnOk, IsTrue};
 ghost use Rattle.bus_names.specs.Limits.{most_letters, most_nested};
-ghost use Rattle.bus_names.specs.Parsing.{complete, open_array, open_struct, open_entry, close_struct, other_letter, first_letter, key_letter, end_letter, step, Steps, is_ready, start, parse_from, Parses};
+ghost use Rattle.bus_names.specs.Parsing.{complete, open_array, open_struct, open_entry, close_struct, other_letter, first_letter, key_letter, end_letter, step, is_ready, start, parse_from, Parses};
+ghost use Rattle.bus_names.specs.inner.Parsing.{Steps};
 
 use crate::basic::Basic;
 use crate::fault::NameFault;

@@ -17,7 +17,8 @@ use Rattle.bus_value.specs.declared.reader.Reader.{Reader}
 use Rattle.bus_value.specs.declared.reader.containers.Elements.{Elements}
 use Rattle.bus_value.specs.BasicValues.{kind_of}
 use Rattle.bus_value.specs.Faults.{reported, and_then, check_padding}
-use Rattle.bus_value.specs.Fields.{basic_in, field_at, field_type, list_type, listed, kept_if, kept_of, kept_by, kept_in, IsSeen}
+use Rattle.bus_value.specs.Fields.{basic_in, field_at, field_type, list_type, listed, kept_if, kept_of, kept_in}
+use Rattle.bus_value.specs.inner.Fields.{kept_by, IsSeen}
 use Rattle.bus_value.specs.Reading.{Reading, Answer, made, read, read_basic, in_turn, to_end, levels, read_all}
 use Rattle.bus_value.specs.inner.Opening.{Opens, OpensAt}
 use Rattle.bus_value.specs.Spelling.{pad_size, spelling, spellings, behind_length, first_element}

@@ -22,7 +22,8 @@ use Rattle.login_base.specs.Texts.{is_text}
 use Rattle.bus_value.specs.Alignment.{alignment, boundary}
 use Rattle.bus_value.specs.BasicReading.{size, whole, body_size, text_in, ends_with_zero, text_at, path_by, path_at, types_by, types_in, bool_by, decoded}
 use Rattle.bus_value.specs.Reading.{Reading, Answer, made, padded, read_body, read_basic, read_variant, read_array, read_elements, read_pair, element_bytes, read, read_entry, all_of, to_end, in_turn, variant_type, levels, ended, read_all}
-use Rattle.bus_value.specs.Nesting.{nesting, nesting_in, nesting_all}
+use Rattle.bus_value.specs.Nesting.{nesting, nesting_in}
+use Rattle.bus_value.specs.inner.Nesting.{nesting_all}
 use Rattle.bus_value.specs.Faults.{reported, cut_off, and_then, zeros, short_padding, check_padding}
 use Rattle.bus_value.proofs.Padding.{zeros-cons, zeros-nil}
 use Rattle.bus_value.proofs.NumberSound.{AreBytes}

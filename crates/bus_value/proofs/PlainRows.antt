@@ -8,7 +8,7 @@ use Rattle.bus_value.specs.declared.basic_value.BasicValue.{BasicValue}
 use Rattle.bus_value.specs.declared.fault.ValueFault.{ValueFault}
 use Rattle.bus_value.specs.declared.order.Order.{Order}
 use Rattle.bus_value.specs.Alignment.{alignment}
-use Rattle.bus_value.specs.Answers.{IsAccepted}
+use Rattle.bus_value.specs.inner.Answers.{IsAccepted}
 use Rattle.bus_value.specs.BasicReading.{body_size, decoded}
 use Rattle.bus_value.specs.Faults.{check_padding, zeros, and_then}
 use Rattle.bus_value.specs.inner.Plain.{plain_size}

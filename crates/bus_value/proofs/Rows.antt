@@ -11,7 +11,8 @@ use Rattle.bus_value.specs.declared.order.Order.{Order}
 use Rattle.bus_value.specs.declared.order.Order.TheVariants.{Little, Big}
 use Rattle.bus_value.specs.Values.{Val, vals, entries, array, dict, parts, parts_in, parts_of}
 use Rattle.bus_value.specs.Numbers.{number_bytes}
-use Rattle.bus_value.specs.Spelling.{pad_size, padding, array_front, array_bytes, first_element, behind_length, basic_spelling, spelling, spellings, entry_spellings, pair_bytes, value_at, key_at}
+use Rattle.bus_value.specs.Spelling.{pad_size, padding, array_bytes, first_element, behind_length, basic_spelling, spelling, spellings, entry_spellings, pair_bytes, value_at, key_at}
+use Rattle.bus_value.specs.inner.Spelling.{array_front}
 use Rattle.bus_value.specs.Alignment.{boundary}
 use Rattle.bus_value.specs.Limits.{Fits, AllFit, EntriesFit, HasRoom}
 

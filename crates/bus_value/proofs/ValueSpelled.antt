@@ -23,7 +23,8 @@ use Rattle.bus_value.specs.Spelling.{pad_size, padding, signature_bytes, basic_b
 use Rattle.bus_value.specs.Alignment.{alignment, boundary}
 use Rattle.bus_value.specs.BasicReading.{body_size, types_in}
 use Rattle.bus_value.specs.Reading.{Reading, Answer, made, padded, read_basic, read_variant, read_array, read_elements, read_pair, element_bytes, read, read_entry, all_of, to_end, in_turn, variant_type, levels, ended, read_all}
-use Rattle.bus_value.specs.Nesting.{nesting, nesting_all}
+use Rattle.bus_value.specs.Nesting.{nesting}
+use Rattle.bus_value.specs.inner.Nesting.{nesting_all}
 use Rattle.bus_value.proofs.Typing.{IsLegal, HasType, AllHave, EachHas, EntriesHave}
 use Rattle.bus_value.proofs.Typing.{IsComputed}
 use Rattle.bus_value.specs.Faults.{reported, cut_off, and_then, zeros}

@@ -40,22 +40,6 @@ size o kinds.Path bytes = text_size o bytes
 size o kinds.Sig bytes = signature_size bytes
 size o kinds.Handle bytes = Some 4
 
--- how many bytes it has at least
-abbrev pub least : Basic → ℕ
-least kinds.Byte = 1
-least kinds.Bool = 4
-least kinds.I16 = 2
-least kinds.U16 = 2
-least kinds.I32 = 4
-least kinds.U32 = 4
-least kinds.I64 = 8
-least kinds.U64 = 8
-least kinds.Double = 8
-least kinds.Str = 5
-least kinds.Path = 5
-least kinds.Sig = 2
-least kinds.Handle = 4
-
 -- the same, where all these bytes are there
 abbrev pub whole : Option ℕ → ℕ → List ℕ → Option ℕ → Result ℕ ValueFault
 whole array at bytes None = Err (cut_off array at)

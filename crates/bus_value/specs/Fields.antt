@@ -1,18 +1,16 @@
 -- Numbered variants, as the fields of a message's header are: those that are kept, of which each has a number that is
 -- known, and what is kept of them.
-use Rattle.std.specs.Prelude.{ℕ, ◌≡◌, ◌≤◌, ◌+◌, nat_le, List, [], ◌∷◌, ◌++◌, length, drop, Option, Some, None, Result, Ok, Err, ◌⊎◌, if◌then◌else◌}
+use Rattle.std.specs.Prelude.{ℕ, ◌+◌, nat_le, List, [], ◌∷◌, ◌++◌, length, Option, Some, None, Result, Ok, Err, if◌then◌else◌}
 use Rattle.bus_names.specs.declared.basic.Basic.TheVariants as kinds
 use Rattle.bus_names.specs.Types.{Shape}
 use Rattle.bus_names.specs.Types as types
 use Rattle.bus_value.specs.declared.basic_value.BasicValue.{BasicValue}
 use Rattle.bus_value.specs.declared.basic_value.BasicValue.TheVariants.{Byte}
 use Rattle.bus_value.specs.declared.fault.ValueFault.{ValueFault}
-use Rattle.bus_value.specs.declared.fault.ValueFault.TheVariants.{NoMemory}
 use Rattle.bus_value.specs.declared.fields.Field.{Field}
 use Rattle.bus_value.specs.declared.order.Order.{Order}
 use Rattle.bus_value.specs.Values.{Val, Vals, basic, array, struct, variant, none, more}
 use Rattle.bus_value.specs.Spelling.{pad_size, first_element, spelling}
-use Rattle.bus_value.specs.Reading.{Answer}
 
 -- a field is a struct of a byte and a variant, and the fields are an array of these
 abbrev pub field_type : Shape
@@ -75,22 +73,7 @@ abbrev pub kept_of : ℕ → Order → ℕ → List Val → List Field
 kept_of most o at [] = []
 kept_of most o at (f ∷ fs) = kept_if most at f ++ kept_of most o (at + length (spelling o at f)) fs
 
-abbrev pub kept_by : ℕ → Order → ℕ → Result (List Val) ValueFault → Result (List Field) ValueFault
-kept_by most o at (Ok fs) = Ok (kept_of most o at fs)
-kept_by most o at (Err e) = Err e
-
 -- those of the array that was read at an offset
 abbrev pub kept_in : ℕ → Order → ℕ → Result (List Val) ValueFault → Result (List Field) ValueFault
 kept_in most o start (Ok vs) = Ok (kept_of most o (first_element start 8) (fields_in vs))
 kept_in most o start (Err e) = Err e
-
--- A value was read of which only a part is kept: what is known is that it is there, its part, and the place behind it.
-pub record IsSeen {B : Type 0} (part : Val → B) (kept : B) (next start : ℕ) (bytes : List ℕ) (found : Answer Val) : Type 0 where
-  pub value : Val
-  pub was : found ≡ Ok (value, (start + next, drop next bytes))
-  pub within : next ≤ length bytes
-  pub kept_is : kept ≡ part value
-
-abbrev pub Sees : {B : Type 0} → (Val → B) → Result (B × ℕ) ValueFault → ℕ → List ℕ → Answer Val → Type 0
-Sees part (Ok r) start bytes found = IsSeen part r.0 r.1 start bytes found
-Sees part (Err e) start bytes found = (e ≡ NoMemory) ⊎ (found ≡ Err e)

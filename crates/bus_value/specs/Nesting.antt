@@ -1,5 +1,5 @@
 -- How deep containers are nested.
-use Rattle.std.specs.Prelude.{ℕ, ◌+◌, List, [], ◌∷◌, max}
+use Rattle.std.specs.Prelude.{ℕ, ◌+◌, max}
 use Rattle.bus_names.specs.Types.{Shape, Shapes, basic, variant, array, dict, struct, none, more}
 
 abbrev mutual
@@ -14,8 +14,3 @@ abbrev mutual
   pub nesting_in : Shapes → ℕ
   nesting_in none = 0
   nesting_in (more t ts) = max (nesting t) (nesting_in ts)
-
--- the same of several types
-abbrev pub nesting_all : List Shape → ℕ
-nesting_all [] = 0
-nesting_all (t ∷ ts) = max (nesting t) (nesting_all ts)

@@ -1,5 +1,5 @@
 -- How values are read, from the left: the values, or the first fault that the reading meets.
-use Rattle.std.specs.Prelude.{ℕ, zero, suc, ◌+◌, ◌-◌, ◌^◌, ◌&&◌, ◌||◌, nat_lt, nat_le, Bool, false, List, [], ◌∷◌, length, take, drop, Option, Some, None, is_some, Result, Ok, Err, if◌then◌else◌}
+use Rattle.std.specs.Prelude.{ℕ, zero, suc, ◌+◌, ◌-◌, ◌^◌, ◌&&◌, ◌||◌, nat_lt, nat_le, List, [], ◌∷◌, length, take, drop, Option, Some, None, is_some, Result, Ok, Err, if◌then◌else◌}
 use Rattle.bus_names.specs.declared.basic.Basic.{Basic}
 use Rattle.bus_names.specs.declared.basic.Basic.TheVariants as kinds
 use Rattle.bus_names.specs.Types.{Shape, basic, variant, array, dict, struct, listed}
@@ -87,12 +87,6 @@ abbrev pub variant_type : ℕ → ℕ → List Shape → Result Shape ValueFault
 variant_type depth at [] = Err (BadVariant (reported at))
 variant_type depth at (t ∷ []) = if nat_le (depth + 1 + nesting t) most_open then Ok t else Err (BadVariant (reported at))
 variant_type depth at (t ∷ u ∷ ts) = Err (BadVariant (reported at))
-
--- whether there is one type, which may be nested there
-abbrev pub is_variant_type : ℕ → List Shape → Bool
-is_variant_type depth [] = false
-is_variant_type depth (t ∷ []) = nat_le (depth + 1 + nesting t) most_open
-is_variant_type depth (t ∷ u ∷ ts) = false
 
 unfoldable pub read_variant : Order → Option ℕ → ℕ → (Shape → Reading Val) → Reading Val
 read_variant o around depth f at bytes =

@@ -53,10 +53,6 @@ behind_length at = at + pad_size at 4 + 4
 abbrev pub first_element : ℕ → ℕ → ℕ
 first_element at align = behind_length at + pad_size (behind_length at) align
 
--- the front of an array whose elements have so many bytes
-abbrev pub array_front : Order → ℕ → ℕ → ℕ → List ℕ
-array_front o at align count = padding at 4 ++ (number_bytes o 4 count ++ padding (behind_length at) align)
-
 -- an array: the length of its elements without the padding in front of the first, that padding, the elements
 abbrev pub array_bytes : Order → ℕ → ℕ → List ℕ → List ℕ
 array_bytes o at align elements = padding at 4 ++ (number_bytes o 4 (length elements) ++ (padding (behind_length at) align ++ elements))

@@ -3,7 +3,8 @@
 ghost use Rattle.std.specs.Prelude.{◌≡◌, ◌≤◌, ◌<◌, ◌+◌, ◌-◌, ◌^◌, ◌++◌, ◌∷◌, [], OnOk, OnErr, IfOk, take, drop, length, vec_len, replicate, ◌⊎◌};
 ghost use Rattle.std.specs.Io.{StartsWith};
 ghost use Rattle.bus_value.specs.Numbers.{number_bytes, number};
-ghost use Rattle.bus_value.specs.Spelling.{pad_size, padding, array_front};
+ghost use Rattle.bus_value.specs.Spelling.{pad_size, padding};
+ghost use Rattle.bus_value.specs.inner.Spelling.{array_front};
 ghost use Rattle.bus_value.specs.Alignment.{IsAlignment};
 
 use crate::order::Order;

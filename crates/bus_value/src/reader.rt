@@ -2,7 +2,7 @@
 
 ghost use Rattle.std.specs.Prelude.{◌≡◌, ◌≤◌, ◌<◌, ◌+◌, ◌^◌, length, drop, Some, None, Err};
 ghost use Rattle.bus_value.specs.Alignment.{IsAlignment};
-ghost use Rattle.bus_value.specs.Answers.{Passes};
+ghost use Rattle.bus_value.specs.inner.Answers.{Passes};
 ghost use Rattle.bus_value.specs.Faults.{reported, cut_off, zeros, short_padding, check_padding};
 
 use crate::fault::ValueFault;

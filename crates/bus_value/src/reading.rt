@@ -3,7 +3,8 @@
 ghost use Rattle.std.specs.Prelude.{◌≡◌, List, Ok, Err, IfOk};
 ghost use Rattle.bus_value.specs.declared.fault.ValueFault.TheVariants.{NoMemory};
 ghost use Rattle.bus_names.specs.Signatures.{IsWithin};
-ghost use Rattle.bus_value.specs.Answers.{Accepts, Gives};
+ghost use Rattle.bus_value.specs.Answers.{Gives};
+ghost use Rattle.bus_value.specs.inner.Answers.{Accepts};
 ghost use Rattle.bus_value.specs.Grammar.{Spells};
 ghost use Rattle.bus_value.specs.Reading.{read_all};
 ghost use Rattle.bus_value.specs.Limits.{AllFit};

@@ -1,9 +1,8 @@
 -- What contracts say of a desk and its passes.
-use Rattle.std.specs.Prelude.{◌≡◌, ℕ, ◌<◌, ◌-◌, ◌^◌, ◌⊎◌, List, [], ◌∷◌, ◌++◌, Option, Some}
+use Rattle.std.specs.Prelude.{◌≡◌, ℕ, ◌<◌, ◌-◌, ◌^◌, ◌⊎◌, List, [], ◌∷◌, ◌++◌, Some}
 use mathlib.Core.Option.{some}
 use lib.ListN.{get_elem?}
 use Rattle.atomic_table.specs.Seated.{TableId}
-use Rattle.atomic_table.specs.declared.shared.Seat.{Seat}
 use Rattle.desk.specs.declared.view.Joined.{Joined}
 use Rattle.desk.specs.declared.view.Numbered.{Numbered}
 use Rattle.desk.specs.declared.view.Stage.TheVariants.{Idle, Holding}
@@ -15,12 +14,6 @@ use Rattle.desk.specs.Views.{Settled, after_join, at_stage, spent_view, with_own
 -- how many passes are split from the first at most
 abbrev pub most_passes : ℕ
 most_passes = 2 ^ 32 - 1
-
--- a seat at this table that holds no slot, between its turns
-pub record IsSettled {T S E : Type 0} (table : TableId) (p : Seat (Option T) (View S E)) : Type 0 where
-  pub table_is : p.table_id ≡ table
-  pub settled : Settled p.me.0
-  pub holds_none : p.me.1 ≡ []
 
 -- a pass: the desk that it is of, and what it knows
 pub record PassState (S E : Type 0) : Type 0 where

@@ -6,7 +6,8 @@ use Rattle.login_base.specs.declared.ids.Uid.{Uid}
 use Rattle.login_model.specs.declared.event.Event.{Event}
 use Rattle.login_model.specs.declared.event.Event.TheVariants.{Connect, Call as Calls}
 use Rattle.login_model.specs.declared.event.Request.{Request}
-use Rattle.bus_auth.specs.Greeting.{Greeting, greet, resume}
+use Rattle.bus_auth.specs.Greeting.{Greeting, greet}
+use Rattle.bus_auth.specs.inner.Greeting.{resume}
 use Rattle.bus_auth.proofs.GreetingLaws.{greet-append}
 use Rattle.login_office.proofs.MoreBytes.{begun-on, unbegun-calls}
 use Rattle.login_office.specs.Hearing.{HasHeard, Hears, TellerState}

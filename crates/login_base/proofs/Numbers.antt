@@ -12,7 +12,7 @@ use borrow.Author.Tests.{ltb-true}
 use Rattle.std.specs.Int.{IsInRange}
 use Rattle.std.proofs.lemmas.Fmt.{IsAscii-decimal}
 use Rattle.std.proofs.lemmas.Str.{IsUtf8-from_ascii}
-use Rattle.login_base.specs.Plain.{IsPlain}
+use Rattle.login_base.specs.inner.Plain.{IsPlain}
 use Rattle.login_base.specs.Number.{decimal_below, number_of, whole_of}
 
 own : IsNumeralModel (AllDigits 10) (digits_value 10)

@@ -1,6 +1,5 @@
 pub mod Limits
 pub mod Padded
-pub mod Plain
 pub mod Number
 pub mod SessionId
 pub mod Seat
@@ -9,3 +8,4 @@ pub mod Names
 pub mod Hex
 pub mod Labels
 pub mod Texts
+pub mod inner

@@ -2,7 +2,7 @@
 
 ghost use Rattle.std.specs.Prelude.{◌≡◌, ◌≢◌, ◌<◌, ◌^◌, ◌↔◌, ℕ, IsTrue, length, slice_index};
 ghost use Rattle.login_base.specs.Number.{number_of, whole_of};
-ghost use Rattle.login_base.specs.Plain.{IsPlain};
+ghost use Rattle.login_base.specs.inner.Plain.{IsPlain};
 
 /// Whether a word is not empty, and has neither a sign nor a leading zero.
 fn is_plain(word: &[u8]) -> bool

@@ -1,7 +1,7 @@
 -- The copies of texts stay those of their sessions.
 use Rattle.std.proofs.Common.{ℕ, ◌≡◌, ◌==◌, Bool, true, false, Option, Some, None, List, refl, sym, ◌∙◌, subst}
 use Rattle.login_base.specs.declared.ids.SessId.{SessId}
-use Rattle.login_model.specs.MadeWith.{texts_in}
+use Rattle.login_model.proofs.MadeWith.{texts_in}
 use Rattle.login_model.specs.Trail.{Trail, value}
 use Rattle.login_model.specs.Where.{is_open, is_session}
 use Rattle.login_model.specs.declared.call.Creation.{Creation}

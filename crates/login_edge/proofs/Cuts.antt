@@ -3,7 +3,8 @@ use Rattle.std.proofs.Common.{◌≡◌, ℕ, ◌+◌, ◌≤◌, List, [], ◌�
 use Rattle.std.proofs.lemmas.List.{take-append-le, drop-append-le}
 use mathlib.Core.List.{map}
 use Rattle.login_edge.specs.Exchanges.{quiet, ended, heard_of, said_of, bytes_of}
-use Rattle.login_edge.specs.Notes.{TalkState, talk_of, mark_of, heard_by, said_by}
+use Rattle.login_edge.specs.Notes.{mark_of}
+use Rattle.login_edge.specs.inner.Notes.{TalkState, talk_of, heard_by, said_by}
 use Rattle.login_edge.specs.declared.talk.Mark.{Mark}
 use Rattle.login_edge.specs.declared.talk.Mark.TheVariants as mark
 

@@ -16,3 +16,4 @@ pub mod Slots
 pub mod ClockInMemory
 pub mod SpawnerInMemory
 pub mod HeldInMemory
+pub mod inner

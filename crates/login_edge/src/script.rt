@@ -1,7 +1,7 @@
 // Scripts of links in memory.
 
 ghost use Rattle.std.specs.Prelude.{◌≡◌, ◌≤◌, [], length, drop, take};
-ghost use Rattle.login_edge.specs.Scripts.{Finds};
+ghost use Rattle.login_edge.specs.inner.Scripts.{Finds};
 
 use login_base::{Bytes, Items};
 use std::alloc::Global;

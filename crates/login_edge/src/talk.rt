@@ -29,7 +29,7 @@ pub(crate) struct Talk {
 
 impl Model for Talk {
     ghost use Rattle.std.specs.Prelude.{◌≤◌, ◌≡◌, ◌+◌, vec_len, vec_capacity};
-    ghost use Rattle.login_edge.specs.Notes.{TalkState, talk_of, heard_by, said_by};
+    ghost use Rattle.login_edge.specs.inner.Notes.{TalkState, talk_of, heard_by, said_by};
 
     ghost Value = { TalkState };
 

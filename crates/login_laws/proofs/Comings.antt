@@ -24,7 +24,7 @@ use Rattle.login_model.specs.declared.mark.Notice.TheVariants as notice
 use Rattle.login_model.specs.declared.mark.Whom.TheVariants.{All}
 use Rattle.login_model.specs.declared.session.SessionTexts.{SessionTexts}
 use Rattle.login_model.specs.declared.setup.Setup.{Setup}
-use Rattle.login_model.specs.MadeWith.{texts_in}
+use Rattle.login_model.proofs.MadeWith.{texts_in}
 use Rattle.login_laws.proofs.Carried.{know-carried, appear_on-carried, call-carried, ends-carried, hardware-carried, tick-carried, settle-carried}
 use Rattle.login_laws.proofs.Counts.{connections-list, count-same, count-more, count-gone}
 use Rattle.login_model.proofs.FactLaws.{same-conn}

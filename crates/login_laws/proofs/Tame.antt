@@ -16,7 +16,7 @@ use Rattle.login_model.specs.declared.mark.Notice.{Notice}
 use Rattle.login_model.specs.declared.mark.Whom.{Whom}
 use Rattle.login_model.specs.declared.session.Phase.{Phase}
 use Rattle.login_model.specs.declared.session.Phase.TheVariants.{Open, Closing, Gone}
-use Rattle.login_model.specs.MadeWith.{texts_in}
+use Rattle.login_model.proofs.MadeWith.{texts_in}
 use Rattle.login_model.specs.Procedure.{yes}
 pub use Rattle.login_laws.proofs.Carried.{other}
 use Rattle.login_laws.proofs.Carried.{Carried, Clocked, Operated, Switched, is_plain, Unlocks}

@@ -11,8 +11,8 @@ use Rattle.login_model.specs.Names.{insert, insert_some, names, is_above, IsNext
 use Rattle.login_model.specs.Where.{is_session, is_user, is_connected, is_device, is_lock, is_session_fact, is_user_fact, is_connected_fact, is_device_fact, is_lock_fact}
 use Rattle.login_base.specs.declared.ids.SessId.{SessId}
 use Rattle.login_base.specs.declared.ids.DevNo.{DevNo}
-use Rattle.login_model.specs.Devices.{taken_in, taker_in, is_taken, is_handle_fact}
-use Rattle.login_model.proofs.NameLaws.{session_order, user_order, conn_order, device_order, lock_order, session_keys, user_keys, conn_keys, device_keys, lock_keys, taken_keys, taker_keys}
+use Rattle.login_model.specs.Devices.{taken_in, is_taken, is_handle_fact}
+use Rattle.login_model.proofs.NameLaws.{session_order, user_order, conn_order, device_order, lock_order, session_keys, user_keys, conn_keys, device_keys, lock_keys, taken_keys, taker_in, taker_keys}
 use Rattle.login_model.proofs.Keys.{same_key-true, test, chosen}
 
 abbrev pub IsIn : {A : Type 0} → A → List A → Type 0

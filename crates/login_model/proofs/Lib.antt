@@ -8,3 +8,4 @@ pub mod Values
 pub mod HeldValue
 pub mod Joined
 pub mod Elements
+pub mod MadeWith

@@ -1,5 +1,5 @@
 -- The orders and the keys of the kinds of names.
-use Rattle.std.proofs.Common.{◌≡◌, ℕ, ◌==◌, ◌&&◌, nat_lt, Bool, true, false, cond, Some, None, List, [], ◌∷◌, refl, ap, sym, ◌∙◌, subst, arith, inl, inr}
+use Rattle.std.proofs.Common.{◌≡◌, ℕ, ◌==◌, ◌&&◌, nat_lt, Bool, true, false, cond, Option, Some, None, List, [], ◌∷◌, refl, ap, sym, ◌∙◌, subst, arith, inl, inr}
 use Rattle.std.proofs.lemmas.Bool.Decides.{nat_tests}
 use Rattle.std.specs.Str.{bytes_eq}
 use Rattle.login_base.specs.declared.ids.SessId.{SessId}
@@ -14,7 +14,7 @@ use Rattle.login_model.specs.Where.{is_session_fact, is_user_fact, is_connected_
 use Rattle.login_model.specs.declared.fact.Key.{Key}
 use Rattle.login_model.specs.declared.fact.Key.TheVariants.{Conn, Sess, User, Seat, Dev, Lock, Taken}
 use Rattle.login_model.specs.declared.fact.Fact.TheVariants.{Present, Absent}
-use Rattle.login_model.specs.Devices.{taken_in, taker_in, is_handle_fact}
+use Rattle.login_model.specs.Devices.{taken_in, is_handle_fact}
 use Rattle.login_model.specs.Same.{same_device}
 use Rattle.login_model.proofs.Keys.{same-bytes, same-device, same-session, chosen}
 
@@ -169,7 +169,11 @@ taken_keys s = record {
   begins = λ a e. absurd (no-name e);
 }
 
--- a session that has a device taken
+-- the session of a key about who has a device taken
+abbrev pub taker_in : DevNo → Key → Option SessId
+taker_in d (Taken s e) = cond (same_device e d) (Some s) None
+taker_in d _ = None
+
 session-same : (s a : SessId) → Some s ≡ Some a → s ≡ a
 session-same s a e = cc
 

@@ -8,7 +8,6 @@ use Rattle.login_model.specs.declared.fact.Key.TheVariants as key
 use Rattle.login_model.specs.declared.mark.Mark.TheVariants.{Set}
 use Rattle.login_model.specs.Trail.{Trail, value}
 use Rattle.login_model.specs.Names.{names, device_lt}
-use Rattle.login_model.specs.Same.{same_device}
 use Rattle.login_model.specs.Where.{is_set}
 pub use Rattle.login_model.specs.Facts.{is_handle_fact}
 
@@ -16,11 +15,6 @@ pub use Rattle.login_model.specs.Facts.{is_handle_fact}
 abbrev pub taken_in : SessId → Key → Option DevNo
 taken_in s (key.Taken r d) = if r.0 == s.0 then Some d else None
 taken_in s _ = None
-
--- the session of a key about who has a device taken
-abbrev pub taker_in : DevNo → Key → Option SessId
-taker_in d (key.Taken s e) = if same_device e d then Some s else None
-taker_in d _ = None
 
 -- whether a session has a device taken
 abbrev pub is_taken : Trail → SessId → DevNo → Bool

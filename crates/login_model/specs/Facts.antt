@@ -29,7 +29,6 @@ use Rattle.login_model.specs.declared.session.Class.TheVariants as class
 use Rattle.login_model.specs.declared.session.Phase.{Phase}
 use Rattle.login_model.specs.declared.session.Phase.TheVariants.{Open, Closing, Gone}
 use Rattle.login_model.specs.declared.session.Session.{Session}
-use Rattle.login_model.specs.declared.session.SessionTexts.{SessionTexts}
 use Rattle.login_model.specs.declared.setup.Setup.{Setup}
 use Rattle.login_model.specs.Same.{same_mode}
 use Rattle.login_model.specs.Start.{seat0}
@@ -123,11 +122,6 @@ fifo_in _ = record { 0 = 0 }
 abbrev pub leader_in : Fact → Option ConnId
 leader_in (fact.Session x) = Some x.leader
 leader_in _ = None
-
--- the texts with which a session was made
-abbrev pub texts_in : Fact → Option SessionTexts
-texts_in (fact.Session x) = Some x.texts
-texts_in _ = None
 
 -- an open session of a user
 abbrev pub is_open_of : ℕ → Fact → Bool

@@ -37,7 +37,6 @@ pub mod Named
 pub mod Stopping
 pub mod Legal
 pub mod Full
-pub mod MadeWith
 pub mod Setups
 pub mod Held
 pub mod inner

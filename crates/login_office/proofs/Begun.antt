@@ -2,7 +2,8 @@
 use Rattle.std.proofs.Common.{◌≡◌, ℕ, List, [], ◌++◌, refl, ap, sym, ◌∙◌, append-nil, false, Option, Some, None}
 use Rattle.login_base.specs.declared.ids.Uid.{Uid}
 use Rattle.bus_auth.specs.declared.table.Ending.{Ending}
-use Rattle.bus_auth.specs.Greeting.{State, WaitingForNul, Talking, Begun, Ended, behind_replies, greet, resume}
+use Rattle.bus_auth.specs.Greeting.{State, WaitingForNul, Talking, Begun, Ended, behind_replies, greet}
+use Rattle.bus_auth.specs.inner.Greeting.{resume}
 use Rattle.bus_auth.specs.Standing.{ending_of, kept}
 use Rattle.bus_auth.proofs.GreetingLaws.{greet-append}
 use Rattle.bus_message.specs.declared.fault.Malformed.{Malformed}

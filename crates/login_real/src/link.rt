@@ -2,7 +2,7 @@
 
 ghost use Rattle.std.specs.Prelude.{◌≡◌, ◌<◌, None, IfOk, IfSome, length};
 ghost use Rattle.login_edge.specs.Faults.{Rose};
-ghost use Rattle.login_real.specs.Sockets.{ReadsNow, WritesNow};
+ghost use Rattle.login_real.specs.inner.Sockets.{ReadsNow, WritesNow};
 
 use crate::waker::LinkWaker;
 use login_edge::{Heard, Link, Took};

@@ -1,5 +1,5 @@
 -- Facts in rows, each under its own key.
-use Rattle.std.specs.Prelude.{◌≡◌, ℕ, zero, suc, Bool, true, false, Option, Some, None, List, [], ◌∷◌}
+use Rattle.std.specs.Prelude.{◌≡◌, ℕ, Bool, true, false, Option, Some, None, List, [], ◌∷◌}
 use Rattle.login_model.specs.declared.fact.Key.{Key}
 use Rattle.login_model.specs.declared.fact.Key.TheVariants as key
 use Rattle.login_model.specs.declared.fact.Fact.{Fact}
@@ -21,11 +21,6 @@ pub record RowList : Type 0 where
   pub trail : Trail
   pub spare : ℕ
 
--- what the places of rows are seen as: the numbers in order, and how many more go in without memory
-pub record PlaceList : Type 0 where
-  pub list : List ℕ
-  pub spare : ℕ
-
 -- the keys ascend, and the first of them is above that one
 abbrev pub AscendFrom : Option Key → List Row → Type 0
 AscendFrom above [] = Unit {0}
@@ -34,13 +29,6 @@ AscendFrom above (x ∷ xs) = (is_above key_lt above x.key ≡ true) × AscendFr
 -- the key of each row is above those of the rows before it
 unfoldable pub Ascend : List Row → Type 0
 Ascend rows = AscendFrom None rows
-
--- so many pass from the front on, and the next one does not
-abbrev pub IsFront : {A : Type 0} → (A → Bool) → ℕ → List A → Type 0
-IsFront p zero [] = Unit {0}
-IsFront p zero (x ∷ xs) = p x ≡ false
-IsFront p (suc n) [] = ⊥
-IsFront p (suc n) (x ∷ xs) = (p x ≡ true) × IsFront p n xs
 
 -- whether a fact says that what its key names is there
 abbrev pub says_there : Key → Fact → Bool

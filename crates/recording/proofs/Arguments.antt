@@ -32,7 +32,8 @@ use Rattle.login_base.specs.Hex.{hex_digit, is_hex_digit}
 use Rattle.recording.specs.Text.{stands, spell_byte, spell_text, spell_flag}
 use Rattle.recording.specs.Hex.{spell_hex, is_guid}
 use Rattle.recording.specs.Bytes.{AreBytes}
-use Rattle.recording.specs.Words.{positive_of, small_of, signed_of, flag_of, text_of, seat_of, guid_of, hex_of}
+use Rattle.recording.specs.Words.{positive_of, small_of, signed_of, flag_of, text_of, hex_of}
+use Rattle.recording.specs.inner.Words.{seat_of, guid_of}
 use Rattle.recording.specs.Causes.{unless, unless_so, name_fault, word_fault, first_fault, end_fault, known_fault}
 use Rattle.recording.specs.inner.Arguments.{single, pair_of, made, whole, alone, within, name_of, version_of, Takes, Refuses}
 use Rattle.recording.proofs.Texts.{both, text_of-spell_text, text_of_is}

@@ -11,7 +11,8 @@ use Rattle.recording.specs.Cut.{NoLineFeed}
 use Rattle.recording.specs.Lines.{fields, IsWritten, Spells}
 use Rattle.recording.specs.Causes.{line_fault}
 use Rattle.recording.specs.Grammar.{InGrammar, OneGrammar}
-use Rattle.recording.specs.Meaning.{meant, IsReadAs, Means}
+use Rattle.recording.specs.Meaning.{meant, IsReadAs}
+use Rattle.recording.specs.inner.Meaning.{Means}
 use Rattle.recording.specs.inner.LineReadings.{line_of}
 use Rattle.recording.proofs.Causes.{refused, fault_of, faultless, more_than_line, fault_of_words, too_long_before, too_long_whole, has_ended, nothing_ended}
 use Rattle.recording.proofs.ReadBytes.{IsRead, text_bytes, no_feed, no_feed_test}

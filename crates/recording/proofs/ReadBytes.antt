@@ -8,7 +8,8 @@ use Rattle.recording.specs.declared.line.LineFault.TheVariants.{NoMemory}
 use Rattle.recording.specs.Bytes.{AreBytes, AreRaw}
 use Rattle.recording.specs.Cut.{NoLineFeed}
 use Rattle.recording.specs.Lines.{IsLine, IsWritten, Spells}
-use Rattle.recording.specs.Meaning.{IsReadAs, Means}
+use Rattle.recording.specs.Meaning.{IsReadAs}
+use Rattle.recording.specs.inner.Meaning.{Means}
 use Rattle.recording.specs.inner.LineReadings.{line_of}
 use Rattle.recording.proofs.Spellings.{text_spells, text_written, line_meant, spells_short}
 

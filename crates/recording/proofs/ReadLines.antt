@@ -38,7 +38,7 @@ use Rattle.recording.specs.Shapes.{behind_in, line_shapes, event_shapes, hardwar
 use Rattle.recording.specs.Causes.{first_fault, end_fault, call_fault, words_fault}
 use Rattle.recording.specs.inner.Arguments.{single, pair_of, made, whole, name_of, version_of, connection_id}
 use Rattle.login_base.specs.Number.{whole_of}
-use Rattle.recording.specs.Words.{guid_of}
+use Rattle.recording.specs.inner.Words.{guid_of}
 use Rattle.recording.specs.inner.CallReadings.{call_of}
 use Rattle.recording.specs.inner.LineReadings.{above_nought, millis, user_name as as_user_name, session_name as as_session_name, version as as_version, identity as as_identity, positives, connections, link_line_of, hardware_line_of, event_line_of, action_of, known_line_of, request, request_of, line_of}
 use Rattle.recording.proofs.Chains.{mapped, by_word, with_rest}

@@ -15,7 +15,8 @@ use Rattle.login_base.proofs.Numbers.{number_of-decimal, number_of_is}
 use Rattle.login_base.specs.Seat.{is_seat_name}
 use Rattle.recording.specs.Text.{spell_flag}
 use Rattle.recording.specs.Hex.{is_guid}
-use Rattle.recording.specs.Words.{above_zero, positive_of, if_below, small_of, from_zero, negative, signed_of, flag_of, seat_of, guid_of}
+use Rattle.recording.specs.Words.{above_zero, positive_of, if_below, small_of, from_zero, negative, signed_of, flag_of}
+use Rattle.recording.specs.inner.Words.{seat_of, guid_of}
 use Rattle.recording.proofs.Chains.{with_rest}
 
 not_zero : (n : ℕ) → 0 < n → eqb n 0 ≡ false

@@ -14,7 +14,8 @@ use Rattle.recording.specs.Text.{stands, spell_byte, spell_text}
 use Rattle.recording.specs.Bytes.{AreBytes}
 use Rattle.recording.specs.declared.word.Misread.{Misread}
 use Rattle.recording.specs.declared.word.Misread.TheVariants.{Misfit, NoMemory}
-use Rattle.recording.specs.Words.{Gives, Plain, unspelled, is_short_text, text_of}
+use Rattle.recording.specs.Words.{Plain, unspelled, is_short_text, text_of}
+use Rattle.recording.specs.inner.Words.{Gives}
 
 pub hex_value-hex_digit : (n : ℕ) → n < 16 → hex_value (hex_digit n) ≡ n
 hex_value-hex_digit n small = grind (arith, nat_tests)

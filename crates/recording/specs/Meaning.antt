@@ -1,5 +1,5 @@
 -- What a written line means.
-use Rattle.std.specs.Prelude.{ℕ, ◌≡◌, not, nat_le, Bool, if◌then◌else◌, Result, Ok, Err, List, length}
+use Rattle.std.specs.Prelude.{ℕ, ◌≡◌, not, nat_le, Bool, if◌then◌else◌, List, length}
 use Rattle.std.specs.List.{list_all}
 use Rattle.login_model.specs.declared.call.Call.{Call}
 use Rattle.login_model.specs.declared.call.Call.TheVariants.{NoObject, BadArguments}
@@ -7,8 +7,6 @@ use Rattle.login_model.specs.declared.event.Event.{Event}
 use Rattle.login_model.specs.declared.event.Event.TheVariants as event
 use Rattle.login_model.specs.Texts.{texts, has_object}
 use Rattle.recording.specs.declared.line.Line.{Line}
-use Rattle.recording.specs.declared.line.LineFault.{LineFault}
-use Rattle.recording.specs.declared.line.LineFault.TheVariants.{NoMemory}
 use Rattle.recording.specs.declared.line.Line.TheVariants as line
 use Rattle.recording.specs.Lines.{Spells, IsWritten}
 use Rattle.login_model.specs.Limits.{text_limit}
@@ -32,11 +30,6 @@ meant_event e = e
 abbrev pub meant : Line → Line
 meant (line.Event e) = line.Event (meant_event e)
 meant l = l
-
--- what the reading of a written line answers: what it means, or that there was no memory
-abbrev pub Means : Line → Result Line LineFault → Type 0
-Means l (Ok m) = m ≡ meant l
-Means l (Err fault) = fault ≡ NoMemory
 
 -- the bytes are a line of the grammar, and this is what it means
 pub record IsReadAs (bytes : List ℕ) (line : Line) : Type 0 where

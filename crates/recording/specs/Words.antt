@@ -1,22 +1,13 @@
 -- What the words of a line say.
-use Rattle.std.specs.Prelude.{ℕ, ℤ, pos, negsuc, ◌^◌, ◌≡◌, ◌+◌, ◌-◌, ◌*◌, ◌==◌, ◌&&◌, not, nat_le, nat_lt, Bool, true, false, if◌then◌else◌, Option, Some, None, Result, Ok, Err, List, [], ◌∷◌, length, codes}
+use Rattle.std.specs.Prelude.{ℕ, ℤ, pos, negsuc, ◌^◌, ◌+◌, ◌-◌, ◌*◌, ◌==◌, ◌&&◌, not, nat_le, nat_lt, Bool, true, false, if◌then◌else◌, Option, Some, None, List, [], ◌∷◌, length, codes}
 use Rattle.std.specs.List.{list_all}
 use Rattle.std.specs.Option.{option_and_then}
 use Rattle.std.specs.Str.{bytes_eq}
 use Rattle.login_base.specs.Number.{number_of}
 use Rattle.login_base.specs.Texts.{is_text}
-use Rattle.recording.specs.declared.word.Misread.{Misread}
-use Rattle.recording.specs.declared.word.Misread.TheVariants.{Misfit, NoMemory}
-use Rattle.login_base.specs.Seat.{is_seat_name}
 use Rattle.recording.specs.Text.{spell_text}
 use Rattle.login_base.specs.Hex.{hex_value, is_hex_digit}
-use Rattle.recording.specs.Hex.{spell_hex, is_guid}
-
--- a reading gives the value that there is, or finds none; want of memory may come at any time
-abbrev pub Gives : {T : Type 0} → Option T → Result T Misread → Type 0
-Gives o (Ok x) = o ≡ Some x
-Gives o (Err Misfit) = o ≡ None
-Gives o (Err NoMemory) = Unit {0}
+use Rattle.recording.specs.Hex.{spell_hex}
 
 -- a number above 0
 abbrev pub above_zero : ℕ → Option ℕ
@@ -45,14 +36,6 @@ negative n = if nat_le 1 n && nat_le n (2 ^ 31) then Some (negsuc (n - 1)) else 
 abbrev pub signed_of : List ℕ → Option ℤ
 signed_of [] = None
 signed_of (b ∷ bs) = if b == 45 then option_and_then negative (number_of bs) else option_and_then from_zero (number_of (b ∷ bs))
-
--- the name of a seat, which stands as it is
-unfoldable pub seat_of : List ℕ → Option (List ℕ)
-seat_of word = if is_seat_name word then Some word else None
-
--- the identity of a server
-abbrev pub guid_of : List ℕ → Option (List ℕ)
-guid_of word = if is_guid word then Some word else None
 
 abbrev pub flag_of : List ℕ → Option Bool
 flag_of word =

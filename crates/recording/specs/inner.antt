@@ -7,3 +7,5 @@ pub mod Arguments
 pub mod CallReadings
 pub mod LineReadings
 pub mod Parts
+pub mod Meaning
+pub mod Words

@@ -229,14 +229,14 @@ impl Argument for OpKind {
 impl Argument for SeatName {
     ghost use Rattle.std.specs.Prelude.{[], ◌∷◌};
     ghost use Rattle.recording.specs.declared.argument.WordKind.TheVariants.{SeatName as kind};
-    ghost use Rattle.recording.specs.Words.{seat_of};
+    ghost use Rattle.recording.specs.inner.Words.{seat_of};
     ghost use Rattle.recording.specs.inner.Arguments.{single};
 
     ghost kinds = { kind ∷ [] };
 
     ghost of = { single seat_of };
 
-    #[tactic(auto, unfolding(crate::specs::Words::seat_of))]
+    #[tactic(auto, unfolding(crate::specs::inner::Words::seat_of))]
     fn take<'a>(
         alloc: Global,
         words: &'a [&'a [u8]],
@@ -501,7 +501,7 @@ impl Argument for Version {
 impl Argument for Guid {
     ghost use Rattle.std.specs.Prelude.{[], ◌∷◌};
     ghost use Rattle.recording.specs.declared.argument.WordKind.TheVariants.{Guid as kind};
-    ghost use Rattle.recording.specs.Words.{guid_of};
+    ghost use Rattle.recording.specs.inner.Words.{guid_of};
     ghost use Rattle.recording.specs.inner.Arguments.{made, single};
     ghost use Rattle.recording.specs.inner.LineReadings.{identity};
 

@@ -6,7 +6,8 @@ ghost use Rattle.recording.specs.Lines.{IsLine};
 ghost use Rattle.recording.specs.declared.argument.WordKind.{WordKind};
 ghost use Rattle.recording.specs.Shapes.{behind_in, line_shapes};
 ghost use Rattle.recording.specs.Causes.{first_fault, end_fault, known_fault, line_fault, words_fault};
-ghost use Rattle.recording.specs.Meaning.{IsReadAs, Means};
+ghost use Rattle.recording.specs.Meaning.{IsReadAs};
+ghost use Rattle.recording.specs.inner.Meaning.{Means};
 ghost use Rattle.recording.specs.inner.Arguments.{Reads};
 ghost use Rattle.recording.specs.inner.LineReadings.{action_of, known_line_of, line_of};
 

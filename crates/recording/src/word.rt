@@ -10,7 +10,8 @@ ghost use Rattle.recording.specs.Text.{stands, spell_byte, spell_text};
 ghost use Rattle.recording.specs.Bytes.{AreBytes};
 ghost use Rattle.recording.specs.Hex.{is_guid};
 ghost use Rattle.login_model.specs.Words.{device_kind_named, key_named, operation_named};
-ghost use Rattle.recording.specs.Words.{Gives, positive_of, small_of, from_zero, negative, signed_of, flag_of, text_of, hex_of, guid_of, seat_of};
+ghost use Rattle.recording.specs.Words.{positive_of, small_of, from_zero, negative, signed_of, flag_of, text_of, hex_of};
+ghost use Rattle.recording.specs.inner.Words.{Gives, guid_of, seat_of};
 
 use login_base::{Bytes, SeatName, Word, hex_value, is_hex_digit};
 use login_model::{DevKind, HardKey, OpKind};
@@ -163,7 +164,7 @@ pub(crate) fn operation(word: &[u8]) -> Result<OpKind, Misread>
 }
 
 /// A seat's name, which stands as it is.
-#[tactic(auto, unfolding(crate::specs::Words::seat_of))]
+#[tactic(auto, unfolding(crate::specs::inner::Words::seat_of))]
 pub(crate) fn seat(word: &[u8]) -> Result<SeatName, Misread>
     ensures { Gives (seat_of word.now) result }
 {

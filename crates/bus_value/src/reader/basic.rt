@@ -3,8 +3,10 @@
 ghost use Rattle.std.specs.Prelude.{◌≡◌, ◌≤◌, ◌<◌, ◌+◌, ◌-◌, length, drop, IfOk, IfSome};
 ghost use Rattle.bus_value.specs.Alignment.{IsAlignment};
 ghost use Rattle.bus_value.specs.inner.Plain.{plain_size};
-ghost use Rattle.bus_value.specs.Answers.{Accepts, Checks, Gives, Reads};
-ghost use Rattle.bus_value.specs.BasicReading.{size, body_size, least, text_size, types_in, text_at, path_at, decoded, bool_by};
+ghost use Rattle.bus_value.specs.Answers.{Gives};
+ghost use Rattle.bus_value.specs.inner.Answers.{Accepts, Checks, Reads};
+ghost use Rattle.bus_value.specs.BasicReading.{size, body_size, text_size, types_in, text_at, path_at, decoded, bool_by};
+ghost use Rattle.bus_value.specs.inner.BasicReading.{least};
 ghost use Rattle.bus_value.specs.Reading.{read_basic};
 
 use crate::basic_value::BasicValue;

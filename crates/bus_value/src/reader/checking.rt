@@ -4,8 +4,9 @@ ghost use Rattle.std.specs.Prelude.{◌≡◌, ◌≤◌, ◌<◌, ◌+◌, ◌-
 ghost use Rattle.bus_names.specs.Types.{basic, variant, array, dict, struct_of};
 ghost use Rattle.bus_value.specs.Reading.{levels, read, read_entry, to_end, in_turn};
 ghost use Rattle.bus_value.specs.Limits.{most_depth};
-ghost use Rattle.bus_value.specs.Nesting.{nesting, nesting_all};
-ghost use Rattle.bus_value.specs.Answers.{Accepts, Checks, IsAccepted};
+ghost use Rattle.bus_value.specs.Nesting.{nesting};
+ghost use Rattle.bus_value.specs.inner.Nesting.{nesting_all};
+ghost use Rattle.bus_value.specs.inner.Answers.{Accepts, Checks, IsAccepted};
 
 use crate::fault::ValueFault;
 use crate::numbers::pad_size;

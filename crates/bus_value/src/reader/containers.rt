@@ -3,11 +3,14 @@
 ghost use Rattle.std.specs.Prelude.{◌≡◌, ◌≤◌, ◌<◌, ◌+◌, ◌-◌, ◌^◌, length, drop, nat_le, IfOk, IsTrue};
 ghost use Rattle.bus_names.specs.Types.{variant, array, dict, struct_of};
 ghost use Rattle.bus_value.specs.Alignment.{IsAlignment};
-ghost use Rattle.bus_value.specs.Reading.{element_bytes, levels, read, read_entry, to_end, in_turn, is_variant_type};
+ghost use Rattle.bus_value.specs.Reading.{element_bytes, levels, read, read_entry, to_end, in_turn};
+ghost use Rattle.bus_value.specs.inner.Reading.{is_variant_type};
 ghost use Rattle.bus_value.specs.Limits.{most_depth, most_open};
-ghost use Rattle.bus_value.specs.Nesting.{nesting, nesting_all};
+ghost use Rattle.bus_value.specs.Nesting.{nesting};
+ghost use Rattle.bus_value.specs.inner.Nesting.{nesting_all};
 ghost use Rattle.bus_value.specs.Spelling.{pad_size as pad_from};
-ghost use Rattle.bus_value.specs.Answers.{Gives, Reads};
+ghost use Rattle.bus_value.specs.Answers.{Gives};
+ghost use Rattle.bus_value.specs.inner.Answers.{Reads};
 ghost use Rattle.bus_value.specs.inner.Opening.{Opens};
 
 use crate::basic_value::BasicValue;

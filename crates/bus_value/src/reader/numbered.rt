@@ -3,7 +3,8 @@
 ghost use Rattle.std.specs.Prelude.{◌≡◌, ◌≤◌, ◌<◌, ◌+◌, ◌-◌, ◌^◌, length, drop, IfOk};
 ghost use Rattle.bus_names.specs.Types.{variant};
 ghost use Rattle.bus_value.specs.Answers.{Gives};
-ghost use Rattle.bus_value.specs.Fields.{basic_in, byte_in, field_at, field_type, inside, kept_by, Sees};
+ghost use Rattle.bus_value.specs.Fields.{basic_in, byte_in, field_at, field_type, inside};
+ghost use Rattle.bus_value.specs.inner.Fields.{kept_by, Sees};
 ghost use Rattle.bus_value.specs.Limits.{most_depth};
 ghost use Rattle.bus_value.specs.Nesting.{nesting};
 ghost use Rattle.bus_value.specs.Reading.{levels, read, to_end};

@@ -17,7 +17,8 @@ use Rattle.recording.specs.declared.argument.SessionName.{SessionName}
 use Rattle.recording.specs.declared.line.Line.{Line}
 use Rattle.recording.specs.declared.line.Line.TheVariants.{Header, Guid as GuidLine, User, Conf, Action, Go, Event as EventLine, Link, In, Hangup, End}
 use Rattle.login_base.specs.Number.{whole_of}
-use Rattle.recording.specs.Words.{positive_of, small_of, signed_of, flag_of, seat_of, guid_of, hex_of}
+use Rattle.recording.specs.Words.{positive_of, small_of, signed_of, flag_of, hex_of}
+use Rattle.recording.specs.inner.Words.{seat_of, guid_of}
 use Rattle.recording.specs.inner.Arguments.{single, pair_of, made, whole, alone, name_of, version_of, connection_id, numbers, users, devices}
 use Rattle.recording.specs.inner.CallReadings.{call_of}
 use Rattle.login_model.specs.Limits.{name_limit, text_limit}

@@ -1,5 +1,5 @@
 use Rattle.std.proofs.Common.{subst}
-use Rattle.bus_message.specs.Faults.{Gives}
+use Rattle.bus_message.specs.inner.Faults.{Gives}
 use Rattle.bus_message.proofs.KeptLaws.{message_known}
 use Rattle.bus_message.proofs.reading.read_message.Goals as goal
 

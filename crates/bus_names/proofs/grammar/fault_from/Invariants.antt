@@ -1,5 +1,6 @@
 use Rattle.std.proofs.Common.{◌≡◌, ◌+◌, drop}
-use Rattle.bus_names.specs.Grammar.{fault_from, start}
+use Rattle.bus_names.specs.Grammar.{fault_from}
+use Rattle.bus_names.specs.inner.Grammar.{start}
 use Rattle.bus_names.proofs.grammar.fault_from.Given as goal
 
 abbrev pub invariant-loop-byte : goal.invariant-loop-byte

@@ -1,7 +1,8 @@
 use Rattle.std.proofs.Common.{◌≡◌, ℕ, ◌+◌, ◌∷◌, [], ◌∙◌, Ok, Err, ap, inr, sym, rules, subst, drop, take}
 use Rattle.bus_value.specs.declared.fault.ValueFault.TheVariants.{BadLength}
 use Rattle.bus_value.specs.declared.reader.Reader.{Reader}
-use Rattle.bus_value.specs.Fields.{field_type, list_type, kept_by, kept_in}
+use Rattle.bus_value.specs.Fields.{field_type, list_type, kept_in}
+use Rattle.bus_value.specs.inner.Fields.{kept_by}
 use Rattle.bus_value.specs.Reading.{read, read_all, levels, to_end}
 use Rattle.bus_value.proofs.Containers.{onward}
 use Rattle.bus_value.proofs.FieldParts.{fields_listed, fields_left, fields_fail, list_fails}

@@ -2,7 +2,7 @@ use Rattle.std.proofs.Common.{◌≡◌, ℕ, ◌+◌, drop, sym, ◌∙◌, ari
 use Rattle.bus_value.specs.declared.fault.ValueFault.TheVariants.{BadLength}
 use Rattle.bus_value.specs.declared.reader.Reader.{Reader}
 use Rattle.bus_value.specs.Reading.{read, in_turn, levels, read_all}
-use Rattle.bus_value.specs.Nesting.{nesting_all}
+use Rattle.bus_value.specs.inner.Nesting.{nesting_all}
 use Rattle.bus_value.specs.Faults.{reported}
 use Rattle.bus_value.proofs.Nesting.{nesting_within}
 use Rattle.bus_value.proofs.Containers.{onward}

@@ -1,6 +1,6 @@
 use Rattle.std.proofs.Common.{rules, arith, ◌≡◌, sym, ◌∙◌, Some, subst, ap}
 use Rattle.std.proofs.lemmas.Result.{IfOk-at_ok}
-use Rattle.login_base.specs.Plain.{IsPlain}
+use Rattle.login_base.specs.inner.Plain.{IsPlain}
 use Rattle.login_base.specs.Number.{number_of}
 use Rattle.login_base.proofs.Numbers.{number_of_none, decimal_IsPlain, number_is_parsed, decimal_is_parsed, decimal_is_utf8}
 use Rattle.login_base.proofs.number.read_number.Goals as goal

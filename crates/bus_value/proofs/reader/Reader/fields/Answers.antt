@@ -1,6 +1,7 @@
 use Rattle.std.proofs.Common.{◌+◌, List, sym, arith, rules, subst, drop}
 use Rattle.bus_value.specs.declared.fields.Field.{Field}
-use Rattle.bus_value.specs.Fields.{field_type, kept_by}
+use Rattle.bus_value.specs.Fields.{field_type}
+use Rattle.bus_value.specs.inner.Fields.{kept_by}
 use Rattle.bus_value.specs.Reading.{read, levels, to_end}
 use Rattle.bus_value.proofs.Containers.{onward}
 use Rattle.bus_value.proofs.FieldParts.{Keeping, keeping_first, keeping_known, keeping_other, keeping_last, keeping_fails}

@@ -1,7 +1,8 @@
 use Rattle.std.proofs.Common.{◌≡◌, ℕ, ◌-◌, ◌≤◌, sym, ◌∙◌, arith, ap, rules, true, add-one, subst, take}
 use Rattle.std.specs.Prelude.{nat_le}
 use Rattle.std.proofs.lemmas.Bool.Decides.{nat_tests}
-use Rattle.bus_value.specs.Nesting.{nesting, nesting_all}
+use Rattle.bus_value.specs.Nesting.{nesting}
+use Rattle.bus_value.specs.inner.Nesting.{nesting_all}
 use Rattle.bus_value.proofs.Nesting.{field_smaller, too_deep, deep_enough, nesting_more}
 use Rattle.bus_value.proofs.reader.containers.+nests_within.Goals as goal
 

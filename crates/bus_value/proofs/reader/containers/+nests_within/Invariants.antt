@@ -1,5 +1,5 @@
 use Rattle.std.proofs.Common.{◌-◌, ◌≤◌, take}
-use Rattle.bus_value.specs.Nesting.{nesting_all}
+use Rattle.bus_value.specs.inner.Nesting.{nesting_all}
 use Rattle.bus_names.specs.Types.{parts}
 use Rattle.bus_value.proofs.reader.containers.+nests_within.Given as goal
 

@@ -3,7 +3,8 @@ use Rattle.bus_value.specs.declared.basic_value.BasicValue.{BasicValue}
 use Rattle.bus_value.specs.Values.{Val, vals, entries, array, struct, dict, parts}
 use Rattle.bus_value.specs.Nodes.{value_of}
 use Rattle.bus_value.specs.Alignment.{boundary}
-use Rattle.bus_value.specs.Spelling.{first_element, pad_size, array_front}
+use Rattle.bus_value.specs.Spelling.{first_element, pad_size}
+use Rattle.bus_value.specs.inner.Spelling.{array_front}
 use Rattle.bus_value.specs.Numbers.{number_bytes}
 use Rattle.bus_value.specs.Limits.{Fits, AllFit, EntriesFit}
 use Rattle.bus_names.proofs.Fronts.{kept_once, kept_behind, on_err}

@@ -1,6 +1,6 @@
 use Rattle.std.proofs.Common.{◌≡◌, ◌+◌, drop, take, ap, arith, refl, rules, Ok, Err, None}
 use Rattle.bus_value.specs.declared.reader.Reader.{Reader}
-use Rattle.bus_value.specs.Nesting.{nesting_all}
+use Rattle.bus_value.specs.inner.Nesting.{nesting_all}
 use Rattle.bus_value.specs.Reading.{in_turn, levels, read}
 use Rattle.bus_value.proofs.Fronts.{kept_front, nesting_front, no_fault, same_values}
 use Rattle.bus_value.proofs.Nesting.{nesting_within}

@@ -1,9 +1,9 @@
 use Rattle.std.proofs.Common.{◌∙◌, ap, sym, Some, None}
-use Rattle.login_model.specs.Devices.{is_taken, taker_in}
+use Rattle.login_model.specs.Devices.{is_taken}
 use Rattle.login_model.specs.Names.{names, session_lt}
 use Rattle.login_model.specs.Where.{is_session, is_session_fact}
 use Rattle.login_model.proofs.InOrder.{takers-enumerated}
-use Rattle.login_model.proofs.NameLaws.{session_order}
+use Rattle.login_model.proofs.NameLaws.{session_order, taker_in}
 use Rattle.login_core.proofs.Chosen.{passed-start, passed-more, passed-found, passed-none, fewer, next-turned}
 use Rattle.login_core.proofs.board.Draft.next_taker_there.Goals as goal
 

@@ -1,8 +1,9 @@
 use Rattle.std.proofs.Common.{length}
-use Rattle.login_model.specs.Devices.{is_taken, taker_in}
+use Rattle.login_model.specs.Devices.{is_taken}
 use Rattle.login_model.specs.Names.{names, session_lt}
 use Rattle.login_model.specs.Where.{is_session}
 use Rattle.login_model.proofs.InOrder.{rest}
+use Rattle.login_model.proofs.NameLaws.{taker_in}
 use Rattle.login_core.proofs.Chosen.{Passed}
 use Rattle.login_core.proofs.board.Draft.next_taker_there.Given as goal
 

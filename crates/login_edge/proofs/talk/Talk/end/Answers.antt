@@ -1,6 +1,6 @@
 use Rattle.std.proofs.Common.{rules, ◌≡◌, ℕ, [], ◌∷◌, ◌++◌, List, ap, sym, ◌∙◌, append-nil, refl, arith, length}
 use Rattle.std.specs.Vec.{vec_len}
-use Rattle.login_edge.specs.Notes.{TalkState, talk_of, heard_by, said_by}
+use Rattle.login_edge.specs.inner.Notes.{TalkState, talk_of, heard_by, said_by}
 use Rattle.login_edge.proofs.Cuts.{heard_by-snoc, said_by-snoc, talk_of-snoc, sized}
 use Rattle.login_edge.specs.declared.talk.Mark.TheVariants as mark
 use Rattle.login_edge.proofs.talk.Talk.end.Goals as goal

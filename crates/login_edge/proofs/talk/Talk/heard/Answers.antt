@@ -1,7 +1,7 @@
 use Rattle.std.proofs.Common.{rules, ◌≡◌, ap, sym, ◌∙◌, length}
 use Rattle.std.specs.Vec.{vec_len}
 use Rattle.login_edge.specs.Exchanges.{heard_of}
-use Rattle.login_edge.specs.Notes.{TalkState, talk_of}
+use Rattle.login_edge.specs.inner.Notes.{TalkState, talk_of}
 use Rattle.login_edge.proofs.Cuts.{heard_of-talk_of, sized}
 use Rattle.login_edge.proofs.talk.Talk.heard.Goals as goal
 

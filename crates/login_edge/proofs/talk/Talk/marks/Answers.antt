@@ -2,7 +2,8 @@ use Rattle.std.proofs.Common.{rules, ◌≡◌, List, ap, sym, ◌∙◌, length
 use Rattle.std.specs.Vec.{vec_len}
 use mathlib.Core.List.{map}
 use Rattle.login_edge.specs.Exchanges.{Exchange}
-use Rattle.login_edge.specs.Notes.{TalkState, talk_of, mark_of}
+use Rattle.login_edge.specs.Notes.{mark_of}
+use Rattle.login_edge.specs.inner.Notes.{TalkState, talk_of}
 use Rattle.login_edge.proofs.Cuts.{marks-talk_of}
 use Rattle.login_edge.proofs.talk.Talk.marks.Goals as goal
 

@@ -1,7 +1,7 @@
 use Rattle.std.proofs.Common.{rules, ◌≡◌, ap, sym, ◌∙◌, length}
 use Rattle.std.specs.Vec.{vec_len}
 use Rattle.login_edge.specs.Exchanges.{said_of}
-use Rattle.login_edge.specs.Notes.{TalkState, talk_of}
+use Rattle.login_edge.specs.inner.Notes.{TalkState, talk_of}
 use Rattle.login_edge.proofs.Cuts.{said_of-talk_of, sized}
 use Rattle.login_edge.proofs.talk.Talk.said.Goals as goal
 

@@ -1,8 +1,8 @@
 use Rattle.std.proofs.Common.{ap, refl, None}
 use Rattle.login_model.specs.declared.fact.Key.TheVariants.{Taken}
-use Rattle.login_model.specs.Devices.{taker_in, is_handle_fact}
+use Rattle.login_model.specs.Devices.{is_handle_fact}
 use Rattle.login_model.specs.Names.{session_lt}
-use Rattle.login_model.proofs.NameLaws.{session_order, taker_keys}
+use Rattle.login_model.proofs.NameLaws.{session_order, taker_in, taker_keys}
 use Rattle.login_table.specs.inner.Places.{keys_at}
 use Rattle.login_table.specs.Rows.{RowList}
 use Rattle.login_table.proofs.NextRow.{keys-of, next-there, there-of}

@@ -1,7 +1,8 @@
 use Rattle.std.proofs.Common.{◌≡◌, ◌<◌, ◌≤◌, ◌-◌, ◌^◌, ◌∙◌, ℕ, suc, sym, ap, subst, arith, length, List, ◌∷◌, vec_len}
 use Rattle.login_model.specs.Trail.{value}
 use Rattle.login_model.specs.declared.mark.Mark.TheVariants.{Set}
-use Rattle.login_table.specs.Rows.{RowList, as_trail, IsFront}
+use Rattle.login_table.specs.Rows.{RowList, as_trail}
+use Rattle.login_table.specs.inner.Rows.{IsFront}
 use Rattle.login_table.specs.KeyOrder.{key_lt}
 use Rattle.login_table.specs.inner.Places.{PlacesAscend, put_place}
 use Rattle.login_table.specs.declared.rows.Row.{Row}

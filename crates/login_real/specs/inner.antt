@@ -1,0 +1,2 @@
+-- What serves private functions: what calls answer that do not wait.
+pub mod Sockets
