@@ -1,26 +1,14 @@
 -- Elements of object paths as texts.
-use Rattle.std.specs.Prelude.{ℕ, ◌≡◌, ◌<◌, ◌+◌, ◌*◌, List, [], ◌∷◌, ◌==◌, Option, Some, None, Result, Ok, Err, ⊤, if◌then◌else◌}
+use Rattle.std.specs.Prelude.{ℕ, ◌≡◌, ◌<◌, List, Option, Some, None, Result, Ok, Err, ⊤, if◌then◌else◌}
 use Rattle.std.specs.List.{AllByRecursion}
 use Rattle.std.specs.Str.{bytes_eq}
-use Rattle.login_base.specs.Hex.{hex_value}
-use Rattle.login_base.specs.Labels.{escape}
+use Rattle.login_base.specs.Labels.{decoded, escape}
 use Rattle.bus_names.specs.declared.fault.NameFault.{NameFault}
 use Rattle.bus_names.specs.declared.fault.NameFault.TheVariants.{BadName, BadLabel, BadSignature, TooDeep, NoMemory}
 
--- the bytes with each escape decoded, whatever its digits are
-abbrev pub decoded : List ℕ → List ℕ
-decoded [] = []
-decoded (a ∷ []) = a ∷ []
-decoded (a ∷ b ∷ []) = a ∷ b ∷ []
-decoded (a ∷ b ∷ c ∷ rest) = if a == 95 then (16 * hex_value b + hex_value c) ∷ decoded rest else a ∷ decoded (b ∷ c ∷ rest)
-
--- the one text whose escape the label may be
-abbrev pub candidate : List ℕ → List ℕ
-candidate label = if bytes_eq label (95 ∷ []) then [] else decoded label
-
 -- the text whose escape the label is
 unfoldable pub unescaped : List ℕ → Option (List ℕ)
-unescaped label = if bytes_eq (escape (candidate label)) label then Some (candidate label) else None
+unescaped label = if bytes_eq (escape (decoded label)) label then Some (decoded label) else None
 
 -- a reader's answer: the text, no text, or there was no memory
 abbrev pub Unescapes : Result (List ℕ) NameFault → Option (List ℕ) → Type 0

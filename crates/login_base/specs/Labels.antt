@@ -1,7 +1,7 @@
 -- Texts as elements of object paths, as sd_bus_path_encode(3) writes them.
-use Rattle.std.specs.Prelude.{ℕ, List, [], ◌∷◌, ◌++◌, ◌/◌, ◌%◌, nat_le, ◌&&◌, ◌||◌, Bool, if◌then◌else◌}
+use Rattle.std.specs.Prelude.{ℕ, List, [], ◌∷◌, ◌++◌, ◌+◌, ◌*◌, ◌/◌, ◌%◌, nat_le, ◌==◌, ◌&&◌, ◌||◌, Bool, if◌then◌else◌}
 use Rattle.std.specs.List.{flat_map}
-use Rattle.login_base.specs.Hex.{hex_digit}
+use Rattle.login_base.specs.Hex.{hex_digit, hex_value}
 use Rattle.login_base.specs.Names.{is_digit}
 
 abbrev pub is_letter : ℕ → Bool
@@ -23,3 +23,10 @@ later_byte b = if is_letter b || is_digit b then b ∷ [] else escape_of b
 abbrev pub escape : List ℕ → List ℕ
 escape [] = 95 ∷ []
 escape (b ∷ bs) = first_byte b ++ flat_map later_byte bs
+
+-- the bytes of which an element that escapes some is made; `_` alone is no byte
+abbrev pub decoded : List ℕ → List ℕ
+decoded [] = []
+decoded (a ∷ []) = if a == 95 then [] else a ∷ []
+decoded (a ∷ b ∷ []) = a ∷ decoded (b ∷ [])
+decoded (a ∷ b ∷ c ∷ rest) = if a == 95 then (16 * hex_value b + hex_value c) ∷ decoded rest else a ∷ decoded (b ∷ c ∷ rest)

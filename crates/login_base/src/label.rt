@@ -1,10 +1,10 @@
 // Texts as elements of object paths.
 
-ghost use Rattle.std.specs.Prelude.{◌≡◌, ◌≤◌, ◌+◌, ◌++◌, OnOk, IfOk};
+ghost use Rattle.std.specs.Prelude.{◌≡◌, ◌≤◌, ◌<◌, ◌+◌, ◌++◌, ◌∷◌, [], OnOk, IfOk, IfSome, MatchOption, length};
 ghost use Rattle.std.specs.List.{flat_map};
-ghost use Rattle.login_base.specs.Labels.{is_letter, escape_of, first_byte, later_byte, escape};
+ghost use Rattle.login_base.specs.Labels.{is_letter, escape_of, first_byte, later_byte, escape, decoded};
 
-use crate::hex::hex_digit;
+use crate::hex::{hex_digit, hex_value};
 use crate::memory::NoMemory;
 use crate::word::Word;
 use std::alloc::Global;
@@ -60,4 +60,34 @@ pub fn escape(alloc: Global, text: &[u8]) -> Result<Word, NoMemory>
             Ok(Word::from_vec(out))
         }
     }
+}
+
+/// The first byte of the text of which an element is the escape, and what is behind it: an underscore and two
+/// digits are one byte, and an underscore at the end is none.
+pub fn first_decoded(element: &[u8]) -> Option<(u8, &[u8])>
+    ensures value { MatchOption result (decoded element.now ≡ []) (λ it. decoded element.now ≡ it.0 ∷ decoded it.1.now) }
+    ensures shorter { IfSome result (λ it. length it.1.now < length element.now) }
+{
+    match element {
+        [] | [b'_'] => None,
+        [b'_', high, low, rest @ ..] => {
+            let high = hex_value(*high).unwrap_or(0);
+            let low = hex_value(*low).unwrap_or(0);
+            Some((16 * high + low, rest))
+        }
+        [byte, rest @ ..] => Some((*byte, rest)),
+    }
+}
+
+/// The text of which an element may be the escape.
+pub fn decoded(alloc: Global, element: &[u8]) -> Result<Vec<u8>, NoMemory>
+    ensures { IfOk result (λ text. text.items ≡ decoded element.now) }
+{
+    let mut text = Vec::new(alloc);
+    let mut rest = element;
+    while let Some((byte, behind)) = first_decoded(rest) {
+        text.push(byte)?;
+        rest = behind;
+    }
+    Ok(text)
 }

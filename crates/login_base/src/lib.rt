@@ -21,7 +21,7 @@ pub use front::drop_front;
 pub use hex::{hex_digit, hex_value, is_hex_digit};
 pub use ids::{ConnId, DevNo, HandleNo, LockNo, Millis, SessId, Uid};
 pub use items::{Bytes, Items};
-pub use label::escape;
+pub use label::{decoded, escape, first_decoded};
 pub use lines::first_line;
 pub use memory::NoMemory;
 pub use number::{read_number, read_whole};

@@ -12,7 +12,8 @@ use Rattle.login_base.specs.Seat.{is_seat_byte, is_seat_name}
 use Rattle.login_base.specs.SessionId.{session_of}
 use Rattle.login_base.proofs.Decimals.{decimal_short}
 use Rattle.login_base.proofs.Numbers.{number_of_none}
-use Rattle.login_model.specs.Objects.{begins, behind, decoded, is_label, is_number, is_object, seat_at, session_at}
+use Rattle.login_base.specs.Labels.{decoded}
+use Rattle.login_model.specs.Objects.{begins, behind, is_label, is_number, is_object, seat_at, session_at}
 use Rattle.login_model.specs.Paths.{seat_front, session_front, user_front}
 
 -- ---- texts that are longer than any name

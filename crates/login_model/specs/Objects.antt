@@ -1,9 +1,8 @@
 -- The objects that have properties: their paths, what these name, and their interfaces (org.freedesktop.login1(5)).
-use Rattle.std.specs.Prelude.{ℕ, ◌+◌, ◌*◌, ◌==◌, ◌&&◌, ◌||◌, Bool, true, if◌then◌else◌, Option, Some, None, Result, Ok, Err, List, [], ◌∷◌, length, take, drop, codes}
+use Rattle.std.specs.Prelude.{ℕ, ◌&&◌, ◌||◌, Bool, true, if◌then◌else◌, Option, Some, None, Result, Ok, Err, List, [], ◌∷◌, length, take, drop, codes}
 use Rattle.std.specs.Option.{is_some, option_map}
 use Rattle.std.specs.Str.{bytes_eq}
-use Rattle.login_base.specs.Hex.{hex_value}
-use Rattle.login_base.specs.Labels.{escape}
+use Rattle.login_base.specs.Labels.{decoded, escape}
 use Rattle.login_base.specs.Number.{number_of}
 use Rattle.login_base.specs.Seat.{is_seat_name}
 use Rattle.login_base.specs.SessionId.{session_of}
@@ -16,13 +15,6 @@ use Rattle.login_model.specs.Paths.{manager_path, session_front, seat_front, use
 use Rattle.login_model.specs.PropertyNames.{manager_named, seat_named, session_named, user_named}
 
 -- ---- elements of paths
-
--- the bytes of which an element that escapes some is made; `_` alone is no byte
-abbrev pub decoded : List ℕ → List ℕ
-decoded [] = []
-decoded (a ∷ []) = if a == 95 then [] else a ∷ []
-decoded (a ∷ b ∷ []) = a ∷ decoded (b ∷ [])
-decoded (a ∷ b ∷ c ∷ rest) = if a == 95 then (16 * hex_value b + hex_value c) ∷ decoded rest else a ∷ decoded (b ∷ c ∷ rest)
 
 -- an element of a path that is the escape of a text
 abbrev pub is_label : List ℕ → Bool

@@ -1,8 +1,9 @@
 // The objects that have properties, and their paths (org.freedesktop.login1(5)).
 
-ghost use Rattle.std.specs.Prelude.{◌≡◌, ◌≤◌, ◌<◌, ◌∷◌, [], IfOk, IfSome, IsNone, MatchOption, length, take};
+ghost use Rattle.std.specs.Prelude.{◌≡◌, ◌≤◌, ◌<◌, IfOk, IfSome, IsNone, length, take};
 ghost use Rattle.login_base.specs.Limits.{most_seat_name};
-ghost use Rattle.login_model.specs.Objects.{decoded, is_label, is_object, named_object, seat_at, session_at, user_at};
+ghost use Rattle.login_base.specs.Labels.{decoded};
+ghost use Rattle.login_model.specs.Objects.{is_label, is_object, named_object, seat_at, session_at, user_at};
 
 use crate::paths::{
     MANAGER_INTERFACE, MANAGER_PATH, SEAT_FRONT, SEAT_INTERFACE, SESSION_FRONT, SESSION_INTERFACE,
@@ -11,7 +12,8 @@ use crate::paths::{
 use crate::property::{ManagerProperty, SeatProperty, SessionProperty, UserProperty};
 use crate::rule::Rule;
 use login_base::{
-    LONGEST_SEAT_NAME, NoMemory, SeatName, SessId, Uid, escape, hex_value, is_text, read_number,
+    LONGEST_SEAT_NAME, NoMemory, SeatName, SessId, Uid, decoded, escape, first_decoded, is_text,
+    read_number,
 };
 use std::alloc::Global;
 
@@ -65,36 +67,6 @@ impl Object {
     {
         self.is_own_interface(interface) && self.has_named(name)
     }
-}
-
-/// The first byte of the text of which an element is the escape, and what is behind it: an underscore and two
-/// digits are one byte, and an underscore at the end is none.
-fn first_decoded(element: &[u8]) -> Option<(u8, &[u8])>
-    ensures value { MatchOption result (decoded element.now ≡ []) (λ it. decoded element.now ≡ it.0 ∷ decoded it.1.now) }
-    ensures shorter { IfSome result (λ it. length it.1.now < length element.now) }
-{
-    match element {
-        [] | [b'_'] => None,
-        [b'_', high, low, rest @ ..] => {
-            let high = hex_value(*high).unwrap_or(0);
-            let low = hex_value(*low).unwrap_or(0);
-            Some((16 * high + low, rest))
-        }
-        [byte, rest @ ..] => Some((*byte, rest)),
-    }
-}
-
-/// The text of which an element may be the escape.
-fn decoded(alloc: Global, element: &[u8]) -> Result<Vec<u8>, NoMemory>
-    ensures { IfOk result (λ text. text.items ≡ decoded element.now) }
-{
-    let mut text = Vec::new(alloc);
-    let mut rest = element;
-    while let Some((byte, behind)) = first_decoded(rest) {
-        text.push(byte)?;
-        rest = behind;
-    }
-    Ok(text)
 }
 
 /// Puts the text of which an element may be the escape at the front of memory, and tells how long it is; none where

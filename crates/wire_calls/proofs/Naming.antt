@@ -4,10 +4,10 @@ use Rattle.std.specs.Prelude.{◌↔◌}
 use Rattle.std.specs.Option.{option_and_then, option_map}
 use Rattle.std.specs.Str.{bytes_eq}
 use Rattle.std.proofs.lemmas.Slice.Eq.{bytes_eq-Decides}
-use Rattle.login_base.specs.Labels.{escape}
+use Rattle.login_base.specs.Labels.{decoded, escape}
 use Rattle.login_base.specs.Number.{number_of}
 use Rattle.login_base.proofs.Numbers.{number_of_is}
-use Rattle.bus_names.specs.Unescape.{candidate, unescaped}
+use Rattle.bus_names.specs.Unescape.{unescaped}
 use Rattle.login_base.specs.Texts.{is_text}
 use Rattle.wire_calls.specs.declared.object.Object.{Object}
 use Rattle.wire_calls.specs.declared.object.Object.TheVariants.{Session, Seat, User}
@@ -42,7 +42,7 @@ by_label path label make text false e f = tt
 labelled : (path label : List ℕ) (make : List ℕ → Object)
     → ((x : List ℕ) → escape x ≡ label → is_text x ≡ true → IsOf path (Some (make x))) → IsOf path (option_map make (text_of label))
 unfolding unescaped
-labelled path label make f = by_label path label make (candidate label) (bytes_eq (escape (candidate label)) label) refl f
+labelled path label make f = by_label path label make (decoded label) (bytes_eq (escape (decoded label)) label) refl f
 
 numbered : (path digits : List ℕ) (o : Option ℕ) → number_of digits ≡ o → path ≡ user_front ++ digits → IsOf path (option_map User (option_map (λ n. record { 0 = n }) o))
 numbered path digits None e is = tt

@@ -1,28 +1,28 @@
 -- A path that is an object's with properties is that of such an object.
-use Rattle.std.proofs.Common.{◌≡◌, ℕ, zero, suc, ◌+◌, ◌*◌, ◌/◌, ◌%◌, ◌^◌, ◌<◌, List, [], ◌∷◌, ◌++◌, get_or, refl, arith, ap, sym, ◌∙◌, Bool, true, false, not, eqb, ltb, leb, ◌&&◌, ◌||◌, cond, Option, Some, None}
+use Rattle.std.proofs.Common.{◌≡◌, ℕ, zero, suc, ◌+◌, ◌^◌, ◌<◌, List, [], ◌∷◌, ◌++◌, get_or, refl, arith, ap, sym, ◌∙◌, Bool, true, false, not, eqb, ltb, leb, ◌&&◌, ◌||◌, Option, Some, None}
 use Rattle.std.specs.Fmt.{decimal}
-use Rattle.std.specs.List.{flat_map, list_all}
+use Rattle.std.specs.List.{list_all}
 use Rattle.std.specs.Option.{is_some}
 use Rattle.std.specs.Str.{bytes_eq}
 use Rattle.std.proofs.lemmas.Bool.Decides.{nat_tests}
 use Rattle.std.proofs.lemmas.List.Folds.{list_all-append}
 use Rattle.std.proofs.lemmas.Slice.Eq.{bytes_eq-Decides}
 use Rattle.std.proofs.lemmas.Str.{IsUtf8-from_ascii, is_utf8-from_IsUtf8}
-use Rattle.login_base.specs.Hex.{hex_digit, hex_value}
-use Rattle.login_base.specs.Labels.{escape, escape_of, is_letter, later_byte}
-use Rattle.login_base.specs.Names.{is_digit, is_word_byte}
+use Rattle.login_base.specs.Labels.{decoded, escape}
+use Rattle.login_base.specs.Names.{is_word_byte}
 use Rattle.login_base.specs.Number.{number_of}
 use Rattle.login_base.specs.Texts.{is_text}
+use Rattle.login_base.proofs.Escapes.{decoded-escape}
 use Rattle.login_base.proofs.Texts.{utf8_bytes}
 use Rattle.login_base.proofs.Numbers.{number_of-decimal, number_of_is}
-use Rattle.login_model.specs.Objects.{begins, behind, decoded, is_label, is_number, is_object, is_under}
+use Rattle.login_model.specs.Objects.{begins, behind, is_label, is_number, is_object, is_under}
 use Rattle.wire_calls.specs.declared.object.Object.{Object}
 use Rattle.wire_calls.specs.declared.object.Object.TheVariants.{Manager, Session, Seat, User, Machine, Bus}
 use Rattle.wire_calls.specs.Objects.{HasName, bus_path, has_properties, machine_path, manager_path, object_of, path_of, seat_front, session_front, user_front}
 use Rattle.wire_calls.proofs.Labels.{AreWords, escape_words}
 use Rattle.wire_calls.proofs.Naming.{one_path, whole}
 use Rattle.wire_calls.proofs.ObjectPaths.{number_words}
-use Rattle.wire_calls.proofs.TextBytes.{AreBytes, both, text_utf8}
+use Rattle.wire_calls.proofs.TextBytes.{both, text_utf8}
 
 pub record HasProperties (path : List ℕ) : Type 0 where
   pub object : Object
@@ -64,38 +64,6 @@ has_properties_at path e =
     e
 
 -- ---- the other way
-
-value_of_digit : (n : ℕ) → n < 16 → hex_value (hex_digit n) ≡ n
-value_of_digit n h = grind (arith, nat_tests)
-
-escaped_byte : (b : ℕ) → b < 256 → 16 * hex_value (hex_digit (b / 16)) + hex_value (hex_digit (b % 16)) ≡ b
-escaped_byte b h =
-    let high : hex_value (hex_digit (b / 16)) ≡ b / 16 = value_of_digit (b / 16) (omega arith) in
-    let low : hex_value (hex_digit (b % 16)) ≡ b % 16 = value_of_digit (b % 16) (omega arith) in
-    rw (high, low) (omega arith)
-
-decoded_plain : (b : ℕ) (rest : List ℕ) → eqb b 95 ≡ false → decoded (b ∷ rest) ≡ b ∷ decoded rest
-decoded_plain b [] e = rw e refl
-decoded_plain b (c ∷ []) e = refl
-decoded_plain b (c ∷ d ∷ rest) e = rw e refl
-
-decoded_piece : (plain : Bool) (b : ℕ) (rest : List ℕ) → (plain ≡ true → eqb b 95 ≡ false) → b < 256 → decoded (cond plain (b ∷ []) (escape_of b) ++ rest) ≡ b ∷ decoded rest
-decoded_piece true b rest h s = decoded_plain b rest (h refl)
-decoded_piece false b rest h s = ap (λ (n : ℕ). n ∷ decoded rest) (escaped_byte b s)
-
-no_underscore : (b : ℕ) → is_letter b || is_digit b ≡ true → eqb b 95 ≡ false
-no_underscore b e = grind (arith, nat_tests)
-
-no_letter : (b : ℕ) → is_letter b ≡ true → eqb b 95 ≡ false
-no_letter b e = grind (arith, nat_tests)
-
-decoded_later : (text : List ℕ) → AreBytes text → decoded (flat_map later_byte text) ≡ text
-decoded_later [] h = refl
-decoded_later (b ∷ bs) h = decoded_piece (is_letter b || is_digit b) b (flat_map later_byte bs) (no_underscore b) h.0 ∙ ap (λ (t : List ℕ). b ∷ t) (decoded_later bs h.1)
-
-decoded-escape : (text : List ℕ) → AreBytes text → decoded (escape text) ≡ text
-decoded-escape [] h = refl
-decoded-escape (b ∷ bs) h = decoded_piece (is_letter b) b (flat_map later_byte bs) (no_letter b) h.0 ∙ ap (λ (t : List ℕ). b ∷ t) (decoded_later bs h.1)
 
 label : (text : List ℕ) → is_text text ≡ true → is_label (escape text) ≡ true
 label text h =

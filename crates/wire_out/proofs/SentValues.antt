@@ -17,7 +17,8 @@ use Rattle.login_base.proofs.Decimals.{decimal_short}
 use Rattle.login_model.specs.Answers.{get_all_answer, get_answer, property_answer}
 use Rattle.login_model.specs.Conf.{IsAllowed}
 use Rattle.login_model.specs.Limits.{name_limit, text_limit}
-use Rattle.login_model.specs.Objects.{begins, behind, decoded, is_own_interface, named_object, or_rule, seat_at, session_at, user_at}
+use Rattle.login_base.specs.Labels.{decoded}
+use Rattle.login_model.specs.Objects.{begins, behind, is_own_interface, named_object, or_rule, seat_at, session_at, user_at}
 use Rattle.login_model.specs.Paths.{manager_path, seat_front, session_front, user_front}
 use Rattle.login_model.specs.Properties.{data_value, fact_value, manager_row, manager_value, rows_of, scope_name, seat_row, seat_value, session_property_row, session_state, session_value, slice_name, user_row, user_state, user_value, value_of}
 use Rattle.login_model.specs.PropertyNames.{manager_named, manager_properties, seat_named, seat_properties, session_named, session_properties, user_named, user_properties}

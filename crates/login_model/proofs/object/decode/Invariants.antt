@@ -1,6 +1,6 @@
 use Rattle.std.proofs.Common.{◌≡◌, ◌≤◌, ◌++◌, length, take}
 use Rattle.login_base.specs.Limits.{most_seat_name}
-use Rattle.login_model.specs.Objects.{decoded}
+use Rattle.login_base.specs.Labels.{decoded}
 use Rattle.login_model.proofs.object.decode.Given as goal
 
 -- the bytes so far, and those of what is left

@@ -1,6 +1,6 @@
 use Rattle.std.proofs.Common.{◌≡◌, ◌++◌, length}
-use Rattle.login_model.specs.Objects.{decoded}
-use Rattle.login_model.proofs.object.decoded.Given as goal
+use Rattle.login_base.specs.Labels.{decoded}
+use Rattle.login_base.proofs.label.decoded.Given as goal
 
 -- the bytes so far, and those of what is left
 abbrev pub invariant-loop-byte : goal.invariant-loop-byte
