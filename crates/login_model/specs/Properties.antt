@@ -8,8 +8,6 @@ use Rattle.login_base.specs.declared.ids.LockNo.{LockNo}
 use Rattle.login_base.specs.declared.ids.SessId.{SessId}
 use Rattle.login_base.specs.declared.ids.Uid.{Uid}
 use Rattle.login_base.specs.SessionId.{session_text}
-use Rattle.login_model.specs.declared.fact.Fact.{Fact}
-use Rattle.login_model.specs.declared.fact.Fact.TheVariants as fact
 use Rattle.login_model.specs.declared.fact.Key.TheVariants as key
 use Rattle.login_model.specs.declared.lock.Inhibited.{Inhibited}
 use Rattle.login_model.specs.declared.lock.LockMode.{LockMode}
@@ -35,7 +33,7 @@ use Rattle.login_model.specs.declared.session.Session.{Session as Data}
 use Rattle.login_model.specs.declared.setup.Setup.{Setup}
 use Rattle.login_model.specs.declared.state.State.{State}
 use Rattle.login_model.specs.declared.state.State.TheVariants.{Active, Online, Lingering, Closing}
-use Rattle.login_model.specs.Facts.{inhibited_in, is_open_of, under_way_in}
+use Rattle.login_model.specs.Facts.{inhibited_in, is_open_of, session_in_fact, under_way_in}
 use Rattle.login_model.specs.PropertyNames.{manager_named, manager_properties, seat_named, seat_properties, session_named, session_properties, user_named, user_properties}
 use Rattle.login_model.specs.Start.{seat0}
 use Rattle.login_model.specs.Taking.{has_graphics}
@@ -156,12 +154,12 @@ data_value U t s x session.IdleHint = Flag (is_set (value t (key.Idle s)))
 data_value U t s x session.LockedHint = Flag (is_set (value t (key.Locked s)))
 
 -- a session that was never made is asked for nothing
-abbrev pub fact_value : Setup → Trail → SessId → Fact → SessionProperty → PropertyValue
-fact_value U t s (fact.Session x) p = data_value U t s x p
-fact_value U t s _ p = Flag false
+abbrev pub known_value : Setup → Trail → SessId → Option Data → SessionProperty → PropertyValue
+known_value U t s (Some x) p = data_value U t s x p
+known_value U t s None p = Flag false
 
 abbrev pub session_value : Setup → Trail → SessId → SessionProperty → PropertyValue
-session_value U t s p = fact_value U t s (value t (key.Sess s)) p
+session_value U t s p = known_value U t s (session_in_fact (value t (key.Sess s))) p
 
 -- ---- a user
 

@@ -42,13 +42,14 @@ use Rattle.login_model.specs.declared.setup.Setup.{Setup}
 use Rattle.login_model.specs.declared.setup.UserRow.{UserRow}
 use Rattle.login_model.specs.Answers.{answer, call_answer, can, get_all_answer, get_answer, known_user, marks_answer, property_answer, session_row}
 use Rattle.login_model.specs.Direct.{at_session, direct, direct_call, exit, happen, is_overdue_fact, leave_known, linger, overdue, user_or_root, tick}
+use Rattle.login_model.specs.Facts.{session_in_fact}
 use Rattle.login_model.specs.Full.{full}
 use Rattle.login_model.specs.Legal.{IsLegal, IsLegalAfter, IsLegalEntry, answered, stepped, trail_of}
 use Rattle.login_model.specs.Objects.{is_own_interface, named_object}
 use Rattle.login_model.specs.Policy.{bad_arguments, call_rules, first_broken, fits_creation, hardware_rules, key_rules, linger_action, action_refused, action_challenge, meant_user, no_such_seat_of, no_such_user, nobody, not_root, rules, too_many_sessions, verdict, vt_busy_on, broken_if}
 use Rattle.login_model.specs.Power.{key_action}
 use Rattle.login_model.specs.Procedure.{each, forget, leave}
-use Rattle.login_model.specs.Properties.{data_value, fact_value, manager_value, rows_of, user_value, value_of}
+use Rattle.login_model.specs.Properties.{data_value, known_value, manager_value, rows_of, user_value, value_of}
 use Rattle.login_model.specs.PropertyNames.{manager_named, manager_properties, session_named, session_properties, user_named, user_properties}
 use Rattle.login_model.specs.Settle.{settle}
 use Rattle.login_model.specs.Trail.{Trail, put, value}
@@ -176,7 +177,7 @@ module _ (U : Setup) (rows : List UserRow) (same : SayTheSame rows U.users) wher
   data_value-same t s x session.Name = ap Text (name_same x.uid.0)
   data_value-same t s x _ = refl
 
-  session_value-same : (t : Trail) (s : SessId) (f : Fact) (p : SessionProperty) → fact_value V t s f p ≡ fact_value U t s f p
+  session_value-same : (t : Trail) (s : SessId) (f : Fact) (p : SessionProperty) → known_value V t s (session_in_fact f) p ≡ known_value U t s (session_in_fact f) p
   session_value-same t s (fact.Session x) p = data_value-same t s x p
   session_value-same t s _ p = refl
 

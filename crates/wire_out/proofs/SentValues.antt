@@ -16,11 +16,12 @@ use Rattle.login_base.proofs.Numbers.{number_of_is}
 use Rattle.login_base.proofs.Decimals.{decimal_short}
 use Rattle.login_model.specs.Answers.{get_all_answer, get_answer, property_answer}
 use Rattle.login_model.specs.Conf.{IsAllowed}
+use Rattle.login_model.specs.Facts.{session_in_fact}
 use Rattle.login_model.specs.Limits.{name_limit, text_limit}
 use Rattle.login_base.specs.Labels.{decoded}
 use Rattle.login_model.specs.Objects.{begins, behind, is_own_interface, named_object, or_rule, seat_at, session_at, user_at}
 use Rattle.login_model.specs.Paths.{manager_path, seat_front, session_front, user_front}
-use Rattle.login_model.specs.Properties.{data_value, fact_value, manager_row, manager_value, rows_of, scope_name, seat_row, seat_value, session_property_row, session_state, session_value, slice_name, user_row, user_state, user_value, value_of}
+use Rattle.login_model.specs.Properties.{data_value, known_value, manager_row, manager_value, rows_of, scope_name, seat_row, seat_value, session_property_row, session_state, session_value, slice_name, user_row, user_state, user_value, value_of}
 use Rattle.login_model.specs.PropertyNames.{manager_named, manager_properties, seat_named, seat_properties, session_named, session_properties, user_named, user_properties}
 use Rattle.login_model.specs.Setups.{IsSetup, IsUserRow}
 use Rattle.login_model.specs.Texts.{IsText}
@@ -233,7 +234,7 @@ data-sent U t s x u n f session.State = state-text (session_state t s)
 data-sent U t s x u n f session.IdleHint = tt
 data-sent U t s x u n f session.LockedHint = tt
 
-fact-sent : (U : Setup) (t : Trail) (s : SessId) (x : Fact) → IsSetup U → IsNumber s.0 → IsNamedFact U (key.Sess s) x → (p : SessionProperty) → CanBeValue (fact_value U t s x p)
+fact-sent : (U : Setup) (t : Trail) (s : SessId) (x : Fact) → IsSetup U → IsNumber s.0 → IsNamedFact U (key.Sess s) x → (p : SessionProperty) → CanBeValue (known_value U t s (session_in_fact x) p)
 fact-sent U t s (fact.Session x) u n f p = data-sent U t s x u n f p
 fact-sent U t s _ u n f p = tt
 

@@ -7,9 +7,7 @@ ghost use Rattle.login_model.specs.declared.property.Property.TheVariants.{Sessi
 use crate::kind::OfKind;
 use crate::values::{seat, text};
 use login_base::{NoMemory, SessId, Word};
-use login_model::{
-    Fact, Key, Look, Property, PropertyValue, Session, SessionProperty, Setup, State,
-};
+use login_model::{Key, Look, Property, PropertyValue, Session, SessionProperty, Setup, State};
 use login_table::{is_active, seat_of_session};
 use std::alloc::Global;
 
@@ -117,9 +115,9 @@ impl OfKind<SessId> for SessionProperty {
         setup: &Setup,
         name: SessId,
     ) -> Result<PropertyValue, NoMemory> {
-        match facts.fact(&Key::Sess(name)) {
-            Fact::Session(data) => data_value(alloc, facts, setup, name, data.get(), self),
-            _ => Ok(PropertyValue::Flag(false)),
+        match facts.fact(&Key::Sess(name)).session() {
+            Some(known) => data_value(alloc, facts, setup, name, known, self),
+            None => Ok(PropertyValue::Flag(false)),
         }
     }
 }
