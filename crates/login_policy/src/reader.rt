@@ -17,15 +17,9 @@ use std::alloc::{AllocError, Global};
 fn read_say(word: &[u8]) -> Option<Say>
     ensures { result ≡ say_named word.now }
 {
-    if word == b"yes".as_slice() {
-        Some(Say::Yes)
-    } else if word == b"no".as_slice() {
-        Some(Say::No)
-    } else if word == b"challenge".as_slice() {
-        Some(Say::Challenge)
-    } else {
-        None
-    }
+    [Say::Yes, Say::No, Say::Challenge]
+        .into_iter()
+        .find(|say| word == say.name())
 }
 
 /// The row of three cells.
