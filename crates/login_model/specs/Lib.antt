@@ -33,7 +33,6 @@ pub mod Settle
 pub mod Objects
 pub mod Paths
 pub mod Texts
-pub mod Named
 pub mod Stopping
 pub mod Legal
 pub mod Full

@@ -2,8 +2,9 @@
 // machine's interface and of the D-Bus Specification that is answered, and four for other messages.
 
 use crate::boxed::Boxed;
+use crate::named::NamedSession;
 use crate::operation::OpKind;
-use login_base::{DevNo, HandleNo, SessId, Uid, Word};
+use login_base::{DevNo, HandleNo, Uid, Word};
 
 /// What CreateSession of org.freedesktop.login1(5) is called with.
 #[derive(Debug, Drop)]
@@ -53,7 +54,7 @@ pub enum Call {
     /// Manager.CreateSession.
     Create(Boxed<Creation>),
     /// Manager.GetSession.
-    GetSession(Word),
+    GetSession(NamedSession),
     /// Manager.GetUser.
     GetUser(Uid),
     /// Manager.GetSeat.
@@ -67,21 +68,21 @@ pub enum Call {
     /// Manager.ListInhibitors.
     ListInhibitors,
     /// Manager.ActivateSession, or Session.Activate.
-    Activate(Word),
+    Activate(NamedSession),
     /// Manager.ActivateSessionOnSeat, or Seat.ActivateSession: a session and a seat.
-    ActivateOnSeat(Word, Word),
+    ActivateOnSeat(NamedSession, Word),
     /// Manager.LockSession, or Session.Lock.
-    Lock(Word),
+    Lock(NamedSession),
     /// Manager.UnlockSession, or Session.Unlock.
-    Unlock(Word),
+    Unlock(NamedSession),
     /// Manager.LockSessions.
     LockAll,
     /// Manager.UnlockSessions.
     UnlockAll,
     /// Manager.KillSession, or Session.Kill: a session, which of its processes, and the signal.
-    Kill(Word, Word, i32),
+    Kill(NamedSession, Word, i32),
     /// Manager.TerminateSession, or Session.Terminate.
-    Terminate(Word),
+    Terminate(NamedSession),
     /// Manager.TerminateUser, or User.Terminate.
     TerminateUser(Uid),
     /// Manager.TerminateSeat, or Seat.Terminate.
@@ -95,19 +96,19 @@ pub enum Call {
     /// Manager.Inhibit.
     Inhibit(Inhibition),
     /// Session.SetIdleHint.
-    SetIdle(Word, bool),
+    SetIdle(NamedSession, bool),
     /// Session.SetLockedHint.
-    SetLocked(Word, bool),
+    SetLocked(NamedSession, bool),
     /// Session.TakeControl of the session with this id, and whether by force.
-    Control(Word, bool),
+    Control(NamedSession, bool),
     /// Session.ReleaseControl of the session with this id.
-    Uncontrol(Word),
+    Uncontrol(NamedSession),
     /// Session.TakeDevice.
-    TakeDevice(Word, DevNo),
+    TakeDevice(NamedSession, DevNo),
     /// Session.ReleaseDevice.
-    ReleaseDevice(Word, DevNo),
+    ReleaseDevice(NamedSession, DevNo),
     /// Session.PauseDeviceComplete.
-    PauseComplete(Word, DevNo),
+    PauseComplete(NamedSession, DevNo),
     /// Seat.SwitchTo: a seat and a virtual terminal.
     SwitchTo(Word, u32),
     /// Seat.SwitchToNext.
@@ -148,32 +149,4 @@ pub enum Call {
     NoMethod,
     /// A call whose arguments have other types, or one of whose texts has more than 512 bytes.
     BadArguments,
-}
-
-impl Call {
-    ghost use Rattle.std.specs.Prelude.{◌≡◌};
-    ghost use Rattle.login_model.specs.Named.{named_session};
-
-    /// The session whose id the call has, whether there is one or not; none where it is no id.
-    pub fn session(&self) -> Option<SessId>
-        ensures { result ≡ named_session self.now }
-    {
-        match self {
-            Call::GetSession(id)
-            | Call::Activate(id)
-            | Call::ActivateOnSeat(id, _)
-            | Call::Lock(id)
-            | Call::Unlock(id)
-            | Call::Kill(id, _, _)
-            | Call::Terminate(id)
-            | Call::SetIdle(id, _)
-            | Call::SetLocked(id, _)
-            | Call::Control(id, _)
-            | Call::Uncontrol(id)
-            | Call::TakeDevice(id, _)
-            | Call::ReleaseDevice(id, _)
-            | Call::PauseComplete(id, _) => SessId::read(id.as_slice()),
-            _ => None,
-        }
-    }
 }

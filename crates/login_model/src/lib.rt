@@ -17,6 +17,7 @@ mod journal;
 mod lock;
 mod look;
 mod mark;
+mod named;
 mod object;
 mod operation;
 mod paths;
@@ -45,6 +46,7 @@ pub use journal::Journal;
 pub use lock::{Inhibited, Lock, LockMode};
 pub use look::Look;
 pub use mark::{Entry, Mark, Notice, PauseKind, Whom};
+pub use named::NamedSession;
 pub use object::{Object, is_object, named_object};
 pub use operation::{OpKind, Operation};
 pub use paths::{
