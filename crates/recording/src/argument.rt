@@ -14,7 +14,9 @@ use crate::word::{
     moment, number, operation, positive, seat, signed, small, text,
 };
 use login_base::{Bytes, ConnId, DevNo, HandleNo, Millis, NoMemory, SeatName, Uid, Word};
-use login_model::{Boxed, Creation, DevKind, HardKey, Inhibition, OpKind, PropertyName};
+use login_model::{
+    Boxed, Creation, DevKind, HardKey, Inhibition, NamedSession, OpKind, PropertyName,
+};
 use std::alloc::Global;
 
 /// A kind of word.
@@ -287,6 +289,25 @@ impl Argument for Word {
         };
         let value = or_cause(text(alloc, word, LONGEST_TEXT), LineFault::BadHex)?;
         Ok((value, words))
+    }
+}
+
+impl Argument for NamedSession {
+    ghost use Rattle.std.specs.Prelude.{[], ◌∷◌};
+    ghost use Rattle.recording.specs.declared.argument.WordKind.TheVariants.{Text as kind};
+    ghost use Rattle.recording.specs.Words.{text_of};
+    ghost use Rattle.recording.specs.inner.Arguments.{single};
+
+    ghost kinds = { kind ∷ [] };
+
+    ghost of = { single (text_of line_limit) };
+
+    fn take<'a>(
+        alloc: Global,
+        words: &'a [&'a [u8]],
+    ) -> Result<(NamedSession, &'a [&'a [u8]]), LineFault> {
+        let (text, words) = Word::take(alloc, words)?;
+        Ok((NamedSession::new(text), words))
     }
 }
 

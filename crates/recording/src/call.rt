@@ -18,7 +18,7 @@ use crate::line::LineFault;
 use crate::line_text::LineText;
 use crate::word::is_word;
 use login_base::{DevNo, NoMemory, Uid, Word};
-use login_model::{Call, Creation, Inhibition, OpKind, PropertyName};
+use login_model::{Call, Creation, Inhibition, NamedSession, OpKind, PropertyName};
 use std::alloc::Global;
 
 /// A call of the bus itself, of a property, or a word for another message.
@@ -272,12 +272,35 @@ fn push_two(text: &mut LineText, word: &[u8], first: &Word, second: &Word) -> Re
     text.text(second.as_slice())
 }
 
-/// Adds a word, a text and a boolean.
-fn push_switched(text: &mut LineText, word: &[u8], id: &Word, on: bool) -> Result<(), NoMemory>
+/// Adds a word and a session's id.
+fn push_session(text: &mut LineText, word: &[u8], id: &NamedSession) -> Result<(), NoMemory>
+    ensures { OnOk result (text.new ≡ text.old ++ 32 ∷ (word.now ++ 32 ∷ spell_text id.now)) }
+{
+    push_named(text, word, id.text())
+}
+
+/// Adds a word, a session's id and a text.
+fn push_session_with(
+    text: &mut LineText,
+    word: &[u8],
+    id: &NamedSession,
+    second: &Word,
+) -> Result<(), NoMemory>
+    ensures { OnOk result (text.new ≡ text.old ++ 32 ∷ (word.now ++ 32 ∷ (spell_text id.now ++ 32 ∷ spell_text second.now))) }
+{
+    push_two(text, word, id.text(), second)
+}
+
+/// Adds a word, a session's id and a boolean.
+fn push_switched(
+    text: &mut LineText,
+    word: &[u8],
+    id: &NamedSession,
+    on: bool,
+) -> Result<(), NoMemory>
     ensures { OnOk result (text.new ≡ text.old ++ 32 ∷ (word.now ++ 32 ∷ (spell_text id.now ++ 32 ∷ spell_flag on))) }
 {
-    text.word(word)?;
-    text.text(id.as_slice())?;
+    push_session(text, word, id)?;
     text.flag(on)
 }
 
@@ -291,11 +314,15 @@ fn push_placed(text: &mut LineText, word: &[u8], name: &Word, n: u32) -> Result<
 }
 
 /// Adds a word, a session's id and a device's number.
-fn push_aimed(text: &mut LineText, word: &[u8], id: &Word, device: DevNo) -> Result<(), NoMemory>
+fn push_aimed(
+    text: &mut LineText,
+    word: &[u8],
+    id: &NamedSession,
+    device: DevNo,
+) -> Result<(), NoMemory>
     ensures { OnOk result (text.new ≡ text.old ++ 32 ∷ (word.now ++ 32 ∷ (spell_text id.now ++ spaced (device_words device)))) }
 {
-    text.word(word)?;
-    text.text(id.as_slice())?;
+    push_session(text, word, id)?;
     push_device(text, device)
 }
 
@@ -318,10 +345,15 @@ fn push_linger(text: &mut LineText, uid: Uid, on: bool) -> Result<(), NoMemory>
 }
 
 #[tactic(auto, unfolding(crate::specs::Calls::call_words))]
-fn push_kill(text: &mut LineText, id: &Word, who: &Word, signal: i32) -> Result<(), NoMemory>
+fn push_kill(
+    text: &mut LineText,
+    id: &NamedSession,
+    who: &Word,
+    signal: i32,
+) -> Result<(), NoMemory>
     ensures { OnOk result (text.new ≡ text.old ++ spaced (call_words (Call.Kill id.now who.now signal))) }
 {
-    push_two(text, b"kill", id, who)?;
+    push_session_with(text, b"kill", id, who)?;
     text.signed(signal)
 }
 
@@ -332,21 +364,21 @@ pub(crate) fn push_call(text: &mut LineText, call: &Call) -> Result<(), NoMemory
 {
     match call {
         Call::Create(x) => push_creation(text, x.get()),
-        Call::GetSession(id) => push_named(text, b"get-session", id),
+        Call::GetSession(id) => push_session(text, b"get-session", id),
         Call::GetUser(uid) => push_numbered(text, b"get-user", uid.0),
         Call::GetSeat(seat) => push_named(text, b"get-seat", seat),
         Call::ListSessions => text.word(b"list-sessions"),
         Call::ListUsers => text.word(b"list-users"),
         Call::ListSeats => text.word(b"list-seats"),
         Call::ListInhibitors => text.word(b"list-inhibitors"),
-        Call::Activate(id) => push_named(text, b"activate", id),
-        Call::ActivateOnSeat(id, seat) => push_two(text, b"activate-on", id, seat),
-        Call::Lock(id) => push_named(text, b"lock", id),
-        Call::Unlock(id) => push_named(text, b"unlock", id),
+        Call::Activate(id) => push_session(text, b"activate", id),
+        Call::ActivateOnSeat(id, seat) => push_session_with(text, b"activate-on", id, seat),
+        Call::Lock(id) => push_session(text, b"lock", id),
+        Call::Unlock(id) => push_session(text, b"unlock", id),
         Call::LockAll => text.word(b"lock-all"),
         Call::UnlockAll => text.word(b"unlock-all"),
         Call::Kill(id, who, signal) => push_kill(text, id, who, *signal),
-        Call::Terminate(id) => push_named(text, b"terminate", id),
+        Call::Terminate(id) => push_session(text, b"terminate", id),
         Call::TerminateUser(uid) => push_numbered(text, b"terminate-user", uid.0),
         Call::TerminateSeat(seat) => push_named(text, b"terminate-seat", seat),
         Call::SetLinger(uid, on) => push_linger(text, *uid, *on),
@@ -356,7 +388,7 @@ pub(crate) fn push_call(text: &mut LineText, call: &Call) -> Result<(), NoMemory
         Call::SetIdle(id, on) => push_switched(text, b"idle", id, *on),
         Call::SetLocked(id, on) => push_switched(text, b"locked", id, *on),
         Call::Control(id, force) => push_switched(text, b"control", id, *force),
-        Call::Uncontrol(id) => push_named(text, b"uncontrol", id),
+        Call::Uncontrol(id) => push_session(text, b"uncontrol", id),
         Call::TakeDevice(id, device) => push_aimed(text, b"take", id, *device),
         Call::ReleaseDevice(id, device) => push_aimed(text, b"release", id, *device),
         Call::PauseComplete(id, device) => push_aimed(text, b"paused", id, *device),

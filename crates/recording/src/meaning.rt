@@ -48,22 +48,25 @@ fn are_short(call: &Call) -> bool
             is_short(&x.what) && is_short(&x.who) && is_short(&x.why) && is_short(&x.mode)
         }
         Call::GetProperty(x) | Call::SetProperty(x) => is_short_property(x),
-        Call::ActivateOnSeat(first, second)
-        | Call::Kill(first, second, _)
-        | Call::GetAllProperties(first, second) => is_short(first) && is_short(second),
-        Call::SetIdle(id, _) | Call::SetLocked(id, _) | Call::Control(id, _) => is_short(id),
-        Call::TakeDevice(id, _) | Call::ReleaseDevice(id, _) | Call::PauseComplete(id, _) => {
-            is_short(id)
+        Call::ActivateOnSeat(id, text) | Call::Kill(id, text, _) => {
+            is_short(id.text()) && is_short(text)
         }
+        Call::GetAllProperties(path, interface) => is_short(path) && is_short(interface),
+        Call::SetIdle(id, _) | Call::SetLocked(id, _) | Call::Control(id, _) => {
+            is_short(id.text())
+        }
+        Call::TakeDevice(id, _) | Call::ReleaseDevice(id, _) | Call::PauseComplete(id, _) => {
+            is_short(id.text())
+        }
+        Call::GetSession(id)
+        | Call::Activate(id)
+        | Call::Lock(id)
+        | Call::Unlock(id)
+        | Call::Terminate(id)
+        | Call::Uncontrol(id) => is_short(id.text()),
         Call::SwitchTo(seat, _) => is_short(seat),
-        Call::GetSession(text)
-        | Call::GetSeat(text)
-        | Call::Activate(text)
-        | Call::Lock(text)
-        | Call::Unlock(text)
-        | Call::Terminate(text)
+        Call::GetSeat(text)
         | Call::TerminateSeat(text)
-        | Call::Uncontrol(text)
         | Call::SwitchToNext(text)
         | Call::SwitchToPrevious(text)
         | Call::GetNameOwner(text)

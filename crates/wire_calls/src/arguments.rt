@@ -6,6 +6,7 @@ ghost use Rattle.wire_calls.specs.Arguments.{are_short, basic_at, device_in, fla
 
 use bus_value::{BasicValue, Value, ValueKind};
 use login_base::{DevNo, NoMemory, Word};
+use login_model::NamedSession;
 use std::alloc::Global;
 
 /// The longest text of a call, in bytes.
@@ -39,6 +40,17 @@ pub(crate) fn text_at(alloc: Global, values: &[Value], place: usize) -> Result<W
         Some(BasicValue::Str(text)) => text.copied(),
         _ => Ok(Word::new(alloc)),
     }
+}
+
+/// The session that the text at a place names.
+pub(crate) fn session_at(
+    alloc: Global,
+    values: &[Value],
+    place: usize,
+) -> Result<NamedSession, NoMemory>
+    ensures { IfOk result (λ named. named ≡ text_at place values.now) }
+{
+    Ok(NamedSession::new(text_at(alloc, values, place)?))
 }
 
 /// The texts at two places.

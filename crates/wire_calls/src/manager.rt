@@ -3,10 +3,10 @@
 ghost use Rattle.std.specs.Prelude.{◌≡◌, IfOk};
 ghost use Rattle.wire_calls.specs.Calls.{creation_of, inhibition_of, manager_call};
 
-use crate::arguments::{flag_at, four_texts, number_at, signed_at, text_at, two_texts};
+use crate::arguments::{flag_at, four_texts, number_at, session_at, signed_at, text_at, two_texts};
 use bus_value::Value;
 use login_base::{NoMemory, Uid};
-use login_model::{Boxed, Call, Creation, Inhibition, OpKind};
+use login_model::{Boxed, Call, Creation, Inhibition, NamedSession, OpKind};
 use std::alloc::Global;
 
 /// A method of the manager (org.freedesktop.login1(5), "The Manager Object").
@@ -230,27 +230,27 @@ pub(crate) fn manager_call(
         ManagerMethod::CreateSession => {
             Call::Create(Boxed::new(alloc, creation(alloc, values)?)?)
         }
-        ManagerMethod::GetSession => Call::GetSession(text_at(alloc, values, 0)?),
+        ManagerMethod::GetSession => Call::GetSession(session_at(alloc, values, 0)?),
         ManagerMethod::GetUser => Call::GetUser(Uid(number_at(values, 0))),
         ManagerMethod::GetSeat => Call::GetSeat(text_at(alloc, values, 0)?),
         ManagerMethod::ListSessions => Call::ListSessions,
         ManagerMethod::ListUsers => Call::ListUsers,
         ManagerMethod::ListSeats => Call::ListSeats,
         ManagerMethod::ListInhibitors => Call::ListInhibitors,
-        ManagerMethod::ActivateSession => Call::Activate(text_at(alloc, values, 0)?),
+        ManagerMethod::ActivateSession => Call::Activate(session_at(alloc, values, 0)?),
         ManagerMethod::ActivateSessionOnSeat => {
             let (id, seat) = two_texts(alloc, values, 0, 1)?;
-            Call::ActivateOnSeat(id, seat)
+            Call::ActivateOnSeat(NamedSession::new(id), seat)
         }
-        ManagerMethod::LockSession => Call::Lock(text_at(alloc, values, 0)?),
-        ManagerMethod::UnlockSession => Call::Unlock(text_at(alloc, values, 0)?),
+        ManagerMethod::LockSession => Call::Lock(session_at(alloc, values, 0)?),
+        ManagerMethod::UnlockSession => Call::Unlock(session_at(alloc, values, 0)?),
         ManagerMethod::LockSessions => Call::LockAll,
         ManagerMethod::UnlockSessions => Call::UnlockAll,
         ManagerMethod::KillSession => {
             let (id, whom) = two_texts(alloc, values, 0, 1)?;
-            Call::Kill(id, whom, signed_at(values, 2))
+            Call::Kill(NamedSession::new(id), whom, signed_at(values, 2))
         }
-        ManagerMethod::TerminateSession => Call::Terminate(text_at(alloc, values, 0)?),
+        ManagerMethod::TerminateSession => Call::Terminate(session_at(alloc, values, 0)?),
         ManagerMethod::TerminateUser => Call::TerminateUser(Uid(number_at(values, 0))),
         ManagerMethod::TerminateSeat => Call::TerminateSeat(text_at(alloc, values, 0)?),
         ManagerMethod::SetUserLinger => {

@@ -18,7 +18,7 @@ use bus_message::made_path;
 use bus_names::ObjectPath;
 use bus_value::{Value, Values};
 use login_base::{NoMemory, Uid, Word};
-use login_model::Call;
+use login_model::{Call, NamedSession};
 use std::alloc::Global;
 
 /// The interface of properties, which some objects have beside their own (D-Bus Specification, "Standard
@@ -119,7 +119,9 @@ impl Method {
     {
         match self {
             Method::Manager(method) => manager_call(alloc, method, values),
-            Method::Session(id, method) => session_call(alloc, id, method, values),
+            Method::Session(id, method) => {
+                session_call(alloc, NamedSession::new(id), method, values)
+            }
             Method::Seat(seat, method) => seat_call(alloc, seat, method, values),
             Method::User(uid, method) => Ok(user_call(uid, method, values)),
             Method::Machine(method) => Ok(machine_call(method, values)),

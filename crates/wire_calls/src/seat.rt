@@ -3,7 +3,7 @@
 ghost use Rattle.std.specs.Prelude.{◌≡◌, IfOk};
 ghost use Rattle.wire_calls.specs.Calls.{seat_call};
 
-use crate::arguments::{number_at, text_at};
+use crate::arguments::{number_at, session_at};
 use bus_value::Value;
 use login_base::{NoMemory, Word};
 use login_model::Call;
@@ -79,7 +79,7 @@ pub(crate) fn seat_call(
 {
     Ok(match method {
         SeatMethod::Terminate => Call::TerminateSeat(seat),
-        SeatMethod::ActivateSession => Call::ActivateOnSeat(text_at(alloc, values, 0)?, seat),
+        SeatMethod::ActivateSession => Call::ActivateOnSeat(session_at(alloc, values, 0)?, seat),
         SeatMethod::SwitchTo => Call::SwitchTo(seat, number_at(values, 0)),
         SeatMethod::SwitchToNext => Call::SwitchToNext(seat),
         SeatMethod::SwitchToPrevious => Call::SwitchToPrevious(seat),

@@ -5,8 +5,8 @@ ghost use Rattle.wire_calls.specs.Calls.{session_call};
 
 use crate::arguments::{device_at, flag_at, signed_at, text_at};
 use bus_value::Value;
-use login_base::{NoMemory, Word};
-use login_model::Call;
+use login_base::NoMemory;
+use login_model::{Call, NamedSession};
 use std::alloc::Global;
 
 /// A method of a session (org.freedesktop.login1(5), "Session Objects").
@@ -101,7 +101,7 @@ impl SessionMethod {
 /// The call that a method of the session with this id is with these arguments.
 pub(crate) fn session_call(
     alloc: Global,
-    id: Word,
+    id: NamedSession,
     method: SessionMethod,
     values: &[Value],
 ) -> Result<Call, NoMemory>

@@ -63,14 +63,20 @@ fn own_sent_as(call: &Call) -> Result<Option<Method>, NoMemory>
         Call::Power(kind) => Method::Manager(ManagerMethod::Power(*kind)),
         Call::Can(kind) => Method::Manager(ManagerMethod::Can(*kind)),
         Call::Inhibit(_) => Method::Manager(ManagerMethod::Inhibit),
-        Call::SetIdle(id, _) => Method::Session(id.copied()?, SessionMethod::SetIdleHint),
-        Call::SetLocked(id, _) => Method::Session(id.copied()?, SessionMethod::SetLockedHint),
-        Call::Control(id, _) => Method::Session(id.copied()?, SessionMethod::TakeControl),
-        Call::Uncontrol(id) => Method::Session(id.copied()?, SessionMethod::ReleaseControl),
-        Call::TakeDevice(id, _) => Method::Session(id.copied()?, SessionMethod::TakeDevice),
-        Call::ReleaseDevice(id, _) => Method::Session(id.copied()?, SessionMethod::ReleaseDevice),
+        Call::SetIdle(id, _) => Method::Session(id.text().copied()?, SessionMethod::SetIdleHint),
+        Call::SetLocked(id, _) => Method::Session(
+            id.text().copied()?,
+            SessionMethod::SetLockedHint,
+        ),
+        Call::Control(id, _) => Method::Session(id.text().copied()?, SessionMethod::TakeControl),
+        Call::Uncontrol(id) => Method::Session(id.text().copied()?, SessionMethod::ReleaseControl),
+        Call::TakeDevice(id, _) => Method::Session(id.text().copied()?, SessionMethod::TakeDevice),
+        Call::ReleaseDevice(id, _) => Method::Session(
+            id.text().copied()?,
+            SessionMethod::ReleaseDevice,
+        ),
         Call::PauseComplete(id, _) => {
-            Method::Session(id.copied()?, SessionMethod::PauseDeviceComplete)
+            Method::Session(id.text().copied()?, SessionMethod::PauseDeviceComplete)
         }
         Call::SwitchTo(seat, _) => Method::Seat(seat.copied()?, SeatMethod::SwitchTo),
         Call::SwitchToNext(seat) => Method::Seat(seat.copied()?, SeatMethod::SwitchToNext),
@@ -244,15 +250,15 @@ fn arguments_of(alloc: Global, call: &Call) -> Result<Vec<Value>, NoMemory>
 {
     match call {
         Call::Create(x) => creation_values(alloc, x.get()),
-        Call::GetSession(id) => alone(alloc, text(id)?),
+        Call::GetSession(id) => alone(alloc, text(id.text())?),
         Call::GetUser(uid) => alone(alloc, number(uid.0)),
         Call::GetSeat(seat) => alone(alloc, text(seat)?),
-        Call::Activate(id) => alone(alloc, text(id)?),
-        Call::ActivateOnSeat(id, seat) => two_texts(alloc, id, seat),
-        Call::Lock(id) => alone(alloc, text(id)?),
-        Call::Unlock(id) => alone(alloc, text(id)?),
-        Call::Kill(id, whom, number) => kill_values(alloc, id, whom, *number),
-        Call::Terminate(id) => alone(alloc, text(id)?),
+        Call::Activate(id) => alone(alloc, text(id.text())?),
+        Call::ActivateOnSeat(id, seat) => two_texts(alloc, id.text(), seat),
+        Call::Lock(id) => alone(alloc, text(id.text())?),
+        Call::Unlock(id) => alone(alloc, text(id.text())?),
+        Call::Kill(id, whom, number) => kill_values(alloc, id.text(), whom, *number),
+        Call::Terminate(id) => alone(alloc, text(id.text())?),
         Call::TerminateUser(uid) => alone(alloc, number(uid.0)),
         Call::TerminateSeat(seat) => alone(alloc, text(seat)?),
         Call::SetLinger(uid, on) => linger_values(alloc, uid.0, *on),
