@@ -255,13 +255,13 @@ fn call_answer<F: Look>(
             let created = created(facts, session, creation.get());
             Ok(Answer::Created(Boxed::new(alloc, created)?))
         }
-        Call::GetSession(_) => Ok(session_answer(call.session())),
+        Call::GetSession(id) => Ok(session_answer(id.session())),
         Call::GetUser(uid) => Ok(Answer::User(*uid)),
         Call::GetSeat(seat) => seat_answer(alloc, seat_of(seat.as_slice())),
         Call::ListSessions => list_sessions(alloc, facts, setup),
         Call::ListUsers => list_users(alloc, facts, setup),
         Call::ListSeats => list_seats(alloc, facts),
-        Call::TakeDevice(..) => Ok(taken_answer(facts, call.session())),
+        Call::TakeDevice(id, _) => Ok(taken_answer(facts, id.session())),
         Call::ListInhibitors => list_inhibitors(alloc, facts),
         Call::Can(kind) => Ok(Answer::Can(can(facts, setup, who, *kind))),
         Call::Inhibit(_) => Ok(Answer::Handle(facts.fresh_handle())),

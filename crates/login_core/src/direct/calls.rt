@@ -9,7 +9,6 @@ ghost use Rattle.login_model.specs.Procedure.{each, if_some, shut};
 ghost use Rattle.login_model.specs.Turning.{turn_to_next, turn_to_previous};
 ghost use Rattle.login_model.specs.Where.{sessions_on};
 ghost use Rattle.login_model.specs.Direct.{linger, close, direct_call};
-ghost use Rattle.login_model.specs.Named.{named_session};
 ghost use Rattle.login_model.specs.Words.{whom_of};
 ghost use Rattle.login_core.specs.Spares.{AreClosing, AreReadyToCall, HaveTexts};
 ghost use Rattle.login_core.specs.inner.Calls.{IsPlain, NamesRightly, call_on};
@@ -55,11 +54,11 @@ impl Draft {
     }
 
     /// What a call does to the session that it names, if it names one.
-    fn call_session(&mut self, who: ConnId, call: &Call)
-        requires room { Fits (if_some (call_on who call.now) (named_session call.now)) self.old }
-        ensures marked { self.new ≡ marked_by (if_some (call_on who call.now) (named_session call.now)) self.old }
+    fn call_session(&mut self, who: ConnId, session: Option<SessId>, call: &Call)
+        requires room { Fits (if_some (call_on who call.now) session) self.old }
+        ensures marked { self.new ≡ marked_by (if_some (call_on who call.now) session) self.old }
     {
-        if let Some(session) = call.session() {
+        if let Some(session) = session {
             self.call_on(who, session, call);
         }
     }
@@ -153,8 +152,19 @@ impl Draft {
             Call::SwitchToPrevious(seat) => self.previous_on(seat),
             Call::SetMode(handle, mode) => self.set_mode(*handle, *mode),
             Call::Power(kind) => self.power(*kind),
-            Call::GetSession(_) => {}
-            _ => self.call_session(who, call),
+            Call::Activate(id)
+            | Call::ActivateOnSeat(id, _)
+            | Call::Lock(id)
+            | Call::Unlock(id)
+            | Call::Kill(id, _, _)
+            | Call::SetIdle(id, _)
+            | Call::SetLocked(id, _)
+            | Call::Control(id, _)
+            | Call::Uncontrol(id)
+            | Call::TakeDevice(id, _)
+            | Call::ReleaseDevice(id, _)
+            | Call::PauseComplete(id, _) => self.call_session(who, id.session(), call),
+            _ => {}
         }
     }
 
@@ -169,7 +179,7 @@ impl Draft {
     {
         match call {
             Call::Create(creation) => self.create_session(who, creation.get(), texts),
-            Call::Terminate(_) => self.terminate_some(call.session(), &mut texts.closing),
+            Call::Terminate(id) => self.terminate_some(id.session(), &mut texts.closing),
             Call::TerminateUser(user) => self.terminate_user(*user, &mut texts.closing),
             Call::TerminateSeat(seat) => self.terminate_on(seat, &mut texts.closing),
             Call::Close(handle) => self.close_kept(*handle, &mut texts.closing),
