@@ -119,7 +119,7 @@ fn fits_call(call: &Call) -> bool
     ensures object { IsTrue result → has_object call.now ≡ true }
 {
     match call {
-        Call::GetSession(id) => is_text(id.as_slice(), 512),
+        Call::GetSession(id) => is_text(id.text().as_slice(), 512),
         _ => false,
     }
 }

@@ -2,7 +2,7 @@
 
 use login_base::{ConnId, Items, NoMemory, SessId, Word};
 use login_edge::MemSink;
-use login_model::{Answer, Call, Entry, Event, Fact, Key, Mark, Request, Verdict};
+use login_model::{Answer, Call, Entry, Event, Fact, Key, Mark, NamedSession, Request, Verdict};
 use recording::{WriteEnd, entry_text, write_entry};
 use std::alloc::Global;
 use std::process::Abort;
@@ -52,7 +52,7 @@ fn uncontrolled(alloc: Global) -> Result<Items<Entry>, NoMemory> {
             who: ConnId(1),
             serial: 2,
             quiet: false,
-            call: Call::Uncontrol(id),
+            call: Call::Uncontrol(NamedSession::new(id)),
         }),
         verdict: Verdict::Granted,
         answer: Answer::Nothing,

@@ -24,7 +24,7 @@ fn is_sent(line: &Line, sent: Sent) -> bool {
     let head = (request.who.0, request.serial, request.quiet);
     match (sent, &request.call) {
         (Sent::Control, Call::Control(id, false)) => {
-            head == (3, 9, false) && id.as_slice() == b"c ".as_slice()
+            head == (3, 9, false) && id.text().as_slice() == b"c ".as_slice()
         }
         (Sent::Activation, Call::ActivateOnSeat(_, _)) => head == (4, 5, true),
         (Sent::BadArguments, Call::BadArguments) => head == (4, 5, true),
