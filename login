@@ -61,11 +61,11 @@ marking() {
     echo "$1" && sha256sum <"$program"
 }
 
-# Proves a crate and builds it. The program is run too, over its stored input.
+# Proves a crate and builds it. The program is run too, over a recording that it plays to its end.
 build_crate() {
     cd "$top/crates/$1" || return 1
     if [[ $1 == login ]]; then
-        rt run -- replay <stdin
+        rt run -- replay <"$top/examples/turns.recording"
     else
         rt lib </dev/null
     fi

@@ -1,4 +1,4 @@
--- What the acts on the core do.
+-- Which events may be stepped for a link, and what a step makes.
 use Rattle.std.specs.Prelude.{◌≡◌, ◌<◌, true, List, [], ◌∷◌, ◌++◌, Some, None, Result, Ok, Err}
 use Rattle.std.specs.List.{AllByRecursion}
 use Rattle.login_base.specs.declared.memory.NoMemory.{NoMemory}

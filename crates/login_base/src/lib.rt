@@ -1,4 +1,4 @@
-//! Plain types that the other crates share: ids, texts, lists, and how numbers and names are read.
+//! Plain types that the other crates share: ids, texts, lines, lists, and how numbers and names are read and written.
 #![tactic(auto)]
 
 mod decimal;

@@ -15,5 +15,5 @@ mod standing;
 mod verdict;
 
 pub use operations::can;
-pub use standing::meant_user;
+pub use standing::{meant_user, uid_of};
 pub use verdict::judge;

@@ -114,7 +114,7 @@ pub(crate) fn judge_own<F: Look>(
 const NO_USER: u32 = u32::MAX;
 
 /// The user of a caller, or that number where it is not connected.
-pub(crate) fn uid_of<F: Look>(facts: &F, who: ConnId) -> u32
+pub fn uid_of<F: Look>(facts: &F, who: ConnId) -> u32
     ensures { result ≡ uid_of (F.trail facts.now) who }
 {
     facts.fact(&Key::Conn(who)).client_or(NO_USER)

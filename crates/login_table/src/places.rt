@@ -18,7 +18,7 @@ use login_model::{Key, is_same_key};
 use std::alloc::Global;
 use std::marker::Model;
 
-/// The places of rows, in order, each once. A place takes 8 bytes, where a row's key takes 264.
+/// The places of rows, in order, each once. A place takes 8 bytes, where a row's key takes 272.
 #[derive(Debug, Drop)]
 pub(crate) struct Places {
     places: Vec<usize>,
@@ -43,7 +43,8 @@ fn key_or<'a>(rows: &'a [Row], place: usize, other: &'a Key) -> &'a Key
     }
 }
 
-/// The first key from so many on.
+/// The first key from so many on. The other one stands for what no place names; a body can not make a reference to one
+/// that it gives out, so it comes from the caller.
 fn first_key<'a>(rows: &'a [Row], places: &[usize], from: usize, other: &'a Key) -> Option<&'a Key>
     requires { other.now ≡ Key.Vt }
     ensures { MatchOption result (first (drop from (keys_at rows.now places.now)) ≡ None) (λ key. first (drop from (keys_at rows.now places.now)) ≡ Some key.now) }

@@ -276,7 +276,7 @@ fn unspelled(alloc: Global, word: &[u8]) -> Result<Vec<u8>, Misread>
 }
 
 /// Whether bytes are a text of at most so many bytes: UTF-8 without NUL.
-fn is_text(text: &[u8], most: usize) -> bool
+fn is_short_text(text: &[u8], most: usize) -> bool
     ensures { IsTrue result ↔ IsText most text.now }
 {
     login_base::is_text(text) && text.len() <= most
@@ -293,7 +293,7 @@ pub(crate) fn text(alloc: Global, word: &[u8], most: usize) -> Result<Word, Misr
         return Ok(Word::new(alloc));
     }
     let text = unspelled(alloc, word)?;
-    if !is_text(&text, most) {
+    if !is_short_text(&text, most) {
         return Err(Misread::Misfit);
     }
     Ok(Word::from_vec(text))

@@ -3,7 +3,8 @@ use Rattle.std.proofs.Common.{◌≡◌, ℕ, Bool, true, false, List, Result, O
 use Rattle.recording.specs.declared.line.Line.{Line}
 use Rattle.replay.specs.Rising.{Rises}
 use Rattle.replay.specs.Ahead.{BreaksOff, EndsBehind}
-use Rattle.replay.specs.Early.{failed, of_reading, of_writing}
+use Rattle.replay.specs.Early.{failed, of_reading}
+use Rattle.replay.specs.inner.Early.{of_writing}
 use Rattle.replay.specs.inner.Opening.{OpensNot}
 use Rattle.replay.specs.inner.Player.{PlayerState}
 use Rattle.replay.specs.inner.Playing.{ComesNext, PlaysLine}

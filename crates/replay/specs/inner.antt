@@ -11,3 +11,4 @@ pub mod Apart
 pub mod Making
 pub mod Telling
 pub mod Causes
+pub mod Early

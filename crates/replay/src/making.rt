@@ -7,7 +7,8 @@ ghost use Rattle.login_model.specs.Legal.{AreInPlace, IsPlaced};
 ghost use Rattle.login_model.specs.declared.event.Event.TheVariants as event;
 ghost use Rattle.login_office.specs.Offices.{IsSame};
 ghost use Rattle.replay.specs.Rising.{Rises};
-ghost use Rattle.replay.specs.Early.{failed, of_writing};
+ghost use Rattle.replay.specs.Early.{failed};
+ghost use Rattle.replay.specs.inner.Early.{of_writing};
 ghost use Rattle.replay.specs.inner.Making.{Makes, MakesRoom};
 
 use crate::early::Early;

@@ -3,7 +3,8 @@
 ghost use Rattle.std.specs.Prelude.{◌≡◌, None, OnOk};
 ghost use Rattle.recording.specs.declared.line.Line.TheVariants as line;
 ghost use Rattle.replay.specs.Rising.{Rises};
-ghost use Rattle.replay.specs.Early.{failed, of_writing};
+ghost use Rattle.replay.specs.Early.{failed};
+ghost use Rattle.replay.specs.inner.Early.{of_writing};
 ghost use Rattle.replay.specs.inner.Player.{Stands, ended_in};
 ghost use Rattle.replay.specs.inner.Playing.{ComesNext, MakesLine, PlaysLine};
 

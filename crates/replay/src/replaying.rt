@@ -4,7 +4,8 @@ ghost use Rattle.std.specs.Prelude.{◌≡◌};
 ghost use Rattle.replay.specs.Replaying.{ReplayGives, is_read_fault, is_write_fault};
 ghost use Rattle.replay.specs.Reporting.{ReportsEnd};
 ghost use Rattle.replay.specs.Rising.{Rises};
-ghost use Rattle.replay.specs.Early.{failed, of_reading, of_writing};
+ghost use Rattle.replay.specs.Early.{failed, of_reading};
+ghost use Rattle.replay.specs.inner.Early.{of_writing};
 ghost use Rattle.replay.specs.inner.Running.{RunGives, end_of};
 
 use crate::cause::Cause;

@@ -9,7 +9,8 @@ ghost use Rattle.replay.specs.Recording.{most_lines};
 ghost use Rattle.replay.specs.Rising.{Rises};
 ghost use Rattle.replay.specs.Transcript.{transcript_end, start_of};
 ghost use Rattle.replay.specs.inner.Behind.{is_end};
-ghost use Rattle.replay.specs.Early.{failed, of_reading, of_writing};
+ghost use Rattle.replay.specs.Early.{failed, of_reading};
+ghost use Rattle.replay.specs.inner.Early.{of_writing};
 ghost use Rattle.replay.specs.inner.Player.{Stands, StandsBehind};
 ghost use Rattle.replay.specs.inner.Running.{RunGives, GoesOn};
 ghost use Rattle.replay.specs.inner.Turns.{TakesTurn, Turns};
@@ -44,7 +45,7 @@ fn cause_behind(lines: u32, own: Cause) -> Cause
 }
 
 /// The last line of a transcript, after so many entries.
-fn end_text(alloc: Global, count: usize) -> Result<Vec<u8>, NoMemory>
+fn transcript_end(alloc: Global, count: usize) -> Result<Vec<u8>, NoMemory>
     ensures { IfOk result (λ text. text.items ≡ transcript_end count) }
 {
     let mut text = Vec::new(alloc);
@@ -99,7 +100,7 @@ impl Run {
         ensures gives { Writes (K.held sink.old) (K.held sink.new) (transcript_end (length self.now.player.office.core.journal)) result }
         ensures cause { Rises (failed of_writing result) (K.faults sink.old) (K.faults sink.new) }
     {
-        let text = end_text(self.alloc, self.player.core().journal().len())?;
+        let text = transcript_end(self.alloc, self.player.core().journal().len())?;
         write_text(sink, text.as_slice())
     }
 

@@ -1,7 +1,8 @@
 // Parts of the transcript are written.
 
 ghost use Rattle.replay.specs.Rising.{Rises};
-ghost use Rattle.replay.specs.Early.{failed, of_writing};
+ghost use Rattle.replay.specs.Early.{failed};
+ghost use Rattle.replay.specs.inner.Early.{of_writing};
 ghost use Rattle.replay.specs.inner.Writing.{Writes};
 
 use crate::early::Early;

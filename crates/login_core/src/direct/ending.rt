@@ -19,7 +19,7 @@ use login_base::{ConnId, SeatName, SessId, Uid};
 use login_table::{OfUser, OnSeat, Test};
 
 /// Sessions that are shut one after the other.
-trait Ending {
+trait ToShut {
     /// Whether a session is one of them, after these marks.
     ghost meets: { Self → Trail → AnySession → Bool };
 
@@ -36,7 +36,7 @@ trait Ending {
 #[derive(Drop)]
 struct Meeting<T>(T);
 
-impl<T: Test<SessId> + Drop> Ending for Meeting<T> {
+impl<T: Test<SessId> + Drop> ToShut for Meeting<T> {
     ghost meets = { λ these t s. T.meets these.0 t s };
 
     ghost suits = { λ these t. Unit {0} };
@@ -53,7 +53,7 @@ impl<T: Test<SessId> + Drop> Ending for Meeting<T> {
 #[derive(Drop)]
 struct KeptOpenBy(ConnId);
 
-impl Ending for KeptOpenBy {
+impl ToShut for KeptOpenBy {
     ghost meets = { λ these t s. is_kept_open_by these.0 t s };
 
     ghost suits = { λ these t. Fifos t };
@@ -79,7 +79,7 @@ impl Draft {
     }
 
     /// Such sessions close, in order.
-    fn shut_such<E: Ending>(&mut self, these: &E, closing: &mut Spares)
+    fn shut_such<E: ToShut>(&mut self, these: &E, closing: &mut Spares)
         requires stays { StaysAbove (E.meets these.now) }
         requires suited { StaysShut (E.suits these.now) }
         requires suits { E.suits these.now self.old.trail }

@@ -14,10 +14,8 @@ use crate::board::Draft;
 use crate::room::locks::{LockCopies, LockTexts};
 use crate::room::texts::Texts;
 use login_base::{ConnId, HandleNo, LockNo, Uid};
+use login_judge::uid_of;
 use login_model::{Boxed, Fact, Inhibited, Inhibition, Key, Lock, LockMode, Look, Owner};
-
-/// The user of a connection that is not there.
-const NO_USER: u32 = u32::MAX;
 
 /// What a text inhibits.
 fn what_of(text: &[u8]) -> Inhibited
@@ -83,7 +81,7 @@ impl Draft {
     fn user_of(&self, who: ConnId) -> Uid
         ensures { result ≡ record { 0 = uid_of self.now.trail who } }
     {
-        Uid(self.fact(&Key::Conn(who)).client_or(NO_USER))
+        Uid(uid_of(self, who))
     }
 
     /// A lock stands. It comes twice: for the mark and for the facts.

@@ -20,7 +20,7 @@ use std::sync::{Arc, Wait};
 use std::thread::{PromisedHandle, Scope, Threads};
 
 /// So many links are served. A later one is given back at once.
-const MOST_LINKS: u32 = 10_000;
+const MOST_SERVED: u32 = 10_000;
 
 /// So many milliseconds the clock has to move for a tick.
 const TICK: u64 = 1000;
@@ -192,7 +192,7 @@ impl<L: Link, N: Listener<Link = L>, P: Spawner> House<L, N, P> {
             → Comes L.number L.talk L.left L.faults P.faults N.told N.given N.faults door x t link uid self.old
             → (is_stopped : Bool) × Keeps L.number L.talk L.left L.faults P.faults N.told N.given N.faults x (record (asked_once t) { is_stopped = is_stopped }) [] self.new }
     {
-        if self.came > MOST_LINKS {
+        if self.came > MOST_SERVED {
             self.listener.give_back(ConnId(self.came), link);
             return;
         }

@@ -16,8 +16,8 @@ returns-in_err-text c =
     let k = text_of-fault c.args.most c.args.word.now c.in_err-text.field-0.0 other (λ h. c.in_err-text.ensures.none (ap Err h)) in
     search (rules, k)
 
-pub returns-then-not-is_text : goal.returns-then-not-is_text
-returns-then-not-is_text c =
+pub returns-then-not-is_short_text : goal.returns-then-not-is_short_text
+returns-then-not-is_short_text c =
     let other : c.args.word.now ≡ 37 ∷ [] → ⊥ = λ h. false≢true (sym c.if-is_word.false ∙ (c.is_word.ensures ∙ (bytes_eq-Decides c.args.word.now (37 ∷ [])).1 h)) in
     text_of-no_text c.args.most c.args.word.now c.in_ok-text.text.items other c.in_ok-text.ensures.found.0 c.in_ok-text.ensures.found.1 (search rules)
 

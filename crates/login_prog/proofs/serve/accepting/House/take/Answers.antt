@@ -16,9 +16,9 @@ give_back-requires-in-Err-clause-number g c = come-number _ _ _ _ _ _ _ _ _ _ _ 
 pub give_back-requires-in-Err-clause-out : goal.give_back-requires-in-Err-clause-out
 give_back-requires-in-Err-clause-out g c = come-out _ _ _ _ _ _ _ _ _ _ _ c.args.self.now c.requires.came
 
-pub returns-then-self-gt-MOST_LINKS-clause-keeps : goal.returns-then-self-gt-MOST_LINKS-clause-keeps
-returns-then-self-gt-MOST_LINKS-clause-keeps g c = λ door x t m.
-    (t.is_stopped, late-so _ _ _ _ _ _ _ _ door x t c.args.link c.args.uid c.args.self.now m c.give_back.new.self c.give_back.ensures.tells c.give_back.ensures.given c.give_back.ensures.faults (omega (arith, c.if-self-gt-MOST_LINKS.true)))
+pub returns-then-self-gt-MOST_SERVED-clause-keeps : goal.returns-then-self-gt-MOST_SERVED-clause-keeps
+returns-then-self-gt-MOST_SERVED-clause-keeps g c = λ door x t m.
+    (t.is_stopped, late-so _ _ _ _ _ _ _ _ door x t c.args.link c.args.uid c.args.self.now m c.give_back.new.self c.give_back.ensures.tells c.give_back.ensures.given c.give_back.ensures.faults (omega (arith, c.if-self-gt-MOST_SERVED.true)))
 
 pub start-requires-clause-came : goal.start-requires-clause-came
 start-requires-clause-came g c =
@@ -35,7 +35,7 @@ pub start-requires-clause-above : goal.start-requires-clause-above
 start-requires-clause-above g c = λ κs within. come-above _ _ _ _ _ _ _ _ _ _ _ c.args.self.now c.requires.came
 
 pub start-requires-clause-some : goal.start-requires-clause-some
-start-requires-clause-some g c = λ κs within. omega (arith, c.if-self-gt-MOST_LINKS.false)
+start-requires-clause-some g c = λ κs within. omega (arith, c.if-self-gt-MOST_SERVED.false)
 
 pub start-requires-clause-unclosed : goal.start-requires-clause-unclosed
 start-requires-clause-unclosed g c = λ κs within. c.requires.unclosed

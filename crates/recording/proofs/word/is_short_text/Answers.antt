@@ -1,7 +1,7 @@
 use Rattle.std.proofs.Common.{◌∙◌, sym, true≢false}
 use Rattle.login_base.proofs.Texts.{made_text}
 use Rattle.recording.proofs.Texts.{both, is_short_text-from, is_short_text_is}
-use Rattle.recording.proofs.word.is_text.Goals as goal
+use Rattle.recording.proofs.word.is_short_text.Goals as goal
 
 pub returns-then-is_text : goal.returns-then-is_text
 returns-then-is_text c =
