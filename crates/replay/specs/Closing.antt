@@ -39,3 +39,10 @@ named_end_text e = end_text e
 -- the line of a link that has ended
 abbrev pub closed_line : ConnId → LinkEnd → List ℕ
 closed_line c e = codes "closed " ++ (decimal c.0 ++ end_text e)
+
+-- how many bytes a number takes at most, and what follows the number of a link that has ended
+abbrev pub number_room : ℕ
+number_room = 20
+
+abbrev pub end_room : ℕ
+end_room = 60

@@ -1,14 +1,17 @@
-// The line of a transcript that says how a link has ended.
+// How the end of a link prints.
 
-ghost use Rattle.std.specs.Prelude.{◌≡◌, ◌++◌, IfOk, OnOk};
-ghost use Rattle.replay.specs.Closing.{not_begun_number, closed_line, end_text};
+ghost use Rattle.std.specs.Prelude.{◌≡◌, ◌+◌, ◌≤◌, ◌++◌, IfOk, vec_len, vec_capacity};
+ghost use Rattle.replay.specs.Closing.{not_begun_number, closed_line, end_text, named_end_text, end_room};
 
-use crate::numbered::{append_numbered, end_numbered, end_words};
+use crate::numbered::{push_counted, push_text};
 use bus_auth::Ending;
 use login_base::{ConnId, NoMemory};
 use login_model::Count;
 use login_office::{LinkEnd, Unbegun};
 use std::alloc::Global;
+
+/// Room for the line of a link that has ended, in bytes.
+const CLOSED_LINE_ROOM: usize = 100;
 
 /// The number of why a link has not begun.
 pub fn not_begun_number(why: Unbegun) -> u32
@@ -23,28 +26,41 @@ pub fn not_begun_number(why: Unbegun) -> u32
     }
 }
 
-/// Adds what follows the number of a link that has ended so, through the line feed.
-fn append_end(line: &mut Vec<u8>, end: LinkEnd) -> Result<(), NoMemory>
-    ensures { OnOk result (line.new.items ≡ line.old.items ++ end_text end) }
+/// Puts what follows the number of a link that has ended so at the end of a text, through the line feed, without memory.
+fn push_end(out: &mut Vec<u8>, end: LinkEnd)
+    requires room { vec_len out.old + end_room ≤ vec_capacity out.old }
+    ensures items { out.new.items ≡ out.old.items ++ end_text end }
+    ensures capacity { vec_capacity out.old ≤ vec_capacity out.new }
 {
     match end {
-        LinkEnd::Closed => end_words(line, b""),
-        LinkEnd::NotBegun(why) => end_numbered(
-            line,
-            b" not-begun ",
-            u64::from(not_begun_number(why)),
-        ),
-        LinkEnd::Malformed(place) => {
-            append_numbered(line, b" malformed ", place.offset)?;
-            end_numbered(line, b" ", u64::from(place.cause.number()))
+        LinkEnd::Closed => {}
+        LinkEnd::NotBegun(why) => {
+            push_counted(out, b" not-begun ", u64::from(not_begun_number(why)));
         }
-        LinkEnd::TooMany => end_words(line, b" too-many"),
-        LinkEnd::ReadFault => end_words(line, b" read-fault"),
-        LinkEnd::WriteFault => end_words(line, b" write-fault"),
-        LinkEnd::NoMemory => end_words(line, b" no-memory"),
-        LinkEnd::Full(Count::Entries(sum)) => end_numbered(line, b" full entries ", sum),
-        LinkEnd::Full(Count::Marks(sum)) => end_numbered(line, b" full marks ", sum),
-        LinkEnd::Stopped(entry) => end_numbered(line, b" stopped ", u64::from(entry)),
+        LinkEnd::Malformed(place) => {
+            push_counted(out, b" malformed ", place.offset);
+            push_counted(out, b" ", u64::from(place.cause.number()));
+        }
+        LinkEnd::TooMany => push_text(out, b" too-many"),
+        LinkEnd::ReadFault => push_text(out, b" read-fault"),
+        LinkEnd::WriteFault => push_text(out, b" write-fault"),
+        LinkEnd::NoMemory => push_text(out, b" no-memory"),
+        LinkEnd::Full(Count::Entries(sum)) => push_counted(out, b" full entries ", sum),
+        LinkEnd::Full(Count::Marks(sum)) => push_counted(out, b" full marks ", sum),
+        LinkEnd::Stopped(entry) => push_counted(out, b" stopped ", u64::from(entry)),
+    }
+    push_text(out, b"\n");
+}
+
+/// Puts the same at the end of a text; that a link was closed is said too.
+pub fn push_named_end(out: &mut Vec<u8>, end: LinkEnd)
+    requires room { vec_len out.old + end_room ≤ vec_capacity out.old }
+    ensures items { out.new.items ≡ out.old.items ++ named_end_text end }
+    ensures capacity { vec_capacity out.old ≤ vec_capacity out.new }
+{
+    match end {
+        LinkEnd::Closed => push_text(out, b" closed\n"),
+        _ => push_end(out, end),
     }
 }
 
@@ -52,8 +68,8 @@ fn append_end(line: &mut Vec<u8>, end: LinkEnd) -> Result<(), NoMemory>
 pub fn closed_line(alloc: Global, who: ConnId, end: LinkEnd) -> Result<Vec<u8>, NoMemory>
     ensures { IfOk result (λ line. line.items ≡ closed_line who end) }
 {
-    let mut line = Vec::new(alloc);
-    append_numbered(&mut line, b"closed ", u64::from(who.0))?;
-    append_end(&mut line, end)?;
+    let mut line = Vec::with_capacity(alloc, CLOSED_LINE_ROOM)?;
+    push_counted(&mut line, b"closed ", u64::from(who.0));
+    push_end(&mut line, end);
     Ok(line)
 }

@@ -23,11 +23,13 @@ mod writing;
 
 pub use ahead::{MOST_LINES, next_line, read_past};
 pub use cause::Cause;
+pub use closed::push_named_end;
 pub use early::Early;
 pub use law::{
     calls_are_of_bytes, ends_for_good, fault_is_of_an_action, lines_have_turns, one_cause,
     one_recording, one_refusal, one_stop, outs_are_said, recording_plays, spelled_recording,
 };
+pub use numbered::push_counted;
 pub use preamble::{SetupEnd, read_setup};
 pub use replaying::{ReplayEnd, replay_all};
-pub use reporting::{RefusalLine, StatusLine, push_counted, push_end, report};
+pub use reporting::{RefusalLine, StatusLine, report};

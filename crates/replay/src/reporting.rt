@@ -1,16 +1,14 @@
 // The lines of the ends of the program on the errors. No other file spells them.
 
-ghost use Rattle.std.specs.Prelude.{◌≡◌, ◌+◌, ◌<◌, ◌≤◌, ◌++◌, [], length, vec_len, vec_capacity};
+ghost use Rattle.std.specs.Prelude.{◌≡◌, ◌<◌, ◌≤◌, ◌++◌, [], length, vec_len, vec_capacity};
 ghost use Rattle.std.specs.Fmt.{decimal};
-ghost use Rattle.replay.specs.Closing.{named_end_text};
 ghost use Rattle.replay.specs.Reporting.{Reported, status_line, refusal, full_line, error_line};
 
 use crate::cause::Cause;
-use crate::closed::not_begun_number;
+use crate::numbered::push_text;
 use login_base::push_decimal;
 use login_edge::{Sink, write_all};
 use login_model::Count;
-use login_office::LinkEnd;
 use std::alloc::{AllocError, Global};
 
 /// A line that is the same whenever it is said.
@@ -46,16 +44,6 @@ impl StatusLine {
             StatusLine::SpawnFault => b"spawn fault\n",
         }
     }
-}
-
-/// Puts a text at the end, without memory.
-fn push_text(out: &mut Vec<u8>, text: &[u8])
-    requires { vec_len out.old + length text.now ≤ vec_capacity out.old }
-    ensures items { out.new.items ≡ out.old.items ++ text.now }
-    ensures len { vec_len out.new ≡ vec_len out.old + length text.now }
-    ensures capacity { vec_capacity out.old ≤ vec_capacity out.new }
-{
-    out.extend_from_slice(text).unwrap();
 }
 
 /// The line of a refused line, or of a full journal. Its memory is taken before it is needed.
@@ -108,41 +96,6 @@ impl RefusalLine {
         push_text(&mut text, b"\n");
         text
     }
-}
-
-/// Puts words and a number at the end of a text, without memory.
-pub fn push_counted(out: &mut Vec<u8>, words: &[u8], number: u64)
-    requires room { vec_len out.old + (length words.now + 20) ≤ vec_capacity out.old }
-    ensures items { out.new.items ≡ out.old.items ++ (words.now ++ decimal number) }
-    ensures len { vec_len out.new ≤ vec_len out.old + (length words.now + 20) }
-    ensures capacity { vec_capacity out.old ≤ vec_capacity out.new }
-{
-    push_text(out, words);
-    push_decimal(out, number);
-}
-
-/// Puts what follows the number of a link that has ended so at the end of a text, through the line feed, without memory.
-pub fn push_end(out: &mut Vec<u8>, end: LinkEnd)
-    requires room { vec_len out.old + 60 ≤ vec_capacity out.old }
-    ensures items { out.new.items ≡ out.old.items ++ named_end_text end }
-    ensures capacity { vec_capacity out.old ≤ vec_capacity out.new }
-{
-    match end {
-        LinkEnd::Closed => push_text(out, b" closed"),
-        LinkEnd::NotBegun(why) => push_counted(out, b" not-begun ", not_begun_number(why) as u64),
-        LinkEnd::Malformed(place) => {
-            push_counted(out, b" malformed ", place.offset);
-            push_counted(out, b" ", place.cause.number() as u64);
-        }
-        LinkEnd::TooMany => push_text(out, b" too-many"),
-        LinkEnd::ReadFault => push_text(out, b" read-fault"),
-        LinkEnd::WriteFault => push_text(out, b" write-fault"),
-        LinkEnd::NoMemory => push_text(out, b" no-memory"),
-        LinkEnd::Full(Count::Entries(sum)) => push_counted(out, b" full entries ", sum),
-        LinkEnd::Full(Count::Marks(sum)) => push_counted(out, b" full marks ", sum),
-        LinkEnd::Stopped(entry) => push_counted(out, b" stopped ", entry as u64),
-    }
-    push_text(out, b"\n");
 }
 
 /// Writes a line of the errors. Where that fails, what the line says holds all the same.

@@ -9,7 +9,7 @@ use crate::serve::troubles::ServeEnd;
 use login_base::NoMemory;
 use login_edge::{Sink, WriteEnd, write_all};
 use login_office::LinkEnd;
-use replay::{RefusalLine, StatusLine, push_counted, push_end, report};
+use replay::{RefusalLine, StatusLine, push_counted, push_named_end, report};
 use std::alloc::Global;
 
 /// Room for the line of a link.
@@ -56,7 +56,7 @@ impl ErrorLines {
         };
         self.line.clear();
         push_counted(&mut self.line, b"link ", number);
-        push_end(&mut self.line, end);
+        push_named_end(&mut self.line, end);
         write_all(errors, self.line.as_slice())
     }
 
