@@ -31,3 +31,4 @@ pub mod PlainTexts
 pub mod Boundaries
 pub mod Letters
 pub mod TypedLaws
+pub mod PartLaws

@@ -57,7 +57,7 @@ list_again [] = refl
 list_again (v ∷ vs) = ap (λ (us : List Val). v ∷ us) (list_again vs)
 
 -- no spelling is empty
-basic_some : (o : Order) (a : BasicValue) → IsLegal a → 0 < length (basic_bytes o a)
+pub basic_some : (o : Order) (a : BasicValue) → IsLegal a → 0 < length (basic_bytes o a)
 basic_some o (Byte n) h = omega arith
 basic_some o (Boolean b) h = let w = width_4 o (cond b 1 0) in omega (arith, w)
 basic_some Little (I16 n) h = omega arith

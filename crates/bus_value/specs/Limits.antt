@@ -16,6 +16,10 @@ most_open = 64
 abbrev pub most_depth : ℕ
 most_depth = 97
 
+-- how many parts values have at most for each of their bytes: 32 structs can begin with it, and a value in them
+abbrev pub most_parts : ℕ
+most_parts = 33
+
 -- a text's length is a number of four bytes
 abbrev pub HasRoom : BasicValue → Type 0
 HasRoom (Byte n) = 0 < 1

@@ -37,7 +37,7 @@ entries [] = no_entries
 entries (e ∷ es) = entry e.0 e.1 (entries es)
 
 abbrev mutual
-  -- how many parts a value has
+  -- how many parts a value has, itself among them; a dict entry is one, and its key and its value are
   pub parts : Val → ℕ
   parts (basic a) = 1
   parts (array t vs) = parts_in vs + 1
@@ -51,7 +51,7 @@ abbrev mutual
 
   pub parts_of : Entries → ℕ
   parts_of no_entries = 0
-  parts_of (entry a v es) = parts v + parts_of es
+  parts_of (entry a v es) = parts v + 2 + parts_of es
 
 abbrev mutual
   -- a value's type

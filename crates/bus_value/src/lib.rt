@@ -18,7 +18,7 @@ mod writing;
 pub use basic_value::BasicValue;
 pub use fault::ValueFault;
 pub use fields::{Field, read_fields};
-pub use law::{always_ends, has_spelling, one_reading, one_spelling, spelling_length};
+pub use law::{always_ends, few_parts, has_spelling, one_reading, one_spelling, spelling_length};
 pub use numbers::{pad_size, push_padding, push_u32, read_u32};
 pub use order::Order;
 pub use reader::is_text;
