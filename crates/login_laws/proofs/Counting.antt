@@ -8,7 +8,7 @@ two-ways : {A : Type 0} (lt : A → A → Bool) → IsOrder lt → (x y : A) →
 two-ways lt o x y p q = not-self lt o x x refl (o.transitive x y x p q)
 
 -- what is in the tail of a list is not its first
-tail-not : {A : Type 0} (lt : A → A → Bool) (o : IsOrder lt) (x z : A) (xs : List A) → Ascending lt (x ∷ xs) → IsIn z xs → z ≡ x → ⊥
+pub tail-not : {A : Type 0} (lt : A → A → Bool) (o : IsOrder lt) (x z : A) (xs : List A) → Ascending lt (x ∷ xs) → IsIn z xs → z ≡ x → ⊥
 tail-not lt o x z xs a i e = not-self lt o x z (sym e) (a.0 z i)
 
 -- where each of one list is in the other, it is no longer

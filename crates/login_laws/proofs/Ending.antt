@@ -226,7 +226,7 @@ pub record Freed (t u : Trail) : Type 0 where
   pub good : Good none_out u
   pub falls : (s : SessId) (c : ConnId) → value u (key.Ctl s) ≡ fact.Controller c → value t (key.Ctl s) ≡ fact.Controller c
 
-freed-one : (s : SessId) (t u : Trail) → Freed t u → Freed t (release s u)
+pub freed-one : (s : SessId) (t u : Trail) → Freed t u → Freed t (release s u)
 freed-one s t u w =
     let r = released none_out s u w.good in
     record {
@@ -287,7 +287,7 @@ pub record Unlocked (t u : Trail) : Type 0 where
   pub keeps : Keeps is_lock_key (value t) (value u)
   pub falls : (l : LockNo) (x : Lock) → value u (key.Lock l) ≡ fact.Lock x → value t (key.Lock l) ≡ fact.Lock x
 
-unlocked-one : (l : LockNo) (t u : Trail) → Unlocked t u → Unlocked t (put (key.Lock l) fact.Absent u)
+pub unlocked-one : (l : LockNo) (t u : Trail) → Unlocked t u → Unlocked t (put (key.Lock l) fact.Absent u)
 unlocked-one l t u w =
     record {
       good = good-lock-gone none_out l u w.good;
@@ -295,7 +295,7 @@ unlocked-one l t u w =
       falls = λ r x e. elim (given (key.Lock l) (key.Lock r) fact.Absent (fact.Lock x) (value u) (sym (value-put (key.Lock l) (key.Lock r) fact.Absent u) ∙ e)) [ inl q ↦ (let z = q.1 in cc) | inr q ↦ w.falls r x q.1 ];
     }
 
-unlocked-refl : (t : Trail) → Good none_out t → Unlocked t t
+pub unlocked-refl : (t : Trail) → Good none_out t → Unlocked t t
 unlocked-refl t g = record { good = g; keeps = keeps-refl is_lock_key (value t); falls = λ l x e. e }
 
 unlocked : (c : ConnId) (t : Trail) → Good none_out t → Unlocked t (unlock c t)

@@ -53,6 +53,12 @@ pub mod NeedLaws
 pub mod ProcedureMarks
 pub mod EventMarks
 pub mod EndsLaws
+pub mod Sharing
+pub mod Sparing
+pub mod Lessening
+pub mod Spending
+pub mod Quieting
+pub mod SharesLaws
 pub mod NamedMarks
 pub mod NamedCounts
 pub mod NamedLimits

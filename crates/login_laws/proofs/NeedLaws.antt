@@ -18,7 +18,6 @@ use Rattle.login_model.specs.declared.setup.Setup.{Setup}
 use Rattle.login_model.specs.declared.fact.Key.TheVariants as key
 use Rattle.login_model.specs.declared.fact.Fact.{Fact}
 use Rattle.login_model.specs.declared.fact.Fact.TheVariants as fact
-use Rattle.login_base.specs.declared.ids.Millis.{Millis}
 use Rattle.login_model.specs.Facts.{holds_back, is_number_fact}
 use Rattle.login_model.specs.Names.{lock_lt}
 use Rattle.login_model.specs.Power.{is_delayed, is_over, settle_operation, start}
@@ -105,7 +104,7 @@ switch-locks conf t =
     let u = settle_switch conf t in
     count-less lock_lt (is_lock t) (is_lock u) (locks t) (locks u) (locks-list t) (locks-list u) (λ l e. ap is_lock_fact ((switch-still conf t).locks l) ∙ e)
 
-lock-in : (x : Fact) → is_lock_fact x ≡ true → (y : Lock) × (x ≡ fact.Lock y)
+pub lock-in : (x : Fact) → is_lock_fact x ≡ true → (y : Lock) × (x ≡ fact.Lock y)
 lock-in (fact.Lock y) e = (y, refl)
 lock-in _ e = cc
 
@@ -114,7 +113,7 @@ locks-fall-less t u f =
     count-less lock_lt (is_lock u) (is_lock t) (locks u) (locks t) (locks-list u) (locks-list t) (λ l z. (let x = lock-in (value u (key.Lock l)) z in ap is_lock_fact (f l x.0 x.1)))
 
 -- what is set of the operation leaves the need
-op-falls : (o : Operation) (t : Trail) → Within 1 t (put key.Op (fact.Operation o) t)
+pub op-falls : (o : Operation) (t : Trail) → Within 1 t (put key.Op (fact.Operation o) t)
 op-falls o t = plain-within key.Op (fact.Operation o) t refl
 
 start-falls-by : (b c : Bool) (k : OpKind) (t : Trail) → Falls (value t) (value (cond (b && not c) t (put key.Op (fact.Operation (Running k)) t)))
@@ -166,7 +165,7 @@ run-length true true k t = put-length key.Op (fact.Operation (Running k)) t
 run-length true false k t = omega arith
 run-length false c k t = put-length key.Op (fact.Operation (Running k)) t
 
-held-stays : (b c : Bool) (k : OpKind) (t : Trail) → b ≡ true → c ≡ false → length (cond (b && not c) t (put key.Op (fact.Operation (Running k)) t)) ≤ length t
+pub held-stays : (b c : Bool) (k : OpKind) (t : Trail) → b ≡ true → c ≡ false → length (cond (b && not c) t (put key.Op (fact.Operation (Running k)) t)) ≤ length t
 held-stays true false k t e n = omega arith
 held-stays true true k t e n = cc
 held-stays false c k t e n = cc

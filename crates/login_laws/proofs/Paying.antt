@@ -117,7 +117,7 @@ pub absent-in : (x : Fact) → is_absent x ≡ true → x ≡ fact.Absent
 absent-in fact.Absent e = refl
 absent-in _ e = cc
 
-unset-in : (x : Fact) → is_flag x ≡ true → is_set x ≡ false → x ≡ no
+pub unset-in : (x : Fact) → is_flag x ≡ true → is_set x ≡ false → x ≡ no
 unset-in (fact.Flag true) e n = cc
 unset-in (fact.Flag false) e n = refl
 unset-in _ e n = cc
@@ -126,7 +126,7 @@ pub not-set : (b : Bool) → (b ≡ true → ⊥) → b ≡ false
 not-set true n = absurd (n refl)
 not-set false n = refl
 
-untake-none : (s : SessId) (d : DevNo) (t : Trail) → Good none_out t → is_taken t s d ≡ false → untake s d t ≡ t
+pub untake-none : (s : SessId) (d : DevNo) (t : Trail) → Good none_out t → is_taken t s d ≡ false → untake s d t ≡ t
 untake-none s d t g n =
     let a : value t (key.Taken s d) ≡ fact.Absent =
     absent-in (value t (key.Taken s d)) (absent-or (is_absent (value t (key.Taken s d))) (is_taken t s d) (g.holds.shaped (key.Taken s d)) n) in
@@ -137,9 +137,19 @@ untake-none s d t g n =
     ∙ ap (λ (u : Trail). put (key.Taken s d) fact.Absent u) (put-none (key.Awaited s d) no t b refl)
     ∙ put-none (key.Taken s d) fact.Absent t a refl
 
-kill-length : (x : Fact) (t : Trail) → length (kill x t) ≤ length t + 1
+pub kill-length : (x : Fact) (t : Trail) → length (kill x t) ≤ length t + 1
 kill-length (fact.Handle h) t = put-length (key.Live h) no t
 kill-length _ t = omega arith
+
+-- one less is taken
+pub untake-fewer : (s : SessId) (d : DevNo) (t : Trail) → Good none_out t → is_taken t s d ≡ true → taken_count (untake s d t) + 1 ≤ taken_count t
+untake-fewer s d t g e =
+    let u = untake s d t in
+    let w = fewer-untake none_out s d t g in
+    let i = handle-in (value t (key.Taken s d)) e in
+    let there : is_session t s ≡ true = open-there (value t (key.Sess s)) (g.holds.takes s d i.0 i.1).3 in
+    let gone = not-set (is_taken u s d) (λ z. (let j = handle-in (value u (key.Taken s d)) z in untake-gone s d t j.0 j.1)) in
+    taken-gone t u (λ r. ap is_session_fact (w.less.keeps.facts (key.Sess r) refl)) (falls-less (value t) (value u) w.less).taken s d there gone e
 
 untake-some : (s : SessId) (d : DevNo) (t : Trail) → Good none_out t → is_taken t s d ≡ true → Pays t (untake s d t)
 untake-some s d t g e =
@@ -148,10 +158,7 @@ untake-some s d t g e =
     let f = falls-less (value t) (value u) w.less in
     let c = counted t u f in
     let c1 = c.connected in let c2 = c.controlled in let c4 = c.opened in let c5 = c.locked in
-    let i = handle-in (value t (key.Taken s d)) e in
-    let there : is_session t s ≡ true = open-there (value t (key.Sess s)) (g.holds.takes s d i.0 i.1).3 in
-    let gone = not-set (is_taken u s d) (λ z. (let j = handle-in (value u (key.Taken s d)) z in untake-gone s d t j.0 j.1)) in
-    let c3 = taken-gone t u (λ r. ap is_session_fact (w.less.keeps.facts (key.Sess r) refl)) f.taken s d there gone e in
+    let c3 = untake-fewer s d t g e in
     let a = kill (value t (key.Taken s d)) t in
     let b = put (key.Awaited s d) no a in
     let m1 = kill-length (value t (key.Taken s d)) t in let m2 = put-length (key.Awaited s d) no a in let m3 = put-length (key.Taken s d) fact.Absent b in

@@ -89,7 +89,7 @@ vacate-by false s seat v =
     let m = put-length (key.Sess s) y v in let n = put-length (key.Act seat) fact.Absent p in
     (omega arith, keeps-trans is_close_key (value v) (value p) (value (put (key.Act seat) fact.Absent p)) (keeps-put is_close_key (key.Sess s) y v refl) (keeps-put is_close_key (key.Act seat) fact.Absent p refl)))
 
-adds-by : (o : Option (List ℕ)) (s : SessId) (v : Trail) → Adds v (if_some (leave_seat s) o (set_phase s Closing v))
+pub adds-by : (o : Option (List ℕ)) (s : SessId) (v : Trail) → Adds v (if_some (leave_seat s) o (set_phase s Closing v))
 adds-by None s v =
     (let y = in_phase Closing (value v (key.Sess s)) in let m = put-length (key.Sess s) y v in
     record { marks = omega arith; keeps = keeps-put is_close_key (key.Sess s) y v refl })
@@ -182,7 +182,7 @@ pays-unlock c t g = pays-each (λ l u. put (key.Lock l) fact.Absent u) (λ l u w
 
 -- ---- the connection
 
-falls-conn : (c : ConnId) (f : Facts) → Falls f (upd (key.Conn c) fact.Absent f)
+pub falls-conn : (c : ConnId) (f : Facts) → Falls f (upd (key.Conn c) fact.Absent f)
 falls-conn c f = record {
   connected = λ b e. elim (was is_connected_fact (key.Conn c) (key.Conn b) fact.Absent f e) [ inl q ↦ (let z = q.1 in cc) | inr q ↦ q.1 ];
   controlled = λ s e. e;

@@ -101,7 +101,7 @@ resume-within s t = within-each 4 (resume_device s) (λ d u. resume-fact (value 
 
 -- ---- moving to a terminal
 
-change-within : (a b : Option SessId) (t : Trail) → Within 1 t (tell_change a b t)
+pub change-within : (a b : Option SessId) (t : Trail) → Within 1 t (tell_change a b t)
 change-within None None t = within-refl 1 t
 change-within (Some a) b t = say-within All (Active seat0 (Some a) b) t
 change-within None (Some b) t = say-within All (Active seat0 None (Some b)) t
@@ -144,7 +144,7 @@ settle_switch-within conf t = complete-within (value t key.Pending) conf t
 run-within : (k : OpKind) (t : Trail) → Within 1 t (put key.Op (fact.Operation (Running k)) t)
 run-within k t = plain-within key.Op (fact.Operation (Running k)) t refl
 
-start-within : (x : Fact) (U : Setup) (t : Trail) → Within 1 t (start U.conf x t)
+pub start-within : (x : Fact) (U : Setup) (t : Trail) → Within 1 t (start U.conf x t)
 start-within (fact.Operation (Waiting k since skip)) U t =
     (let u = put key.Op (fact.Operation (Running k)) t in
     within-if (is_delayed t k && not (is_over U.conf t since)) 1 t t u (within-refl 1 t) (run-within k t))

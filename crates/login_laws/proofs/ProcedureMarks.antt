@@ -131,16 +131,23 @@ leave_seat-within s seat t =
     (within-if (bytes_eq seat seat0) 1 t t (put (key.Act seat) fact.Absent t) (within-refl 1 t) (plain-within (key.Act seat) fact.Absent t refl))
     (say-within All n u)
 
+-- what closing adds behind giving back
+pub closing-within : (o : Option (List ℕ)) (s : SessId) (v : Trail) → is_session_fact (value v (key.Sess s)) ≡ true → Within 3 v (if_some (leave_seat s) o (set_phase s Closing v))
+closing-within o s v there =
+    let u = set_phase s Closing v in
+    within-trans 1 2 v u (if_some (leave_seat s) o u) (phase-within s Closing v refl (λ z. there)) (within-some 2 (leave_seat s) o u (λ seat z. leave_seat-within s seat u))
+
+-- a session is there behind giving back
+pub released-there : (s : SessId) (t : Trail) → is_open t s ≡ true → is_session_fact (value (release s t) (key.Sess s)) ≡ true
+released-there s t e = ap is_session_fact (release-session s s t) ∙ open-there (value t (key.Sess s)) e
+
 shut-by : (b : Bool) (o : Option (List ℕ)) (s : SessId) (t : Trail) → is_open t s ≡ b
     → Within (3 * taken_length t s + 4) t (cond b (if_some (leave_seat s) o (set_phase s Closing (release s t))) t)
 shut-by true o s t e =
     let n = 3 * taken_length t s in
-    let u = release s t in
-    let v = set_phase s Closing u in
-    let there : is_session_fact (value u (key.Sess s)) ≡ true = ap is_session_fact (release-session s s t) ∙ open-there (value t (key.Sess s)) e in
-    let w = within-trans (n + 1) 1 t u v (release-within s t) (phase-within s Closing u refl (λ z. there)) in
-    let a = within-trans (n + 1 + 1) 2 t v (if_some (leave_seat s) o v) w (within-some 2 (leave_seat s) o v (λ seat z. leave_seat-within s seat v)) in
-    within-more (n + 1 + 1 + 2) (n + 4) t (if_some (leave_seat s) o v) (omega arith) a
+    let v = release s t in
+    let u = if_some (leave_seat s) o (set_phase s Closing v) in
+    within-more (n + 1 + 3) (n + 4) t u (omega arith) (within-trans (n + 1) 3 t v u (release-within s t) (closing-within o s v (released-there s t e)))
 shut-by false o s t e = within-refl (3 * taken_length t s + 4) t
 
 pub shut-within : (s : SessId) (t : Trail) → Within (3 * taken_length t s + 4) t (shut s t)

@@ -129,7 +129,7 @@ device-on (Some name) (fact.Device kind seat) e = (kind, seat, refl, ap Some (sa
 device-on None (fact.Device kind seat) e = cc
 device-on _ _ e = cc
 
-controller-is : (c : ConnId) (x : Fact) → is_controller_fact c x ≡ true → x ≡ fact.Controller c
+pub controller-is : (c : ConnId) (x : Fact) → is_controller_fact c x ≡ true → x ≡ fact.Controller c
 controller-is c (fact.Controller b) e = ap fact.Controller (same-conn b c e)
 controller-is c _ e = cc
 

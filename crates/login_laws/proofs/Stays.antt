@@ -3,8 +3,8 @@ use Rattle.std.proofs.Common.{◌≡◌, ◌∷◌, true, false, refl, ap, sym, 
 use Rattle.login_base.specs.declared.ids.ConnId.{ConnId}
 use Rattle.login_base.specs.declared.ids.LockNo.{LockNo}
 use Rattle.login_base.specs.declared.ids.SessId.{SessId}
-use Rattle.login_model.specs.Direct.{controlled_by, disconnect, end_sessions, unlock}
-use Rattle.login_model.specs.Procedure.{each, in_phase, release, yes}
+use Rattle.login_model.specs.Direct.{controlled_by, disconnect, end_sessions, kept_open_by, unlock}
+use Rattle.login_model.specs.Procedure.{each, in_phase, release, shut, yes}
 use Rattle.login_model.specs.Same.{same_key}
 use Rattle.login_model.specs.Switching.{settle_switch}
 use Rattle.login_model.specs.Trail.{Trail, put, value}
@@ -18,7 +18,7 @@ use Rattle.login_model.specs.declared.mark.Mark.TheVariants.{Say}
 use Rattle.login_model.specs.declared.mark.Notice.{Notice}
 use Rattle.login_model.specs.declared.mark.Whom.{Whom}
 use Rattle.login_model.specs.declared.session.Phase.TheVariants.{Closing, Gone}
-use Rattle.login_laws.proofs.Carried.{Carried, Switched, ends-carried, is_plain, settle_switch-carried, other}
+use Rattle.login_laws.proofs.Carried.{Carried, Switched, each-carried, ends-carried, release-carried, shut-carried, is_plain, settle_switch-carried, other}
 use Rattle.login_model.proofs.Values.{Facts, given, value-put, values-say}
 
 -- a lock that stands stood
@@ -42,7 +42,7 @@ pub record Still (t u : Trail) : Type 0 where
 pub still-stays : (t u : Trail) → Still t u → Stays t u
 still-stays t u s = record { op = s.op; now = s.now; locks = λ l x e. sym (s.locks l) ∙ e }
 
-still-trans : (t u v : Trail) → Still t u → Still u v → Still t v
+pub still-trans : (t u v : Trail) → Still t u → Still u v → Still t v
 still-trans t u v p q = record { op = q.op ∙ p.op; now = q.now ∙ p.now; locks = λ l. q.locks l ∙ p.locks l }
 
 still-at : (k : Key) (x : Fact) (t : Trail) → same_key k key.Op ≡ false → same_key k key.Now ≡ false → ((l : LockNo) → same_key k (key.Lock l) ≡ false) → Still t (put k x t)
@@ -90,6 +90,12 @@ still-switched = record {
 
 pub switch-still : (conf : Conf) (t : Trail) → Still t (settle_switch conf t)
 switch-still conf t = settle_switch-carried still still-switched conf t
+
+-- what goes before the locks at a connection's end
+pub freed-still : (c : ConnId) (t : Trail) → Still t (end_sessions c (each release (controlled_by t c) t))
+freed-still c t =
+    let u = each release (controlled_by t c) t in
+    still-trans t u (end_sessions c u) (each-carried still release (release-carried still) (controlled_by t c) t) (each-carried still shut (shut-carried still) (kept_open_by u c) u)
 
 abbrev stays : Carried
 stays = record {

@@ -9,6 +9,7 @@ pub mod Powered
 pub mod Lawful
 pub mod Named
 pub mod Need
+pub mod Shares
 pub mod Few
 pub mod Left
 pub mod Hearing

@@ -8,6 +8,7 @@ ghost use Rattle.login_laws.specs.Left.{HandlesAreLeft};
 ghost use Rattle.login_laws.specs.Named.{LegalIsNamed};
 ghost use Rattle.login_laws.specs.Need.{EndsShareNeed, RoomIsKept};
 ghost use Rattle.login_laws.specs.OneJournal.{OneJournal};
+ghost use Rattle.login_laws.specs.Shares.{EachEndFits, EndsHaveShares, SharesFit};
 ghost use Rattle.login_laws.specs.Withdrawing.{WithdrawsEach};
 ghost use Rattle.login_model.specs.declared.setup.Setup.{Setup};
 
@@ -67,6 +68,22 @@ pub fn room_is_kept()
 /// together make no more marks than the need before them.
 pub fn ends_share_need()
     ensures { EndsShareNeed }
+{}
+
+/// The shares of all connections, the marks that each one's end may make, are together at most the need.
+pub fn shares_fit()
+    ensures { SharesFit }
+{}
+
+/// The end of each connection makes no more marks than its share, and no end raises a share.
+pub fn ends_have_shares()
+    ensures { (U : Setup) → EndsHaveShares U }
+{}
+
+/// Whichever connections end behind a legal journal, one after the other: the end of each makes no more marks than
+/// its share before them.
+pub fn each_end_fits()
+    ensures { EachEndFits }
 {}
 
 /// In every legal journal seats have seats' names, users are those of the setup, and who asked for a lock and why
