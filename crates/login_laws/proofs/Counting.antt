@@ -95,17 +95,17 @@ total f [] = 0
 total f (x ∷ xs) = f x + total f xs
 
 -- it is no more where each of the one list counts for nothing or is in the other
-pub total-less : {A : Type 0} (lt : A → A → Bool) (o : IsOrder lt) (f g : A → ℕ) (xs ys : List A) → Ascending lt xs → Ascending lt ys → ((z : A) → f z ≤ g z)
+pub total-less : {A : Type 0} (lt : A → A → Bool) (o : IsOrder lt) (f g : A → ℕ) (xs ys : List A) → Ascending lt xs → Ascending lt ys → ((z : A) → IsIn z xs → f z ≤ g z)
     → ((z : A) → IsIn z xs → (f z ≡ 0) ⊎ IsIn z ys) → total f xs ≤ total g ys
 unfolding total
 total-less lt o f g [] ys a b l h = omega arith
 total-less lt o f g (x ∷ xs) [] a b l h =
-    elim (h x (inl refl)) [ inl e ↦ (let r = total-less lt o f g xs [] a.1 tt l (λ z i. h z (inr i)) in omega arith) | inr i ↦ absurd i ]
+    elim (h x (inl refl)) [ inl e ↦ (let r = total-less lt o f g xs [] a.1 tt (λ z i. l z (inr i)) (λ z i. h z (inr i)) in omega arith) | inr i ↦ absurd i ]
 total-less {A} lt o f g (x ∷ xs) (y ∷ ys) a b l h =
     elim (h x (inl refl)) [
-      | inl e ↦ (let r = total-less lt o f g xs (y ∷ ys) a.1 b l (λ z i. h z (inr i)) in omega arith)
-      | inr (inl e) ↦ (let P : A → Type 0 = λ v. f x ≤ g v in let m = subst P e (l x) in
-          let r = total-less lt o f g xs ys a.1 b.1 l (λ z i. elim (h z (inr i)) [
+      | inl e ↦ (let r = total-less lt o f g xs (y ∷ ys) a.1 b (λ z i. l z (inr i)) (λ z i. h z (inr i)) in omega arith)
+      | inr (inl e) ↦ (let P : A → Type 0 = λ v. f x ≤ g v in let m = subst P e (l x (inl refl)) in
+          let r = total-less lt o f g xs ys a.1 b.1 (λ z i. l z (inr i)) (λ z i. elim (h z (inr i)) [
             | inl q ↦ inl q
             | inr (inl q) ↦ absurd (tail-not lt o x z xs a i (q ∙ sym e))
             | inr (inr j) ↦ inr j

@@ -165,7 +165,7 @@ taken-total t [] = refl
 taken-total t (s ∷ ss) = ap (λ (n : ℕ). taken_length t s + n) (taken-total t ss)
 
 -- no more are taken by these than by those, where each of these is one of those or has taken none
-pub taken-among : (t u : Trail) (xs ys : List SessId) → Ascending session_lt xs → Ascending session_lt ys → ((s : SessId) → taken_length u s ≤ taken_length t s)
+pub taken-among : (t u : Trail) (xs ys : List SessId) → Ascending session_lt xs → Ascending session_lt ys → ((s : SessId) → IsIn s xs → taken_length u s ≤ taken_length t s)
     → ((s : SessId) → IsIn s xs → (taken_length u s ≡ 0) ⊎ IsIn s ys) → taken_by u xs ≤ taken_by t ys
 taken-among t u xs ys a b l h =
     let p = taken-total u xs in let q = taken-total t ys in
@@ -177,7 +177,7 @@ length-taken-less t u s f = count-less device_lt (is_taken u s) (is_taken t s) (
 -- no more are taken, where no other sessions are there
 pub taken-less : (t u : Trail) → ((s : SessId) → is_session u s ≡ true → is_session t s ≡ true) → ((s : SessId) (d : DevNo) → is_taken u s d ≡ true → is_taken t s d ≡ true) → taken_count u ≤ taken_count t
 taken-less t u there f =
-    taken-among t u (sessions u) (sessions t) (sessions-ascending u) (sessions-ascending t) (λ s. length-taken-less t u s (f s)) (λ s i. inr (in-sessions t s (there s (of-sessions u s i))))
+    taken-among t u (sessions u) (sessions t) (sessions-ascending u) (sessions-ascending t) (λ s i. length-taken-less t u s (f s)) (λ s i. inr (in-sessions t s (there s (of-sessions u s i))))
 
 -- and one less, where one device is given back
 pub taken-gone : (t u : Trail) → ((s : SessId) → is_session u s ≡ is_session t s) → ((s : SessId) (d : DevNo) → is_taken u s d ≡ true → is_taken t s d ≡ true)

@@ -65,12 +65,12 @@ use Rattle.login_laws.proofs.Giving.{Good}
 use Rattle.login_laws.proofs.Accords.{good-sound}
 use Rattle.login_laws.proofs.Counts.{both-true, connections-list, count-less, count-more, count-same, sessions-list, taken-by-more, taken-less, is_controlled, is_ruled, length-taken-less, locks-list, open-list, put-length, ruled-list, sessions-ascending, taken-among, taken-list, taken_length}
 use Rattle.login_laws.proofs.Ending.{good-disconnect}
-use Rattle.login_laws.proofs.Paying.{Falls, base, counted, handle-in, open-session}
+use Rattle.login_laws.proofs.Paying.{Falls, base, counted, falls-controlled, falls-locked, falls-opened, handle-in, open-session}
 use Rattle.login_laws.proofs.PayingEnds.{pays-disconnect}
 use Rattle.login_laws.proofs.PayingMoves.{settle-within}
 use Rattle.login_laws.proofs.NeedLaws.{ends, need-is}
 use Rattle.login_laws.proofs.RoomLaws.{room, stop-stays}
-use Rattle.login_laws.proofs.WithinLaws.{Within, active-there, filter-length, plain-within, say-within, taken-there, within-each, within-if, within-more, within-refl, within-trans}
+use Rattle.login_laws.proofs.WithinLaws.{Within, active-there, filter-length, owner-within, plain-within, say-within, taken-there, within-each, within-if, within-more, within-refl, within-trans}
 use Rattle.login_laws.proofs.ProcedureMarks.{TakenWithin, activate-within, close-within, exit-within, kill-within, know-within, untake-within, linger-within, next-within, previous-within, release-within, request-within, revoke-within, shut-some, shut-within, take_seat-within, tick-within}
 
 -- ---- one more of what the need counts
@@ -91,20 +91,20 @@ or-was (inr b) f = inr (f b)
 but-falls : (c : ConnId) (s : SessId) (f g h : Facts) → FallsBut c s f g → Falls g h → FallsBut c s f h
 but-falls c s f g h p q = record {
   connected = λ b e. p.connected b (q.connected b e);
-  controlled = λ r e. p.controlled r (q.controlled r e);
-  opened = λ r e. p.opened r (q.opened r e);
+  controlled = λ r e. p.controlled r (falls-controlled g h q r e);
+  opened = λ r e. p.opened r (falls-opened g h q r e);
   there = λ r e. p.there r (q.there r e);
-  locked = λ l e. p.locked l (q.locked l e);
+  locked = λ l e. p.locked l (falls-locked g h q l e);
   taken = λ r d e. p.taken r d (q.taken r d e);
 }
 
 falls-but : (c : ConnId) (s : SessId) (f g h : Facts) → Falls f g → FallsBut c s g h → FallsBut c s f h
 falls-but c s f g h p q = record {
   connected = λ b e. or-was (q.connected b e) (p.connected b);
-  controlled = λ r e. or-was (q.controlled r e) (p.controlled r);
-  opened = λ r e. or-was (q.opened r e) (p.opened r);
+  controlled = λ r e. or-was (q.controlled r e) (falls-controlled f g p r);
+  opened = λ r e. or-was (q.opened r e) (falls-opened f g p r);
   there = λ r e. or-was (q.there r e) (p.there r);
-  locked = λ l e. p.locked l (q.locked l e);
+  locked = λ l e. falls-locked f g p l (q.locked l e);
   taken = λ r d e. p.taken r d (q.taken r d e);
 }
 
@@ -131,8 +131,8 @@ but-controlled c s x f = record {
   taken = λ r d e. e;
 }
 
-but-made : (c : ConnId) (s : SessId) (x : Fact) (f : Facts) → FallsBut c s f (upd (key.Sess s) x f)
-but-made c s x f = record {
+but-made : (c : ConnId) (s : SessId) (h : HandleNo) (o x : Fact) (f : Facts) → FallsBut c s f (upd (key.Sess s) x (upd (key.Owner h) o f))
+but-made c s h o x f = record {
   opened = λ r e. elim (was is_open_fact (key.Sess s) (key.Sess r) x f e) [ inl q ↦ inl (sym (sess-one s r q.0)) | inr q ↦ inr q.1 ];
   there = λ r e. elim (was is_session_fact (key.Sess s) (key.Sess r) x f e) [ inl q ↦ inl (sym (sess-one s r q.0)) | inr q ↦ inr q.1 ];
   connected = λ b e. inr e;
@@ -151,27 +151,29 @@ most_itself t = 6 * taken_count t + 8 * length (sessions t) + 4 * length (users 
 abbrev gross : Trail → ℕ
 gross t = base t + 3 * length (locks t)
 
--- so many marks at most, one more device taken at most, and what is counted grows by no more than one device does
-record Steps (t u : Trail) : Type 0 where
+-- so many marks at most, one more device taken at most, and what is counted grows by no more than one device does; where
+-- nothing is brought there is no more than before
+pub record Steps (brings : Bool) (t u : Trail) : Type 0 where
+  pub falls : brings ≡ false → Falls (value t) (value u)
   marks : length u ≤ length t + most_itself t
-  taken : taken_count u ≤ taken_count t + 1
+  pub taken : taken_count u ≤ taken_count t + 1
   rises : gross u + 8 * taken_count u ≤ gross t + 8 * taken_count t + 12
 
-step-within : (n : ℕ) (t u : Trail) → n ≤ most_itself t → Within n t u → Steps t u
+step-within : {b : Bool} (n : ℕ) (t u : Trail) → n ≤ most_itself t → Within n t u → Steps b t u
 step-within n t u l w =
     let m = w.marks in
     let c = counted t u w.falls in
     let c1 = c.connected in let c2 = c.controlled in let c3 = c.opened in let c4 = c.taken in let c5 = c.locked in
-    record { marks = omega arith; taken = omega arith; rises = omega arith }
+    record { falls = λ e. w.falls; marks = omega arith; taken = omega arith; rises = omega arith }
 
-step-refl : (t : Trail) → Steps t t
+step-refl : {b : Bool} (t : Trail) → Steps b t t
 step-refl t = step-within 0 t t (omega arith) (within-refl 0 t)
 
-step-if : (b : Bool) (t u v : Trail) → Steps t u → Steps t v → Steps t (cond b u v)
+step-if : {a : Bool} (b : Bool) (t u v : Trail) → Steps a t u → Steps a t v → Steps a t (cond b u v)
 step-if true t u v p q = p
 step-if false t u v p q = q
 
-step-some : {A : Type 0} (f : A → Trail → Trail) (o : Option A) (t : Trail) → ((x : A) → Steps t (f x t)) → Steps t (if_some f o t)
+step-some : {b : Bool} {A : Type 0} (f : A → Trail → Trail) (o : Option A) (t : Trail) → ((x : A) → Steps b t (f x t)) → Steps b t (if_some f o t)
 step-some f None t step = step-refl t
 step-some f (Some x) t step = step x
 
@@ -185,22 +187,22 @@ ruled-but c s t u f r e =
 
 -- where a session that was not there has taken nothing
 step-but : (c : ConnId) (s : SessId) (n : ℕ) (t u : Trail) → n ≤ most_itself t → length u ≤ length t + n → FallsBut c s (value t) (value u)
-    → ((r : SessId) → is_session u r ≡ true → (taken_length u r ≡ 0) ⊎ (is_session t r ≡ true)) → Steps t u
+    → ((r : SessId) → is_session u r ≡ true → (taken_length u r ≡ 0) ⊎ (is_session t r ≡ true)) → Steps true t u
 step-but c s n t u l m f z =
     let c1 = count-more conn_lt (is_connected u) (is_connected t) (connections u) (connections t) (connections-list u) (connections-list t) c f.connected in
     let c2 = count-more session_lt (is_ruled u) (is_ruled t) (controlled_sessions u) (controlled_sessions t) (ruled-list u) (ruled-list t) s (ruled-but c s t u f) in
-    let c3 = taken-among t u (sessions u) (sessions t) (sessions-ascending u) (sessions-ascending t) (λ r. length-taken-less t u r (f.taken r)) (λ r i. or-was (z r (of-sessions u r i)) (in-sessions t r)) in
+    let c3 = taken-among t u (sessions u) (sessions t) (sessions-ascending u) (sessions-ascending t) (λ r i. length-taken-less t u r (f.taken r)) (λ r i. or-was (z r (of-sessions u r i)) (in-sessions t r)) in
     let c4 = count-more session_lt (is_open u) (is_open t) (open_sessions u) (open_sessions t) (open-list u (open-session u)) (open-list t (open-session t)) s f.opened in
     let c5 = count-less lock_lt (is_lock u) (is_lock t) (locks u) (locks t) (locks-list u) (locks-list t) f.locked in
-    record { marks = omega arith; taken = omega arith; rises = omega arith }
+    record { falls = λ e. cc; marks = omega arith; taken = omega arith; rises = omega arith }
 
 -- ---- a lock, and a device that is taken
 
-lock-one : (l r : LockNo) → key.Lock l ≡ key.Lock r → l ≡ r
+pub lock-one : (l r : LockNo) → key.Lock l ≡ key.Lock r → l ≡ r
 lock-one l r e = cc
 
 -- what is as before but for locks
-lock-counts : (l : LockNo) (x : Fact) (t : Trail) → Steps t (put (key.Lock l) x t) × (length (locks (put (key.Lock l) x t)) ≤ length (locks t) + 1)
+lock-counts : (l : LockNo) (x : Fact) (t : Trail) → Steps true t (put (key.Lock l) x t) × (length (locks (put (key.Lock l) x t)) ≤ length (locks t) + 1)
 lock-counts l x t =
     let u = put (key.Lock l) x t in
     let same = λ (k : Key) (n : same_key (key.Lock l) k ≡ false). (let z : value u k ≡ value t k = value-put (key.Lock l) k x t ∙ upd-other (key.Lock l) k x (value t) n in z) in
@@ -212,24 +214,38 @@ lock-counts l x t =
     let c5 = count-more lock_lt (is_lock u) (is_lock t) (locks u) (locks t) (locks-list u) (locks-list t) l
     (λ r e. elim (was is_lock_fact (key.Lock l) (key.Lock r) x (value t) (ap is_lock_fact (sym (value-put (key.Lock l) (key.Lock r) x t)) ∙ e)) [ inl q ↦ inl (sym (lock-one l r q.0)) | inr q ↦ inr q.1 ]) in
     let m = put-length (key.Lock l) x t in
-    (record { marks = omega arith; taken = omega arith; rises = omega arith }, c5)
+    (record { falls = λ e. cc; marks = omega arith; taken = omega arith; rises = omega arith }, c5)
 
 -- one more, after what is as before
-step-then : (t u v : Trail) (n : ℕ) → Steps t u → length u ≤ length t + 2 → n ≤ 2 → Within n u v → Steps t v
+step-then : (t u v : Trail) (n : ℕ) → Steps true t u → length u ≤ length t + 2 → n ≤ 2 → Within n u v → Steps true t v
 step-then t u v n p l m w =
     let a = p.rises in let b = p.taken in let k = w.marks in
     let c = counted u v w.falls in
     let c1 = c.connected in let c2 = c.controlled in let c3 = c.opened in let c4 = c.taken in let c5 = c.locked in
-    record { marks = omega arith; taken = omega arith; rises = omega arith }
+    record { falls = λ e. cc; marks = omega arith; taken = omega arith; rises = omega arith }
 
-step-inhibit : (x : Lock) (l : LockNo) (h : HandleNo) (t : Trail) → Steps t (inhibit x l h t)
+step-inhibit : (x : Lock) (l : LockNo) (h : HandleNo) (t : Trail) → Steps true t (inhibit x l h t)
 step-inhibit x l h t =
     let u = put (key.Lock l) (fact.Lock x) t in
     let o = fact.Owned (owner.Lock x.holder l) in
     let m = put-length (key.Lock l) (fact.Lock x) t in
-    step-then t u (put (key.Owner h) o u) 1 (lock-counts l (fact.Lock x) t).0 (omega arith) (omega arith) (plain-within (key.Owner h) o u refl)
+    step-then t u (put (key.Owner h) o u) 1 (lock-counts l (fact.Lock x) t).0 (omega arith) (omega arith) (owner-within h o u (λ b r z. cc))
 
-taken-counts : (s : SessId) (d : DevNo) (x : Fact) (t : Trail) → Steps t (put (key.Taken s d) x t)
+-- where one device is taken, other sessions have no more
+pub taken-others : (s : SessId) (d : DevNo) (x : Fact) (t : Trail) (r : SessId) → (s ≡ r → ⊥) → taken_length (put (key.Taken s d) x t) r ≤ taken_length t r
+taken-others s d x t r n =
+    let k = key.Taken s d in
+    let u = put k x t in
+    length-taken-less t u r (λ y i. ap is_handle_fact (sym (value-put k (key.Taken r y) x t ∙ upd-other k (key.Taken r y) x (value t) (apart k (key.Taken r y) (λ z. n (pair-one s r d y z).0)))) ∙ i)
+
+-- and the session one more
+pub taken-itself : (s : SessId) (d : DevNo) (x : Fact) (t : Trail) → taken_length (put (key.Taken s d) x t) s ≤ taken_length t s + 1
+taken-itself s d x t =
+    let u = put (key.Taken s d) x t in
+    count-more device_lt (is_taken u s) (is_taken t s) (taken_devices u s) (taken_devices t s) (taken-list u s) (taken-list t s) d
+    (λ y i. elim (was is_handle_fact (key.Taken s d) (key.Taken s y) x (value t) (ap is_handle_fact (sym (value-put (key.Taken s d) (key.Taken s y) x t)) ∙ i)) [ inl q ↦ inl (sym (pair-one s s d y q.0).1) | inr q ↦ inr q.1 ])
+
+taken-counts : (s : SessId) (d : DevNo) (x : Fact) (t : Trail) → Steps true t (put (key.Taken s d) x t)
 taken-counts s d x t =
     let u = put (key.Taken s d) x t in
     let same = λ (k : Key) (n : same_key (key.Taken s d) k ≡ false). (let z : value u k ≡ value t k = value-put (key.Taken s d) k x t ∙ upd-other (key.Taken s d) k x (value t) n in z) in
@@ -237,30 +253,27 @@ taken-counts s d x t =
     let c2 = count-less session_lt (is_ruled u) (is_ruled t) (controlled_sessions u) (controlled_sessions t) (ruled-list u) (ruled-list t)
     (λ r e. (let p = both (is_session u r) (is_controlled u r) e in both-true (is_session t r) (is_controlled t r) (ap is_session_fact (sym (same (key.Sess r) refl)) ∙ p.0) (ap is_controlled_fact (sym (same (key.Ctl r) refl)) ∙ p.1))) in
     let e = count-same session_lt (is_session u) (is_session t) (sessions u) (sessions t) (sessions-list u) (sessions-list t) (λ r. ap is_session_fact (same (key.Sess r) refl)) in
-    let b = taken-by-more t u (sessions t) s (sessions-ascending t)
-    (λ r n. length-taken-less t u r (λ y i. ap is_handle_fact (sym (same (key.Taken r y) (apart (key.Taken s d) (key.Taken r y) (λ z. n (pair-one s r d y z).0)))) ∙ i))
-    (count-more device_lt (is_taken u s) (is_taken t s) (taken_devices u s) (taken_devices t s) (taken-list u s) (taken-list t s) d
-    (λ y i. elim (was is_handle_fact (key.Taken s d) (key.Taken s y) x (value t) (ap is_handle_fact (sym (value-put (key.Taken s d) (key.Taken s y) x t)) ∙ i)) [ inl q ↦ inl (sym (pair-one s s d y q.0).1) | inr q ↦ inr q.1 ])) in
+    let b = taken-by-more t u (sessions t) s (sessions-ascending t) (taken-others s d x t) (taken-itself s d x t) in
     let P : List SessId → Type 0 = λ ss. taken_by u ss ≤ taken_by t (sessions t) + 1 in
     let c3 = subst P (sym e) b in
     let c4 = count-less session_lt (is_open u) (is_open t) (open_sessions u) (open_sessions t) (open-list u (open-session u)) (open-list t (open-session t)) (λ r i. ap is_open_fact (sym (same (key.Sess r) refl)) ∙ i) in
     let c5 = count-less lock_lt (is_lock u) (is_lock t) (locks u) (locks t) (locks-list u) (locks-list t) (λ l i. ap is_lock_fact (sym (same (key.Lock l) refl)) ∙ i) in
     let m = put-length (key.Taken s d) x t in
-    record { marks = omega arith; taken = omega arith; rises = omega arith }
+    record { falls = λ e. cc; marks = omega arith; taken = omega arith; rises = omega arith }
 
-enliven-within : (h : HandleNo) (b : Bool) (t : Trail) → Within 1 t (enliven h b t)
+pub enliven-within : (h : HandleNo) (b : Bool) (t : Trail) → Within 1 t (enliven h b t)
 enliven-within h true t = plain-within (key.Live h) yes t refl
 enliven-within h false t = within-refl 1 t
 
 -- after no more than before
-step-after : (t u v : Trail) → Within 1 t u → length v ≤ length u + 1 → Steps u v → Steps t v
+step-after : (t u v : Trail) → Within 1 t u → length v ≤ length u + 1 → Steps true u v → Steps true t v
 step-after t u v w l p =
     let a = p.rises in let b = p.taken in let m = w.marks in
     let c = counted t u w.falls in
     let c1 = c.connected in let c2 = c.controlled in let c3 = c.opened in let c4 = c.taken in let c5 = c.locked in
-    record { marks = omega arith; taken = omega arith; rises = omega arith }
+    record { falls = λ e. cc; marks = omega arith; taken = omega arith; rises = omega arith }
 
-step-take : (c : ConnId) (s : SessId) (d : DevNo) (h : HandleNo) (t : Trail) → Steps t (take_device c s d h t)
+step-take : (c : ConnId) (s : SessId) (d : DevNo) (h : HandleNo) (t : Trail) → Steps true t (take_device c s d h t)
 unfolding take_device
 step-take c s d h t =
     let o = fact.Owned (owner.Device c s d) in
@@ -269,7 +282,7 @@ step-take c s d h t =
     let b = put (key.Taken s d) x a in
     let m = put-length (key.Owner h) o t in
     let n = put-length (key.Taken s d) x a in
-    step-then t b (enliven h (is_active t s) b) 1 (step-after t a b (plain-within (key.Owner h) o t refl) n (taken-counts s d x a)) (omega arith) (omega arith) (enliven-within h (is_active t s) b)
+    step-then t b (enliven h (is_active t s) b) 1 (step-after t a b (owner-within h o t (λ b r z. cc)) n (taken-counts s d x a)) (omega arith) (omega arith) (enliven-within h (is_active t s) b)
 
 acknowledge-within : (s : SessId) (d : DevNo) (t : Trail) → Within 2 t (acknowledge s d t)
 unfolding acknowledge
@@ -353,13 +366,13 @@ done-within t = end-within (value t key.Op) t
 
 -- ---- connecting and controlling
 
-step-connect : (c : ConnId) (x : Fact) (t : Trail) → Steps t (put (key.Conn c) x t)
+step-connect : (c : ConnId) (x : Fact) (t : Trail) → Steps true t (put (key.Conn c) x t)
 step-connect c x t =
     let s : SessId = record { 0 = 0 } in
     step-but c s 1 t (put (key.Conn c) x t) (omega arith) (put-length (key.Conn c) x t) (but-put c s (key.Conn c) x t (but-connected c s x (value t)))
     (λ r e. inr (ap is_session_fact (sym (value-put (key.Conn c) (key.Sess r) x t)) ∙ e))
 
-step-controlled : (c : ConnId) (s : SessId) (n : ℕ) (t u : Trail) → n + 1 ≤ most_itself t → Within n t u → Steps t (put (key.Ctl s) (fact.Controller c) u)
+step-controlled : (c : ConnId) (s : SessId) (n : ℕ) (t u : Trail) → n + 1 ≤ most_itself t → Within n t u → Steps true t (put (key.Ctl s) (fact.Controller c) u)
 step-controlled c s n t u l w =
     let x = fact.Controller c in
     let v = put (key.Ctl s) x u in
@@ -368,23 +381,23 @@ step-controlled c s n t u l w =
     (falls-but c s (value t) (value u) (value v) w.falls (but-put c s (key.Ctl s) x u (but-controlled c s x (value u))))
     (λ r e. inr (w.falls.there r (ap is_session_fact (sym (value-put (key.Ctl s) (key.Sess r) x u)) ∙ e)))
 
-step-oust : (s : SessId) (c : ConnId) (t : Trail) → TakenWithin t → Steps t (oust s c t)
+step-oust : (s : SessId) (c : ConnId) (t : Trail) → TakenWithin t → Steps true t (oust s c t)
 unfolding oust
 step-oust s c t l =
     let a = l s in
     step-controlled c s (4 * taken_length t s) t (each (revoke s) (taken_devices t s) t) (omega arith) (within-each 4 (revoke s) (revoke-within s) (taken_devices t s) t)
 
-step-from : (x : Fact) (c : ConnId) (s : SessId) (t : Trail) → TakenWithin t → Steps t (control_from x c s t)
+step-from : (x : Fact) (c : ConnId) (s : SessId) (t : Trail) → TakenWithin t → Steps true t (control_from x c s t)
 step-from (fact.Controller b) c s t l = step-if (b.0 == c.0) t t (oust s c t) (step-refl t) (step-oust s c t l)
 step-from _ c s t l = step-controlled c s 0 t t (omega arith) (within-refl 0 t)
 
-step-control : (c : ConnId) (s : SessId) (t : Trail) → TakenWithin t → Steps t (control c s t)
+step-control : (c : ConnId) (s : SessId) (t : Trail) → TakenWithin t → Steps true t (control c s t)
 unfolding control
 step-control c s t l = step-from (value t (key.Ctl s)) c s t l
 
 -- ---- creating
 
-appear-within : (o : Option (List ℕ)) (s : SessId) (n : ℕ) (t : Trail) → ((r : SessId) → is_session t r ≡ true → taken_length t r ≤ n) → Within (2 * n + 2) t (appear_on o s t)
+pub appear-within : (o : Option (List ℕ)) (s : SessId) (n : ℕ) (t : Trail) → ((r : SessId) → is_session t r ≡ true → taken_length t r ≤ n) → Within (2 * n + 2) t (appear_on o s t)
 appear-within None s n t l = within-refl (2 * n + 2) t
 appear-within (Some seat) s n t l =
     (let m = 2 * n + 2 in
@@ -393,7 +406,7 @@ appear-within (Some seat) s n t l =
     (within-if (is_active t s) m t (tell_all x t) t (within-more 1 m t (tell_all x t) (omega arith) (say-within All x t)) (within-refl m t))
     (take_seat-within seat s (active_on t seat) n t (λ r e. l r (active-there t seat r e))))
 
-length-none : {A : Type 0} (xs : List A) → ((x : A) → IsIn x xs → ⊥) → length xs ≡ 0
+pub length-none : {A : Type 0} (xs : List A) → ((x : A) → IsIn x xs → ⊥) → length xs ≡ 0
 length-none [] n = refl
 length-none (x ∷ xs) n = absurd (n x (inl refl))
 
@@ -405,7 +418,7 @@ new-none t u =
     (let e : value t (key.Taken s d) ≡ fact.Absent = u.sessions (key.Taken s d) s refl (omega arith) in
     true-false (is_taken t s d) ((taken-list t s).gives d i) (ap is_handle_fact e)))
 
-step-create : (c : ConnId) (x : Creation) (t : Trail) → Unused t → TakenWithin t → Steps t (create c x (next_session t) (next_handle t) t)
+step-create : (c : ConnId) (x : Creation) (t : Trail) → Unused t → TakenWithin t → Steps true t (create c x (next_session t) (next_handle t) t)
 unfolding create
 step-create c x t w l =
     let s = next_session t in
@@ -418,10 +431,13 @@ step-create c x t w l =
     let t3 = put (key.Sess s) y t2 in
     let t4 = tell_all (notice.SessionNew s) t3 in
     let u = appear_on (seat_of x.seat) s t4 in
-    let a = within-trans 2 1 t t1 t2 (know-within x.uid t) (plain-within (key.Owner h) o t1 refl) in
-    let m1 = a.marks in
+    let a = know-within x.uid t in
+    let m0 = a.marks in
+    let m1 = put-length (key.Owner h) o t1 in
     let m2 = put-length (key.Sess s) y t2 in
-    let f3 = falls-but c s (value t) (value t2) (value t3) a.falls (but-put c s (key.Sess s) y t2 (but-made c s y (value t2))) in
+    let P : Facts → Type 0 = λ g. FallsBut c s (value t1) g in
+    let path : value t3 ≡ upd (key.Sess s) y (upd (key.Owner h) o (value t1)) = values-put (key.Sess s) y t2 ∙ ap (upd (key.Sess s) y) (values-put (key.Owner h) o t1) in
+    let f3 = falls-but c s (value t) (value t1) (value t3) a.falls (subst P (sym path) (but-made c s h o y (value t1))) in
     let b = say-within All (notice.SessionNew s) t3 in
     let f4 = but-falls c s (value t) (value t3) (value t4) f3 b.falls in
     let d = appear-within (seat_of x.seat) s n t4 (λ r e. (let p = length-taken-less t t4 r (f4.taken r) in let q = l r in omega arith)) in
@@ -456,13 +472,21 @@ signal-within : (who : KillWhom) (n : ℤ) (s : SessId) (t : Trail) → Within 1
 signal-within who n s t = plain-within (key.Sig s) (fact.Signal who n) t refl
 
 -- one mark
-step-one : (t u : Trail) → Within 1 t u → Steps t u
+step-one : {b : Bool} (t u : Trail) → Within 1 t u → Steps b t u
 step-one t u w = step-within 1 t u (omega arith) w
 
-step-activate : (o : Option SessId) (t : Trail) → TakenWithin t → Steps t (if_some activate o t)
+step-activate : {b : Bool} (o : Option SessId) (t : Trail) → TakenWithin t → Steps b t (if_some activate o t)
 step-activate o t l = step-some activate o t (λ s. step-within (6 * taken_count t + 2) t (activate s t) (omega arith) (activate-within s t l))
 
-step-call : (U : Setup) (c : ConnId) (x : Call) (t : Trail) → Unused t → TakenWithin t → Steps t (direct_call U c x t)
+-- whether a call brings a session, control, a device or a lock
+abbrev pub brings_call : Call → Bool
+brings_call (call.Create x) = true
+brings_call (call.Control id force) = true
+brings_call (call.TakeDevice id d) = true
+brings_call (call.Inhibit x) = true
+brings_call _ = false
+
+pub step-call : (U : Setup) (c : ConnId) (x : Call) (t : Trail) → Unused t → TakenWithin t → Steps (brings_call x) t (direct_call U c x t)
 step-call U c (call.Create x) t w l = step-create c x t w l
 step-call U c (call.Activate id) t w l = step-activate (session_of id) t l
 step-call U c (call.ActivateOnSeat id seat) t w l = step-activate (session_of id) t l
@@ -507,13 +531,13 @@ step-call U c _ t w l = step-refl t
 
 -- ---- events
 
-step-press : (x : KeyAction) (t : Trail) → Steps t (press x t)
+step-press : (x : KeyAction) (t : Trail) → Steps false t (press x t)
 step-press does.Ignore t = step-refl t
 step-press does.Lock t =
     step-within (length (sessions t)) t (each lock_session (open_sessions t) t) (omega arith) (open-within lock_session (λ s u. say-within All (notice.Lock s) u) t)
 step-press (does.Operation k) t = step-within 2 t (ask_operation k (is_blocked t k) t) (omega arith) (ask-within k (is_blocked t k) t)
 
-step-happen : (U : Setup) (x : Hardware) (t : Trail) → TakenWithin t → Steps t (happen U x t)
+step-happen : (U : Setup) (x : Hardware) (t : Trail) → TakenWithin t → Steps false t (happen U x t)
 step-happen U (VtKey vt) t l = step-within (5 * taken_count t + 1) t (happen U (VtKey vt) t) (omega arith) (request-within vt t)
 step-happen U (Exit id) t l =
     step-some (exit U) (session_of id) t (λ s. step-within (3 * taken_count t + 8) t (exit U s t) (omega arith) (exit-within U s t l))
@@ -524,7 +548,13 @@ step-happen U (Dock on) t l = step-one t (put key.Docked (fact.Flag on) t) (plai
 step-happen U JobDone t l = step-within 2 t (job_done t) (omega arith) (done-within t)
 step-happen U _ t l = step-refl t
 
-step-direct : (U : Setup) (e : Event) (t : Trail) → (IsDisconnect e → ⊥) → Unused t → TakenWithin t → Steps t (direct U e t)
+-- whether an event does, or a connection
+abbrev pub brings : Event → Bool
+brings (Calls q) = brings_call q.call
+brings (Connect c u) = true
+brings _ = false
+
+pub step-direct : (U : Setup) (e : Event) (t : Trail) → (IsDisconnect e → ⊥) → Unused t → TakenWithin t → Steps (brings e) t (direct U e t)
 unfolding direct
 step-direct U (Connect c u) t n w l = step-connect c (fact.Connected u) t
 step-direct U (Disconnect c) t n w l = absurd (n tt)
@@ -541,7 +571,7 @@ taken-at false t s e g =
     (let h = handle-in (value t (key.Taken s d)) ((taken-list t s).gives d i) in
     true-false (is_session t s) (open-there (value t (key.Sess s)) (g.holds.takes s d h.0 h.1).3) e)) in omega arith)
 
-taken-within : (t : Trail) → Good none_out t → TakenWithin t
+pub taken-within : (t : Trail) → Good none_out t → TakenWithin t
 taken-within t g s = taken-at (is_session t s) t s refl g
 
 -- ---- with what is settled
@@ -553,7 +583,7 @@ switch-at false n = omega arith
 switch-most : (t : Trail) → switch_need t ≤ 8 * taken_count t + 8
 switch-most t = switch-at (is_number_fact (value t key.Pending)) (taken_count t)
 
-settle-step : (U : Setup) (t u : Trail) → Steps t u → IsWithin t (settle U u)
+settle-step : {b : Bool} (U : Setup) (t u : Trail) → Steps b t u → IsWithin t (settle U u)
 settle-step U t u p =
     let v = settle U u in
     let w = settle-within U u in

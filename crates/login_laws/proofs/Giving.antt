@@ -199,7 +199,7 @@ pub fewer-each : {A : Type 0} (out : Exempt) (f : A → Trail → Trail) → ((x
 fewer-each out f step xs t g =
     each-keeps (Fewer out t) f xs (λ x u i w. fewer-trans out t u (f x u) w (step x u w.good)) t (fewer-refl out t g)
 
-none-left : (out : Exempt) (f : SessId → DevNo → Trail → Trail) → GivesUp f → (s : SessId) (t : Trail) → Good out t → HasNone (value (each (f s) (taken_devices t s) t)) s
+pub none-left : (out : Exempt) (f : SessId → DevNo → Trail → Trail) → GivesUp f → (s : SessId) (t : Trail) → Good out t → HasNone (value (each (f s) (taken_devices t s) t)) s
 none-left out f up s t g d h e =
     let whole = fewer-each out (f s) (up.fewer out s) (taken_devices t s) t g in
     each-does (Good out) (λ x u. (n : HandleNo) → value u (key.Taken s x) ≡ fact.Handle n → ⊥) (f s)

@@ -59,6 +59,7 @@ pub mod Lessening
 pub mod Spending
 pub mod Quieting
 pub mod SharesLaws
+pub mod Raising
 pub mod NamedMarks
 pub mod NamedCounts
 pub mod NamedLimits

@@ -40,7 +40,7 @@ use Rattle.login_laws.proofs.Giving.{Good}
 use Rattle.login_laws.proofs.Settling.{NoneAwaited, moved}
 use Rattle.login_laws.proofs.Accords.{good-sound}
 use Rattle.login_laws.proofs.Ending.{good-disconnect}
-use Rattle.login_laws.proofs.Paying.{Falls, base, counted, falls-refl}
+use Rattle.login_laws.proofs.Paying.{Falls, base, counted, falls-refl, lock-in}
 use Rattle.login_laws.proofs.PayingEnds.{pays-disconnect}
 use Rattle.login_laws.proofs.PayingMoves.{move-within}
 
@@ -103,10 +103,6 @@ switch-locks : (conf : Conf) (t : Trail) → length (locks t) ≤ length (locks 
 switch-locks conf t =
     let u = settle_switch conf t in
     count-less lock_lt (is_lock t) (is_lock u) (locks t) (locks u) (locks-list t) (locks-list u) (λ l e. ap is_lock_fact ((switch-still conf t).locks l) ∙ e)
-
-pub lock-in : (x : Fact) → is_lock_fact x ≡ true → (y : Lock) × (x ≡ fact.Lock y)
-lock-in (fact.Lock y) e = (y, refl)
-lock-in _ e = cc
 
 locks-fall-less : (t u : Trail) → LocksFall t u → length (locks u) ≤ length (locks t)
 locks-fall-less t u f =

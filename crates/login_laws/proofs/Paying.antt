@@ -16,6 +16,8 @@ use Rattle.login_model.specs.Procedure.{each, kill, no, untake}
 use Rattle.login_model.specs.declared.fact.Key.TheVariants as key
 use Rattle.login_model.specs.declared.fact.Fact.{Fact}
 use Rattle.login_model.specs.declared.fact.Fact.TheVariants as fact
+use Rattle.login_model.specs.declared.fact.Owner.TheVariants as owner
+use Rattle.login_model.specs.declared.lock.Lock.{Lock}
 use Rattle.login_model.proofs.Keys.{both}
 use Rattle.login_model.proofs.Values.{Facts, true-false}
 use Rattle.login_laws.proofs.Holds.{none_out}
@@ -25,24 +27,43 @@ use Rattle.login_laws.proofs.UnusedLaws.{at-most}
 use Rattle.login_laws.proofs.Giving.{Good, Less, fewer-untake, untake-gone}
 use Rattle.login_laws.proofs.Counts.{both-true, connections-list, count-less, is_controlled, is_ruled, locks-list, open-list, put-length, put-none, ruled-list, taken-gone, taken-less}
 
--- no more connect, control, are open, lock and take than before
+-- no more connect, control, keep open, lock and take than before
 pub record Falls (f g : Facts) : Type 0 where
   pub connected : (c : ConnId) → is_connected_fact (g (key.Conn c)) ≡ true → is_connected_fact (f (key.Conn c)) ≡ true
-  pub controlled : (s : SessId) → is_controlled_fact (g (key.Ctl s)) ≡ true → is_controlled_fact (f (key.Ctl s)) ≡ true
-  pub opened : (s : SessId) → is_open_fact (g (key.Sess s)) ≡ true → is_open_fact (f (key.Sess s)) ≡ true
-  pub locked : (l : LockNo) → is_lock_fact (g (key.Lock l)) ≡ true → is_lock_fact (f (key.Lock l)) ≡ true
+  pub controls : (s : SessId) (c : ConnId) → g (key.Ctl s) ≡ fact.Controller c → f (key.Ctl s) ≡ fact.Controller c
+  pub opens : (s : SessId) → is_open_fact (g (key.Sess s)) ≡ true → g (key.Sess s) ≡ f (key.Sess s)
+  pub fifos : (h : HandleNo) (c : ConnId) (s : SessId) → g (key.Owner h) ≡ fact.Owned (owner.Fifo c s) → f (key.Owner h) ≡ fact.Owned (owner.Fifo c s)
+  pub locks : (l : LockNo) (x : Lock) → g (key.Lock l) ≡ fact.Lock x → f (key.Lock l) ≡ fact.Lock x
   pub taken : (s : SessId) (d : DevNo) → is_handle_fact (g (key.Taken s d)) ≡ true → is_handle_fact (f (key.Taken s d)) ≡ true
   pub there : (s : SessId) → is_session_fact (g (key.Sess s)) ≡ true → is_session_fact (f (key.Sess s)) ≡ true
 
 pub falls-refl : (f : Facts) → Falls f f
-falls-refl f = record { connected = λ c e. e; controlled = λ s e. e; opened = λ s e. e; locked = λ l e. e; taken = λ s d e. e; there = λ s e. e }
+falls-refl f = record { connected = λ c e. e; controls = λ s c e. e; opens = λ s e. refl; fifos = λ h c s e. e; locks = λ l x e. e; taken = λ s d e. e; there = λ s e. e }
+
+pub falls-opened : (f g : Facts) → Falls f g → (s : SessId) → is_open_fact (g (key.Sess s)) ≡ true → is_open_fact (f (key.Sess s)) ≡ true
+falls-opened f g w s e = ap is_open_fact (sym (w.opens s e)) ∙ e
+
+controller-in : (x : Fact) → is_controlled_fact x ≡ true → (c : ConnId) × (x ≡ fact.Controller c)
+controller-in (fact.Controller c) e = (c, refl)
+controller-in _ e = cc
+
+pub falls-controlled : (f g : Facts) → Falls f g → (s : SessId) → is_controlled_fact (g (key.Ctl s)) ≡ true → is_controlled_fact (f (key.Ctl s)) ≡ true
+falls-controlled f g w s e = (let i = controller-in (g (key.Ctl s)) e in ap is_controlled_fact (w.controls s i.0 i.1))
+
+pub lock-in : (x : Fact) → is_lock_fact x ≡ true → (y : Lock) × (x ≡ fact.Lock y)
+lock-in (fact.Lock y) e = (y, refl)
+lock-in _ e = cc
+
+pub falls-locked : (f g : Facts) → Falls f g → (l : LockNo) → is_lock_fact (g (key.Lock l)) ≡ true → is_lock_fact (f (key.Lock l)) ≡ true
+falls-locked f g w l e = (let i = lock-in (g (key.Lock l)) e in ap is_lock_fact (w.locks l i.0 i.1))
 
 pub falls-trans : (f g h : Facts) → Falls f g → Falls g h → Falls f h
 falls-trans f g h p q = record {
   connected = λ c e. p.connected c (q.connected c e);
-  controlled = λ s e. p.controlled s (q.controlled s e);
-  opened = λ s e. p.opened s (q.opened s e);
-  locked = λ l e. p.locked l (q.locked l e);
+  controls = λ s c e. p.controls s c (q.controls s c e);
+  opens = λ s e. q.opens s e ∙ p.opens s (falls-opened g h q s e);
+  fifos = λ n c s e. p.fifos n c s (q.fifos n c s e);
+  locks = λ l x e. p.locks l x (q.locks l x e);
   taken = λ s d e. p.taken s d (q.taken s d e);
   there = λ s e. p.there s (q.there s e);
 }
@@ -54,9 +75,10 @@ handle-in _ e = cc
 pub falls-less : (f g : Facts) → Less f g → Falls f g
 falls-less f g l = (let k = l.keeps.facts in record {
   connected = λ c e. ap is_connected_fact (sym (k (key.Conn c) refl)) ∙ e;
-  controlled = λ s e. ap is_controlled_fact (sym (k (key.Ctl s) refl)) ∙ e;
-  opened = λ s e. ap is_open_fact (sym (k (key.Sess s) refl)) ∙ e;
-  locked = λ n e. ap is_lock_fact (sym (k (key.Lock n) refl)) ∙ e;
+  controls = λ s c e. sym (k (key.Ctl s) refl) ∙ e;
+  opens = λ s e. k (key.Sess s) refl;
+  fifos = λ h c s e. sym (k (key.Owner h) refl) ∙ e;
+  locks = λ n x e. sym (k (key.Lock n) refl) ∙ e;
   taken = λ s d e. (let i = handle-in (g (key.Taken s d)) e in ap is_handle_fact (l.taken s d i.0 i.1));
   there = λ s e. ap is_session_fact (sym (k (key.Sess s) refl)) ∙ e;
 })
@@ -88,23 +110,19 @@ pub record Counted (t u : Trail) : Type 0 where
 pub open-session : (t : Trail) (s : SessId) → is_open t s ≡ true → is_session t s ≡ true
 open-session t s e = open-there (value t (key.Sess s)) e
 
-controller-in : (x : Fact) → is_controlled_fact x ≡ true → (c : ConnId) × (x ≡ fact.Controller c)
-controller-in (fact.Controller c) e = (c, refl)
-controller-in _ e = cc
-
 pub controlled-session : (t : Trail) → Good none_out t → (s : SessId) → is_controlled t s ≡ true → is_session t s ≡ true
 controlled-session t g s e = (let i = controller-in (value t (key.Ctl s)) e in open-there (value t (key.Sess s)) (g.holds.controls s i.0 i.1).1)
 
 ruled-less : (t u : Trail) → Falls (value t) (value u) → (s : SessId) → is_ruled u s ≡ true → is_ruled t s ≡ true
-ruled-less t u f s e = (let p = both (is_session u s) (is_controlled u s) e in both-true (is_session t s) (is_controlled t s) (f.there s p.0) (f.controlled s p.1))
+ruled-less t u f s e = (let p = both (is_session u s) (is_controlled u s) e in both-true (is_session t s) (is_controlled t s) (f.there s p.0) (falls-controlled (value t) (value u) f s p.1))
 
 pub counted : (t u : Trail) → Falls (value t) (value u) → Counted t u
 counted t u f = record {
   connected = count-less conn_lt (is_connected u) (is_connected t) (connections u) (connections t) (connections-list u) (connections-list t) f.connected;
   controlled = count-less session_lt (is_ruled u) (is_ruled t) (controlled_sessions u) (controlled_sessions t) (ruled-list u) (ruled-list t) (ruled-less t u f);
   taken = taken-less t u f.there f.taken;
-  opened = count-less session_lt (is_open u) (is_open t) (open_sessions u) (open_sessions t) (open-list u (open-session u)) (open-list t (open-session t)) f.opened;
-  locked = count-less lock_lt (is_lock u) (is_lock t) (locks u) (locks t) (locks-list u) (locks-list t) f.locked;
+  opened = count-less session_lt (is_open u) (is_open t) (open_sessions u) (open_sessions t) (open-list u (open-session u)) (open-list t (open-session t)) (falls-opened (value t) (value u) f);
+  locked = count-less lock_lt (is_lock u) (is_lock t) (locks u) (locks t) (locks-list u) (locks-list t) (falls-locked (value t) (value u) f);
 }
 
 -- ---- one device

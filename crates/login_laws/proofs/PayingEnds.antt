@@ -21,22 +21,23 @@ use Rattle.login_model.specs.declared.fact.Key.{Key}
 use Rattle.login_model.specs.declared.fact.Key.TheVariants as key
 use Rattle.login_model.specs.declared.fact.Fact.TheVariants as fact
 use Rattle.login_model.proofs.Keys.{same-session, test}
-use Rattle.login_model.proofs.Values.{Facts, same-refl, true-false, upd, upd-same, value-put, values-put, values-say, was}
+use Rattle.login_model.proofs.Values.{Facts, given, same-refl, true-false, upd, upd-same, value-put, values-put, values-say, was}
 use Rattle.login_laws.proofs.Holds.{none_out}
 use Rattle.login_laws.proofs.Giving.{Good, Keeps, keeps-put, keeps-trans, released}
-use Rattle.login_laws.proofs.Closing.{Shut, shut-does, shut-open}
+use Rattle.login_laws.proofs.Closing.{Shut, shut-does}
 use Rattle.login_laws.proofs.Ending.{good-lock-gone}
 use Rattle.login_laws.proofs.Counts.{connections-list, controlled-list, count-gone, is_controlled, locks-list, open-list, put-length, put-none}
-use Rattle.login_laws.proofs.Paying.{Falls, Pays, absent-in, absent-or, controlled-session, counted, not-set, open-session, pays-each, pays-refl, pays-trans, pays-untake}
+use Rattle.login_laws.proofs.Paying.{Falls, Pays, absent-in, absent-or, controlled-session, counted, falls-controlled, falls-locked, falls-opened, not-set, open-session, pays-each, pays-refl, pays-trans, pays-untake}
 
 -- ---- control
 
 pub falls-control : (s : SessId) (f : Facts) → Falls f (upd (key.Ctl s) fact.Absent f)
 falls-control s f = record {
   connected = λ c e. e;
-  controlled = λ r e. elim (was is_controlled_fact (key.Ctl s) (key.Ctl r) fact.Absent f e) [ inl q ↦ (let z = q.1 in cc) | inr q ↦ q.1 ];
-  opened = λ r e. e;
-  locked = λ l e. e;
+  controls = λ r b e. elim (given (key.Ctl s) (key.Ctl r) fact.Absent (fact.Controller b) f e) [ inl q ↦ (let z = q.1 in cc) | inr q ↦ q.1 ];
+  opens = λ r e. refl;
+  fifos = λ h b r e. e;
+  locks = λ l x e. e;
   taken = λ r d e. e;
   there = λ r e. e;
 }
@@ -49,7 +50,7 @@ control-some s t g w e =
     let c = counted t u f in
     let c1 = c.connected in let c3 = c.taken in let c4 = c.opened in let c5 = c.locked in
     let gone : is_controlled u s ≡ false = ap is_controlled_fact (value-put (key.Ctl s) (key.Ctl s) fact.Absent t ∙ upd-same (key.Ctl s) fact.Absent (value t)) in
-    let c2 = count-gone session_lt (is_controlled u) (is_controlled t) (controlled_sessions u) (controlled_sessions t) (controlled-list u (controlled-session u w)) (controlled-list t (controlled-session t g)) f.controlled s gone e in
+    let c2 = count-gone session_lt (is_controlled u) (is_controlled t) (controlled_sessions u) (controlled_sessions t) (controlled-list u (controlled-session u w)) (controlled-list t (controlled-session t g)) (falls-controlled (value t) (value u) f) s gone e in
     let m = put-length (key.Ctl s) fact.Absent t in
     record { good = w; falls = f; sum = omega arith; pending = value-put (key.Ctl s) key.Pending fact.Absent t }
 
@@ -112,15 +113,16 @@ shut-some s t u g o d a =
     let same = λ (q : SessId). (let z : is_session_fact (value u (key.Sess q)) ≡ is_session_fact (value t (key.Sess q)) = by-test q in z) in
     let f : Falls (value v) (value u) = record {
       connected = λ c x. ap is_connected_fact (sym (k (key.Conn c) refl)) ∙ x;
-      controlled = λ q x. ap is_controlled_fact (sym (k (key.Ctl q) refl)) ∙ x;
-      opened = λ q x. ap is_open_fact (e q) ∙ shut-open none_out s q t u d x;
-      locked = λ l x. ap is_lock_fact (sym (k (key.Lock l) refl)) ∙ x;
+      controls = λ q c x. sym (k (key.Ctl q) refl) ∙ x;
+      opens = λ q x. d.others q (λ z. d.closed (ap (λ (n : SessId). is_open_fact (value u (key.Sess n))) z ∙ x)) ∙ sym (e q);
+      fifos = λ h c q x. sym (k (key.Owner h) refl) ∙ x;
+      locks = λ l y x. sym (k (key.Lock l) refl) ∙ x;
       taken = λ q n x. ap is_handle_fact (sym (k (key.Taken q n) refl)) ∙ x;
       there = λ q x. ap is_session_fact (e q) ∙ sym (same q) ∙ x;
     } in
     let c = counted v u f in
     let c1 = c.connected in let c2 = c.controlled in let c3 = c.taken in let c5 = c.locked in
-    let c4 = count-gone session_lt (is_open u) (is_open v) (open_sessions u) (open_sessions v) (open-list u (open-session u)) (open-list v (open-session v)) f.opened s
+    let c4 = count-gone session_lt (is_open u) (is_open v) (open_sessions u) (open_sessions v) (open-list u (open-session u)) (open-list v (open-session v)) (falls-opened (value v) (value u) f) s
     (not-set (is_open u s) d.closed) (ap is_open_fact (e s) ∙ o) in
     let m = a.marks in
     pays-trans t v u p (record { good = d.good; falls = f; sum = omega arith; pending = k key.Pending refl })
@@ -153,9 +155,10 @@ pays-shut s t g = shut-by (is_open t s) s t refl g (as-written s t (shut-does no
 pub falls-lock : (l : LockNo) (f : Facts) → Falls f (upd (key.Lock l) fact.Absent f)
 falls-lock l f = record {
   connected = λ c e. e;
-  controlled = λ s e. e;
-  opened = λ s e. e;
-  locked = λ n e. elim (was is_lock_fact (key.Lock l) (key.Lock n) fact.Absent f e) [ inl q ↦ (let z = q.1 in cc) | inr q ↦ q.1 ];
+  controls = λ s c e. e;
+  opens = λ s e. refl;
+  fifos = λ h c s e. e;
+  locks = λ n x e. elim (given (key.Lock l) (key.Lock n) fact.Absent (fact.Lock x) f e) [ inl q ↦ (let z = q.1 in cc) | inr q ↦ q.1 ];
   taken = λ s d e. e;
   there = λ s e. e;
 }
@@ -169,7 +172,7 @@ lock-by true l t e g =
     let c = counted t u f in
     let c1 = c.connected in let c2 = c.controlled in let c3 = c.taken in let c4 = c.opened in
     let gone : is_lock u l ≡ false = ap is_lock_fact (value-put (key.Lock l) (key.Lock l) fact.Absent t ∙ upd-same (key.Lock l) fact.Absent (value t)) in
-    let c5 = count-gone lock_lt (is_lock u) (is_lock t) (locks u) (locks t) (locks-list u) (locks-list t) f.locked l gone e in
+    let c5 = count-gone lock_lt (is_lock u) (is_lock t) (locks u) (locks t) (locks-list u) (locks-list t) (falls-locked (value t) (value u) f) l gone e in
     let m = put-length (key.Lock l) fact.Absent t in
     record { good = w; falls = f; sum = omega arith; pending = value-put (key.Lock l) key.Pending fact.Absent t })
 lock-by false l t e g =
@@ -185,9 +188,10 @@ pays-unlock c t g = pays-each (λ l u. put (key.Lock l) fact.Absent u) (λ l u w
 pub falls-conn : (c : ConnId) (f : Facts) → Falls f (upd (key.Conn c) fact.Absent f)
 falls-conn c f = record {
   connected = λ b e. elim (was is_connected_fact (key.Conn c) (key.Conn b) fact.Absent f e) [ inl q ↦ (let z = q.1 in cc) | inr q ↦ q.1 ];
-  controlled = λ s e. e;
-  opened = λ s e. e;
-  locked = λ l e. e;
+  controls = λ s b e. e;
+  opens = λ s e. refl;
+  fifos = λ h b s e. e;
+  locks = λ l x e. e;
   taken = λ s d e. e;
   there = λ s e. e;
 }

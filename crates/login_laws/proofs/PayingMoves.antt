@@ -31,7 +31,7 @@ use Rattle.login_laws.proofs.Paying.{Falls}
 use Rattle.login_model.specs.Power.{is_delayed, is_over, settle_operation, start}
 use Rattle.login_model.specs.declared.operation.OpKind.{OpKind}
 use Rattle.login_model.specs.declared.operation.Operation.TheVariants.{Waiting, Running}
-use Rattle.login_laws.proofs.WithinLaws.{Within, active-taken, falls-within, plain-within, say-within, tell-within, within-each, within-if, within-later, within-more, within-refl, within-some, within-trans}
+use Rattle.login_laws.proofs.WithinLaws.{Within, active-taken, falls-within, owner-within, plain-within, say-within, tell-within, within-each, within-if, within-later, within-more, within-refl, within-some, within-trans}
 
 -- ---- forcing
 
@@ -60,9 +60,10 @@ force-active seat t =
 falls-renewed : (s : SessId) (d : DevNo) (h n : HandleNo) (f : Facts) → f (key.Taken s d) ≡ fact.Handle h → Falls f (upd (key.Taken s d) (fact.Handle n) f)
 falls-renewed s d h n f e = record {
   connected = λ c p. p;
-  controlled = λ r p. p;
-  opened = λ r p. p;
-  locked = λ l p. p;
+  controls = λ r c p. p;
+  opens = λ r p. refl;
+  fifos = λ h c r p. p;
+  locks = λ l x p. p;
   taken = λ r b p. elim (was is_handle_fact (key.Taken s d) (key.Taken r b) (fact.Handle n) f p) [
     | inl q ↦ ap (λ (k : Key). is_handle_fact (f k)) (sym q.0) ∙ ap is_handle_fact e
     | inr q ↦ q.1
@@ -76,7 +77,7 @@ renew-by (fact.Controller c) s d h t e =
     let o = fact.Owned (owner.Device c s d) in
     let p = put (key.Owner n) o t in let q = put (key.Live n) yes p in let u = put (key.Taken s d) (fact.Handle n) q in
     let same : value q (key.Taken s d) ≡ fact.Handle h = value-put (key.Live n) (key.Taken s d) yes p ∙ value-put (key.Owner n) (key.Taken s d) o t ∙ e in
-    let w = within-trans 1 1 t p q (plain-within (key.Owner n) o t refl) (plain-within (key.Live n) yes p refl) in
+    let w = within-trans 1 1 t p q (owner-within n o t (λ b r z. cc)) (plain-within (key.Live n) yes p refl) in
     let v = within-trans 2 1 t q u w (falls-within (key.Taken s d) (fact.Handle n) q (falls-renewed s d h n (value q) same)) in
     within-trans 3 1 t u (tell_controller (fact.Controller c) (Resume s d n) u) v (say-within (One c) (Resume s d n) u)
 renew-by _ s d h t e = within-refl 4 t

@@ -30,14 +30,14 @@ use Rattle.login_model.specs.declared.fact.Fact.{Fact}
 use Rattle.login_model.specs.declared.fact.Fact.TheVariants as fact
 use Rattle.login_model.specs.declared.fact.Owner.TheVariants as owner
 use Rattle.login_model.proofs.InOrder.{filter-ascending, filter-in}
-use Rattle.login_model.proofs.Values.{Facts, true-false, upd, value-put, was}
+use Rattle.login_model.proofs.Values.{Facts, given, true-false, upd, value-put, was}
 use Rattle.login_laws.proofs.SessionSteps.{open-there}
 use Rattle.login_laws.proofs.Loops.{each-keeps}
 use Rattle.login_laws.proofs.Counts.{length-taken-less, sessions-ascending, taken-among, taken-by-less, taken_length}
 use Rattle.login_laws.proofs.Paying.{Falls}
 use Rattle.login_laws.proofs.PayingEnds.{falls-control, falls-lock}
 use Rattle.login_laws.proofs.PayingMoves.{force-within, resume-within}
-use Rattle.login_laws.proofs.WithinLaws.{Within, active-taken, filter-length, falls-within, plain-within, say-within, tell-within, within-each, within-if, within-later, within-more, within-refl, within-some, within-trans}
+use Rattle.login_laws.proofs.WithinLaws.{Within, active-taken, filter-length, falls-within, owner-within, plain-within, say-within, tell-within, within-each, within-if, within-later, within-more, within-refl, within-some, within-trans}
 
 -- ---- giving back
 
@@ -48,9 +48,10 @@ kill-within _ t = within-refl 1 t
 falls-given : (s : SessId) (d : DevNo) (f : Facts) → Falls f (upd (key.Taken s d) fact.Absent f)
 falls-given s d f = record {
   connected = λ c e. e;
-  controlled = λ r e. e;
-  opened = λ r e. e;
-  locked = λ l e. e;
+  controls = λ r c e. e;
+  opens = λ r e. refl;
+  fifos = λ h c r e. e;
+  locks = λ l x e. e;
   taken = λ r b e. elim (was is_handle_fact (key.Taken s d) (key.Taken r b) fact.Absent f e) [ inl q ↦ (let z = q.1 in cc) | inr q ↦ q.1 ];
   there = λ r e. e;
 }
@@ -96,20 +97,24 @@ release-session s r t =
 
 -- ---- phases
 
-falls-session : (s : SessId) (y : Fact) (f : Facts) → (is_open_fact y ≡ true → is_open_fact (f (key.Sess s)) ≡ true) → (is_session_fact y ≡ true → is_session_fact (f (key.Sess s)) ≡ true)
+falls-session : (s : SessId) (y : Fact) (f : Facts) → (is_open_fact y ≡ true → y ≡ f (key.Sess s)) → (is_session_fact y ≡ true → is_session_fact (f (key.Sess s)) ≡ true)
     → Falls f (upd (key.Sess s) y f)
 falls-session s y f o p = record {
   connected = λ c e. e;
-  controlled = λ r e. e;
-  locked = λ l e. e;
+  controls = λ r c e. e;
+  fifos = λ h c r e. e;
+  locks = λ l x e. e;
   taken = λ r d e. e;
-  opened = λ r e. elim (was is_open_fact (key.Sess s) (key.Sess r) y f e) [ inl q ↦ ap (λ (k : Key). is_open_fact (f k)) (sym q.0) ∙ o q.1 | inr q ↦ q.1 ];
+  opens = λ r e. elim (given (key.Sess s) (key.Sess r) y (upd (key.Sess s) y f (key.Sess r)) f refl) [
+    | inl q ↦ (let m : is_open_fact y ≡ true = ap is_open_fact q.1 ∙ e in sym q.1 ∙ o m ∙ ap f q.0)
+    | inr q ↦ sym q.1
+  ];
   there = λ r e. elim (was is_session_fact (key.Sess s) (key.Sess r) y f e) [ inl q ↦ ap (λ (k : Key). is_session_fact (f k)) (sym q.0) ∙ p q.1 | inr q ↦ q.1 ];
 }
 
-not-opened : (p : Phase) (x : Fact) → is_open_phase p ≡ false → is_open_fact (in_phase p x) ≡ true → is_open_fact x ≡ true
+not-opened : (p : Phase) (x : Fact) → is_open_phase p ≡ false → is_open_fact (in_phase p x) ≡ true → in_phase p x ≡ x
 not-opened p (fact.Session x) n e = absurd (true-false (is_open_phase p) e n)
-not-opened p _ n e = e
+not-opened p _ n e = refl
 
 not-there : (x : Fact) → is_session_fact (in_phase Gone x) ≡ true → is_session_fact x ≡ true
 not-there (fact.Session x) e = cc
@@ -177,7 +182,7 @@ shut-some p t =
     let all = sessions t in
     let ss = filter p all in
     let a = filter-length p all in
-    let b = taken-among t t ss all (filter-ascending session_lt p all (sessions-ascending t)) (sessions-ascending t) (λ s. omega arith) (λ s i. inr (filter-in p s all i)) in
+    let b = taken-among t t ss all (filter-ascending session_lt p all (sessions-ascending t)) (sessions-ascending t) (λ s i. omega arith) (λ s i. inr (filter-in p s all i)) in
     within-more (3 * taken_by t ss + 4 * length ss) (3 * taken_count t + 4 * length all) t (each shut ss t) (omega arith) (shut-each ss t)
 
 -- ---- seats
@@ -340,16 +345,16 @@ close-by : (h : HandleNo) (x : Fact) (t : Trail) → TakenWithin t → Within (3
 close-by h (fact.Owned (owner.Fifo c s)) t l =
     (let n = taken_count t in
     let u = close_handle h t in
-    within-more (1 + (3 * n + 4)) (3 * n + 5) t (shut s u) (omega arith) (shut-later s t u 1 n (l s) (plain-within (key.Owner h) (fact.Owned owner.Closed) t refl)))
+    within-more (1 + (3 * n + 4)) (3 * n + 5) t (shut s u) (omega arith) (shut-later s t u 1 n (l s) (owner-within h (fact.Owned owner.Closed) t (λ b r z. cc))))
 close-by h (fact.Owned (owner.Lock c n)) t l =
     (let u = put (key.Lock n) fact.Absent t in
     within-more 2 (3 * taken_count t + 5) t (close_handle h u) (omega arith)
-    (within-trans 1 1 t u (close_handle h u) (falls-within (key.Lock n) fact.Absent t (falls-lock n (value t))) (plain-within (key.Owner h) (fact.Owned owner.Closed) u refl)))
+    (within-trans 1 1 t u (close_handle h u) (falls-within (key.Lock n) fact.Absent t (falls-lock n (value t))) (owner-within h (fact.Owned owner.Closed) u (λ b r z. cc))))
 close-by h (fact.Owned (owner.Device c s d)) t l =
     (let b = is_this_handle h (value t (key.Taken s d)) in
     let u = cond b (untake s d t) t in
     within-more 4 (3 * taken_count t + 5) t (close_handle h u) (omega arith)
-    (within-trans 3 1 t u (close_handle h u) (within-if b 3 t (untake s d t) t (untake-within s d t) (within-refl 3 t)) (plain-within (key.Owner h) (fact.Owned owner.Closed) u refl)))
+    (within-trans 3 1 t u (close_handle h u) (within-if b 3 t (untake s d t) t (untake-within s d t) (within-refl 3 t)) (owner-within h (fact.Owned owner.Closed) u (λ b r z. cc))))
 close-by h _ t l = within-refl (3 * taken_count t + 5) t
 
 pub close-within : (h : HandleNo) (t : Trail) → TakenWithin t → Within (3 * taken_count t + 5) t (close h t)

@@ -21,7 +21,7 @@ use Rattle.login_laws.proofs.Closing.{shut-does}
 use Rattle.login_laws.proofs.Counts.{length-taken-less, put-length, put-none, taken-by-less, taken_length}
 use Rattle.login_laws.proofs.Giving.{Good, fewer-untake, released}
 use Rattle.login_laws.proofs.Holds.{none_out}
-use Rattle.login_laws.proofs.Lessening.{kept-in, kept-less, kept-taken-less, lessens-each, lessens-release, lessens-shut, lessens-trans, locks-less}
+use Rattle.login_laws.proofs.Lessening.{follows-falls, kept-in, kept-less, kept-taken-less, lessens-each, lessens-release, lessens-shut, lessens-trans, locks-less}
 use Rattle.login_laws.proofs.Loops.{each-keeps}
 use Rattle.login_laws.proofs.Paying.{kill-length, not-set, unset-in}
 use Rattle.login_laws.proofs.PayingEnds.{adds-by, falls-control, falls-lock}
@@ -129,12 +129,13 @@ disconnect-quiet c t g n m =
     let l1 = lessens-each release lessens-release (controlled_by t c) t g in
     let l2 = lessens-each shut lessens-shut (kept_open_by t1 c) t1 l1.good in
     let p = quiets-each 1 release quiets-release (controlled_by t c) t g n in
-    let q = quiets-each 4 shut quiets-shut (kept_open_by t1 c) t1 l1.good (λ s i d e. m s (kept-in t t1 l1 c s i) d (p.awaited s d e)) in
+    let q = quiets-each 4 shut quiets-shut (kept_open_by t1 c) t1 l1.good (λ s i d e. m s (kept-in c t t1 (follows-falls c t t1 l1.falls).kept s i) d (p.awaited s d e)) in
     let w = within-each 1 (λ l u. put (key.Lock l) fact.Absent u) (λ l u. falls-within (key.Lock l) fact.Absent u (falls-lock l (value u))) (locks_of t2 c) t2 in
     let a = p.within.marks in let b = q.within.marks in let d = w.marks in let e = put-length (key.Conn c) fact.Absent t3 in
-    let k1 = kept-less t t1 l1 c in
-    let k2 = kept-taken-less t t1 l1 c in
-    let k3 = locks-less t t2 (lessens-trans t t1 t2 l1 l2) c in
+    let f1 = follows-falls c t t1 l1.falls in
+    let k1 = kept-less c t t1 f1.kept in
+    let k2 = kept-taken-less c t t1 f1.kept f1.takes in
+    let k3 = locks-less c t t2 (follows-falls c t t2 (lessens-trans t t1 t2 l1 l2).falls).locks in
     omega arith
 
 -- ---- a pause that stays
@@ -179,6 +180,6 @@ disconnect-awaited c s d t g n m =
     let l1 = lessens-each release lessens-release (controlled_by t c) t g in
     let P : Trail → Type 0 = λ v. value v (key.Awaited s d) ≡ value t (key.Awaited s d) in
     let a = each-keeps P release (controlled_by t c) (λ r v i p. release-awaited r s d v (in-along s r (controlled_by t c) n i) ∙ p) t refl in
-    let b = each-keeps P shut (kept_open_by t1 c) (λ r v i p. shut-awaited r s d v (in-along s r (kept_open_by t c) m (kept-in t t1 l1 c r i)) ∙ p) t1 a in
+    let b = each-keeps P shut (kept_open_by t1 c) (λ r v i p. shut-awaited r s d v (in-along s r (kept_open_by t c) m (kept-in c t t1 (follows-falls c t t1 l1.falls).kept r i)) ∙ p) t1 a in
     let e = each-keeps P (λ l u. put (key.Lock l) fact.Absent u) (locks_of t2 c) (λ l v i p. value-put (key.Lock l) (key.Awaited s d) fact.Absent v ∙ p) t2 b in
     value-put (key.Conn c) (key.Awaited s d) fact.Absent t3 ∙ e

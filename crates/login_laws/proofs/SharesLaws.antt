@@ -41,7 +41,7 @@ use Rattle.login_laws.proofs.EndsLaws.{end-is}
 use Rattle.login_laws.proofs.Giving.{Good}
 use Rattle.login_laws.proofs.Holds.{none_out}
 use Rattle.login_laws.proofs.JournalLaws.{length-after}
-use Rattle.login_laws.proofs.Lessening.{lessens-each, lessens-end, lessens-release, lessens-shut, lessens-trans, locks-less, of-controlled_by, of-kept_open_by, share-less}
+use Rattle.login_laws.proofs.Lessening.{follows-falls, lessens-each, lessens-end, lessens-release, lessens-shut, lessens-trans, locks-less, of-controlled_by, of-kept_open_by, share-less}
 use Rattle.login_laws.proofs.Loops.{awaiting-some, some-awaiting}
 use Rattle.login_laws.proofs.NeedLaws.{held-stays}
 use Rattle.login_laws.proofs.Operations.{held-some, some-held}
@@ -101,7 +101,7 @@ operation-few U t c s =
     let t1 = each release (controlled_by t c) t in
     let l1 = lessens-each release lessens-release (controlled_by t c) t g in
     let l2 = lessens-each shut lessens-shut (kept_open_by t1 c) t1 l1.good in
-    let k = locks-less t (freed c t) (lessens-trans t t1 (freed c t) l1 l2) c in
+    let k = locks-less c t (freed c t) (follows-falls c t (freed c t) (lessens-trans t t1 (freed c t) l1 l2).falls).locks in
     let m = start-by (locks_of (freed c t) c) U t u (λ e. still-trans t v u (still-disconnect c t e) (switch-still U.conf v)) s in
     omega arith
 

@@ -166,7 +166,7 @@ kept-sum t = lengths (owns_fifo t) (fifo-one t) t (open_sessions t)
 open-taken : (t : Trail) → taken_by t (open_sessions t) ≤ taken_count t
 unfolding open_sessions
 open-taken t =
-    taken-among t t (filter (is_open t) (sessions t)) (sessions t) (filter-ascending session_lt (is_open t) (sessions t) (sessions-ascending t)) (sessions-ascending t) (λ s. omega arith)
+    taken-among t t (filter (is_open t) (sessions t)) (sessions t) (filter-ascending session_lt (is_open t) (sessions t) (sessions-ascending t)) (sessions-ascending t) (λ s i. omega arith)
     (λ s i. inr (filter-in (is_open t) s (sessions t) i))
 
 kept-taken : (t : Trail) → total (λ (c : ConnId). taken_by t (kept_open_by t c)) (connections t) ≤ taken_count t

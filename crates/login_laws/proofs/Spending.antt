@@ -30,7 +30,7 @@ use Rattle.login_laws.proofs.Counts.{taken-less, taken_length}
 use Rattle.login_laws.proofs.Ending.{unlocked-one, unlocked-refl}
 use Rattle.login_laws.proofs.Giving.{Good, fewer-untake, released}
 use Rattle.login_laws.proofs.Holds.{none_out}
-use Rattle.login_laws.proofs.Lessening.{kept-less, lessens-each, lessens-release, lessens-shut, lessens-trans, locks-less}
+use Rattle.login_laws.proofs.Lessening.{follows-falls, kept-less, lessens-each, lessens-release, lessens-shut, lessens-trans, locks-less}
 use Rattle.login_laws.proofs.Loops.{each-keeps, in-sessions, session_on-gives}
 use Rattle.login_laws.proofs.Paying.{untake-fewer, untake-none}
 use Rattle.login_laws.proofs.PayingEnds.{falls-conn, falls-control, falls-lock}
@@ -111,8 +111,8 @@ disconnect-spends c t g w =
     let b = (spends-each 4 shut spends-shut (kept_open_by t1 c) t1 l1.good).sum in
     let d = (spends-each 1 (λ l u. put (key.Lock l) fact.Absent u) spends-lock (locks_of t2 c) t2 l2.good).sum in
     let e = (spends-within 1 t3 v (falls-within (key.Conn c) fact.Absent t3 (falls-conn c (value t3))) w).sum in
-    let m = kept-less t t1 l1 c in
-    let n = locks-less t t2 (lessens-trans t t1 t2 l1 l2) c in
+    let m = kept-less c t t1 (follows-falls c t t1 l1.falls).kept in
+    let n = locks-less c t t2 (follows-falls c t t2 (lessens-trans t t1 t2 l1 l2).falls).locks in
     omega arith
 
 -- ---- a switch that completes
@@ -170,7 +170,7 @@ comes-other : (conf : Conf) (v : ℕ) (t : Trail) → value t key.Pending ≡ fa
     → active_on (left_for conf v (active_on t seat0) t) seat0 ≡ Some s → ⊥
 comes-other conf v t p g s e f =
     let c = left_for conf v (active_on t seat0) t in
-    let same = (spares-left conf v (active_on t seat0) t).keeps.facts (key.Sess s) refl in
+    let same = (spares-left conf v (active_on t seat0) t).facts (key.Sess s) refl in
     let there = ap (is_on_terminal (fact.Number (current_vt c))) (sym same) ∙ active-terminal c s f in
     (g.holds.terminals.3 v p).1 (sym (left-vt conf v (active_on t seat0) t) ∙ terminal-one (current_vt c) (current_vt t) (value t (key.Sess s)) there (active-terminal t s e))
 

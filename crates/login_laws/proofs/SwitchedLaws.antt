@@ -177,7 +177,7 @@ pub record Withdrew (t u : Trail) : Type 0 where
   pub pending : is_number_fact (value u key.Pending) ≡ false
   pub none : Waits u → ⊥
 
-abbrev Asks : ℕ → Trail → Trail → Type 0
+abbrev pub Asks : ℕ → Trail → Trail → Type 0
 Asks v t u = ((v ≡ current_vt t) × Withdrew t u) ⊎ ((v ≡ current_vt t → ⊥) × Requested v t u)
 
 withdrawn-vt : (t : Trail) → value (withdraw_switch t) key.Vt ≡ value t key.Vt
@@ -195,7 +195,7 @@ request-by true false v t e p g =
     inl (same-number v (current_vt t) e, record { vt = refl; pending = p; none = λ w. (let i = waits-pending none_out t g w in not-pending (value t key.Pending) i.0 p i.1) })
 request-by false c v t e p g = inr ((λ z. true-false (v == current_vt t) (ap (λ (n : ℕ). v == n) (sym z) ∙ same-refl v) e), ask-by c v t p g)
 
-asks : (v : ℕ) (t : Trail) → Good none_out t → Asks v t (request v t)
+pub asks : (v : ℕ) (t : Trail) → Good none_out t → Asks v t (request v t)
 unfolding request
 asks v t g = request-by (v == current_vt t) (is_number_fact (value t key.Pending)) v t refl refl g
 

@@ -2,13 +2,14 @@
 use Rattle.std.proofs.Common.{◌≡◌, ◌≤◌, ◌+◌, ◌*◌, ℕ, Bool, true, false, cond, Option, Some, None, List, [], ◌∷◌, length, filter, refl, ap, sym, ◌∙◌, subst, arith, inl, inr}
 use Rattle.std.proofs.Math.Nat.{mul-le-mul_left, mul-suc}
 use Rattle.std.specs.Str.{bytes_eq}
+use Rattle.login_base.specs.declared.ids.ConnId.{ConnId}
+use Rattle.login_base.specs.declared.ids.HandleNo.{HandleNo}
 use Rattle.login_base.specs.declared.ids.SessId.{SessId}
 use Rattle.login_model.specs.Start.{seat0}
 use Rattle.login_model.specs.Trail.{Trail, put, value}
-use Rattle.login_model.specs.Where.{acting, active_on, current_vt, is_connected_fact, is_lock_fact, is_open, is_session, is_session_fact, session_on, sessions}
-use Rattle.login_model.specs.Fresh.{is_open_fact}
+use Rattle.login_model.specs.Where.{acting, active_on, current_vt, is_connected_fact, is_open, is_session, is_session_fact, session_on, sessions}
 use Rattle.login_model.specs.Devices.{is_handle_fact}
-use Rattle.login_model.specs.Full.{is_controlled_fact, taken_by, taken_count}
+use Rattle.login_model.specs.Full.{taken_by, taken_count}
 use Rattle.login_model.specs.Procedure.{each, if_some, tell_controller}
 use Rattle.login_model.specs.declared.mark.Mark.TheVariants.{Say}
 use Rattle.login_model.specs.declared.mark.Notice.{Notice}
@@ -17,8 +18,9 @@ use Rattle.login_model.specs.declared.fact.Key.{Key}
 use Rattle.login_model.specs.declared.fact.Key.TheVariants as key
 use Rattle.login_model.specs.declared.fact.Fact.{Fact}
 use Rattle.login_model.specs.declared.fact.Fact.TheVariants as fact
+use Rattle.login_model.specs.declared.fact.Owner.TheVariants as owner
 use Rattle.login_model.proofs.InOrder.{IsIn}
-use Rattle.login_model.proofs.Values.{Facts, upd, values-put, values-say}
+use Rattle.login_model.proofs.Values.{Facts, given, upd, values-put, values-say}
 use Rattle.login_laws.proofs.SessionSteps.{on-terminal-open, open-there}
 use Rattle.login_laws.proofs.Loops.{in-sessions, session_on-gives}
 use Rattle.login_laws.proofs.UnusedLaws.{at-most}
@@ -62,21 +64,38 @@ is_plain_key (key.Conn c) = false
 is_plain_key (key.Sess s) = false
 is_plain_key (key.Ctl s) = false
 is_plain_key (key.Taken s d) = false
+is_plain_key (key.Owner h) = false
 is_plain_key (key.Lock l) = false
 is_plain_key _ = true
 
 falls-plain : (f g : Facts) → Keeps is_plain_key f g → Falls f g
 falls-plain f g k = record {
   connected = λ c e. ap is_connected_fact (sym (k.facts (key.Conn c) refl)) ∙ e;
-  controlled = λ s e. ap is_controlled_fact (sym (k.facts (key.Ctl s) refl)) ∙ e;
-  opened = λ s e. ap is_open_fact (sym (k.facts (key.Sess s) refl)) ∙ e;
-  locked = λ l e. ap is_lock_fact (sym (k.facts (key.Lock l) refl)) ∙ e;
+  controls = λ s c e. sym (k.facts (key.Ctl s) refl) ∙ e;
+  opens = λ s e. k.facts (key.Sess s) refl;
+  fifos = λ h c s e. sym (k.facts (key.Owner h) refl) ∙ e;
+  locks = λ l x e. sym (k.facts (key.Lock l) refl) ∙ e;
   taken = λ s d e. ap is_handle_fact (sym (k.facts (key.Taken s d) refl)) ∙ e;
   there = λ s e. ap is_session_fact (sym (k.facts (key.Sess s) refl)) ∙ e;
 }
 
 pub plain-within : (k : Key) (x : Fact) (t : Trail) → is_plain_key k ≡ true → Within 1 t (put k x t)
 plain-within k x t e = record { marks = put-length k x t; falls = falls-plain (value t) (value (put k x t)) (keeps-put is_plain_key k x t e) }
+
+falls-owner : (n : HandleNo) (x : Fact) (f : Facts) → ((c : ConnId) (s : SessId) → x ≡ fact.Owned (owner.Fifo c s) → ⊥) → Falls f (upd (key.Owner n) x f)
+falls-owner n x f none = record {
+  connected = λ c e. e;
+  controls = λ s c e. e;
+  opens = λ s e. refl;
+  fifos = λ h c s e. elim (given (key.Owner n) (key.Owner h) x (fact.Owned (owner.Fifo c s)) f e) [ inl q ↦ absurd (none c s q.1) | inr q ↦ q.1 ];
+  locks = λ l y e. e;
+  taken = λ s d e. e;
+  there = λ s e. e;
+}
+
+-- the owner of a handle, which is no fifo's
+pub owner-within : (n : HandleNo) (x : Fact) (t : Trail) → ((c : ConnId) (s : SessId) → x ≡ fact.Owned (owner.Fifo c s) → ⊥) → Within 1 t (put (key.Owner n) x t)
+owner-within n x t none = falls-within (key.Owner n) x t (falls-owner n x (value t) none)
 
 pub say-within : (w : Whom) (n : Notice) (t : Trail) → Within 1 t (Say w n ∷ t)
 say-within w n t = record { marks = omega arith; falls = falls-along (value t) (value (Say w n ∷ t)) (values-say w n t) }

@@ -1,23 +1,26 @@
 -- The room of each connection's end.
-use Rattle.std.specs.Prelude.{ℕ, ◌≤◌, ◌+◌, ◌*◌, ◌&&◌, ◌||◌, Bool, false, if◌then◌else◌, Option, Some, None, List, length, sum_by}
+use Rattle.std.specs.Prelude.{ℕ, ◌≡◌, ◌≤◌, ◌+◌, ◌*◌, ◌==◌, ◌&&◌, ◌||◌, Bool, false, if◌then◌else◌, Option, Some, None, List, length, sum_by}
 use Rattle.std.specs.List.{AllByRecursion}
+use Rattle.login_base.specs.SessionId.{session_of}
 use Rattle.login_base.specs.declared.ids.ConnId.{ConnId}
 use Rattle.login_base.specs.declared.ids.SessId.{SessId}
 use Rattle.login_model.specs.Direct.{controlled_by, fifo_in, is_fifo_of, kept_open_by, locks_of}
 use Rattle.login_model.specs.Facts.{is_number_fact}
 use Rattle.login_model.specs.Full.{taken_by, taken_count}
-use Rattle.login_model.specs.Legal.{IsLegal, IsLegalAfter, stepped, trail_of}
-use Rattle.login_model.specs.Policy.{controls}
+use Rattle.login_model.specs.Legal.{IsLegal, IsLegalAfter, IsPlaced, stepped, trail_of}
+use Rattle.login_model.specs.Policy.{controls, verdict}
 use Rattle.login_model.specs.Start.{seat0}
 use Rattle.login_model.specs.Trail.{Trail, value}
 use Rattle.login_model.specs.Where.{active_on, connections}
 use Rattle.login_model.specs.declared.event.Event.{Event}
-use Rattle.login_model.specs.declared.event.Event.TheVariants.{Disconnect}
+use Rattle.login_model.specs.declared.call.Call.{Call}
+use Rattle.login_model.specs.declared.call.Call.TheVariants as call
+use Rattle.login_model.specs.declared.event.Event.TheVariants.{Call as Calls, Disconnect}
 use Rattle.login_model.specs.declared.fact.Key.TheVariants as key
 use Rattle.login_model.specs.declared.mark.Entry.{Entry}
 use Rattle.login_model.specs.declared.rule.Verdict.TheVariants.{Granted}
 use Rattle.login_model.specs.declared.setup.Setup.{Setup}
-use Rattle.login_laws.specs.Need.{AreEnds, need}
+use Rattle.login_laws.specs.Need.{AreEnds, IsDisconnect, need}
 use Rattle.login_laws.specs.Sound.{IsSound}
 
 -- whether a connection owns the fifo of a session
@@ -60,3 +63,32 @@ end_share _ t = 0
 abbrev pub EachEndFits : Type 0
 EachEndFits = (U : Setup) (before ends : List Entry) → IsLegal U before → IsLegalAfter U before ends → AreEnds ends
     → AllByRecursion (λ (e : Entry). length e.marks ≤ end_share e.event (trail_of before)) ends
+
+-- ---- other events
+
+-- the session from which a call takes a device
+abbrev pub taken_from : Call → Option SessId
+taken_from (call.TakeDevice id d) = session_of id
+taken_from _ = None
+
+-- whether an event is a connection's call, or takes a device of a session that the connection has
+abbrev pub touches : Trail → Event → ConnId → Bool
+touches t (Calls q) c = q.who.0 == c.0 || has_session t c (taken_from q.call)
+touches t _ c = false
+
+-- whether an event concerns a connection: one that it touches, or that has seat0's active session; five at most
+abbrev pub concerns : Trail → Event → ConnId → Bool
+concerns t e c = touches t e c || has_session t c (active_on t seat0)
+
+-- the most by which an event raises a share
+abbrev pub most_share_rise : Trail → ℕ
+most_share_rise t = 4 * taken_count t + 12
+
+-- An event in place behind a legal journal that is no disconnect
+pub record SharesMove (U : Setup) : Type 0 where
+  -- raises the share of no connection that it doesn't concern
+  pub spares : (before : List Entry) (e : Event) (c : ConnId) → IsLegal U before → IsPlaced before e → (IsDisconnect e → ⊥) → concerns (trail_of before) e c ≡ false
+      → share c (stepped U (verdict U (trail_of before) e) e (trail_of before)) ≤ share c (trail_of before)
+  -- and no share by more than this
+  pub rises : (before : List Entry) (e : Event) (c : ConnId) → IsLegal U before → IsPlaced before e → (IsDisconnect e → ⊥)
+      → share c (stepped U (verdict U (trail_of before) e) e (trail_of before)) ≤ share c (trail_of before) + most_share_rise (trail_of before)

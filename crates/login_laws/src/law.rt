@@ -8,7 +8,7 @@ ghost use Rattle.login_laws.specs.Left.{HandlesAreLeft};
 ghost use Rattle.login_laws.specs.Named.{LegalIsNamed};
 ghost use Rattle.login_laws.specs.Need.{EndsShareNeed, RoomIsKept};
 ghost use Rattle.login_laws.specs.OneJournal.{OneJournal};
-ghost use Rattle.login_laws.specs.Shares.{EachEndFits, EndsHaveShares, SharesFit};
+ghost use Rattle.login_laws.specs.Shares.{EachEndFits, EndsHaveShares, SharesFit, SharesMove};
 ghost use Rattle.login_laws.specs.Withdrawing.{WithdrawsEach};
 ghost use Rattle.login_model.specs.declared.setup.Setup.{Setup};
 
@@ -84,6 +84,12 @@ pub fn ends_have_shares()
 /// its share before them.
 pub fn each_end_fits()
     ensures { EachEndFits }
+{}
+
+/// An event that is no disconnect raises the share of no connection but those that it concerns, five at most, and
+/// these by no more than the marks of a switch and of one device.
+pub fn shares_move()
+    ensures { (U : Setup) → SharesMove U }
 {}
 
 /// In every legal journal seats have seats' names, users are those of the setup, and who asked for a lock and why
