@@ -128,7 +128,7 @@ vt_busy t vt = option_map VtBusy (session_on t vt)
 abbrev pub vt_busy_on : Trail → List ℕ → ℕ → Option Rule
 vt_busy_on t seat vt = if bytes_eq seat seat0 then vt_busy t vt else None
 
--- P26 limit: 64 connections are connected
+-- P26 limit: so many connections are connected as may be
 abbrev pub too_many_links : Trail → Option Rule
 too_many_links t = broken_if (nat_le links_limit (length (connections t))) (Limit Links)
 

@@ -6,6 +6,9 @@ use crate::named::NamedSession;
 use crate::operation::OpKind;
 use login_base::{DevNo, HandleNo, Uid, Word};
 
+/// The most bytes of a text of a call, and of a session's id that ends.
+pub const LONGEST_CALL_TEXT: usize = 512;
+
 /// What CreateSession of org.freedesktop.login1(5) is called with.
 #[derive(Debug, Drop)]
 pub struct Creation {

@@ -34,7 +34,7 @@ mod table;
 pub use action::{Action, PowerAction, Qualifier};
 pub use answer::{Answer, Created, Input, KnownUser, SessionRow};
 pub use boxed::{Boxed, Slot};
-pub use call::{Call, Creation, Inhibition, PropertyName};
+pub use call::{Call, Creation, Inhibition, LONGEST_CALL_TEXT, PropertyName};
 pub use conf::{Conf, KeyAction};
 pub use count::Count;
 pub use device_fact::is_this_seat;

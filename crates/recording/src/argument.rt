@@ -10,12 +10,13 @@ ghost use Rattle.recording.specs.Limits.{line_limit};
 
 use crate::line::LineFault;
 use crate::word::{
-    LONGEST_ID, LONGEST_TEXT, LONGEST_USER, Misread, device_kind, flag, guid, hex, is_word, key,
-    moment, number, operation, positive, seat, signed, small, text,
+    LONGEST_TEXT, LONGEST_USER, Misread, device_kind, flag, guid, hex, is_word, key, moment,
+    number, operation, positive, seat, signed, small, text,
 };
 use login_base::{Bytes, ConnId, DevNo, HandleNo, Millis, NoMemory, SeatName, Uid, Word};
 use login_model::{
-    Boxed, Creation, DevKind, HardKey, Inhibition, NamedSession, OpKind, PropertyName,
+    Boxed, Creation, DevKind, HardKey, Inhibition, LONGEST_CALL_TEXT, NamedSession, OpKind,
+    PropertyName,
 };
 use std::alloc::Global;
 
@@ -481,7 +482,7 @@ impl Argument for SessionName {
         let Some((word, words)) = words.split_first() else {
             return Err(LineFault::MissingWord);
         };
-        let value = name(alloc, word, LONGEST_ID)?;
+        let value = name(alloc, word, LONGEST_CALL_TEXT)?;
         Ok((SessionName(value), words))
     }
 }

@@ -273,14 +273,14 @@ fn push_two(text: &mut LineText, word: &[u8], first: &Word, second: &Word) -> Re
 }
 
 /// Adds a word and a session's id.
-fn push_session(text: &mut LineText, word: &[u8], id: &NamedSession) -> Result<(), NoMemory>
+fn push_session_id(text: &mut LineText, word: &[u8], id: &NamedSession) -> Result<(), NoMemory>
     ensures { OnOk result (text.new ≡ text.old ++ 32 ∷ (word.now ++ 32 ∷ spell_text id.now)) }
 {
     push_named(text, word, id.text())
 }
 
 /// Adds a word, a session's id and a text.
-fn push_session_with(
+fn push_session_id_with(
     text: &mut LineText,
     word: &[u8],
     id: &NamedSession,
@@ -300,7 +300,7 @@ fn push_switched(
 ) -> Result<(), NoMemory>
     ensures { OnOk result (text.new ≡ text.old ++ 32 ∷ (word.now ++ 32 ∷ (spell_text id.now ++ 32 ∷ spell_flag on))) }
 {
-    push_session(text, word, id)?;
+    push_session_id(text, word, id)?;
     text.flag(on)
 }
 
@@ -322,7 +322,7 @@ fn push_aimed(
 ) -> Result<(), NoMemory>
     ensures { OnOk result (text.new ≡ text.old ++ 32 ∷ (word.now ++ 32 ∷ (spell_text id.now ++ spaced (device_words device)))) }
 {
-    push_session(text, word, id)?;
+    push_session_id(text, word, id)?;
     push_device(text, device)
 }
 
@@ -353,7 +353,7 @@ fn push_kill(
 ) -> Result<(), NoMemory>
     ensures { OnOk result (text.new ≡ text.old ++ spaced (call_words (Call.Kill id.now who.now signal))) }
 {
-    push_session_with(text, b"kill", id, who)?;
+    push_session_id_with(text, b"kill", id, who)?;
     text.signed(signal)
 }
 
@@ -364,21 +364,21 @@ pub(crate) fn push_call(text: &mut LineText, call: &Call) -> Result<(), NoMemory
 {
     match call {
         Call::Create(x) => push_creation(text, x.get()),
-        Call::GetSession(id) => push_session(text, b"get-session", id),
+        Call::GetSession(id) => push_session_id(text, b"get-session", id),
         Call::GetUser(uid) => push_numbered(text, b"get-user", uid.0),
         Call::GetSeat(seat) => push_named(text, b"get-seat", seat),
         Call::ListSessions => text.word(b"list-sessions"),
         Call::ListUsers => text.word(b"list-users"),
         Call::ListSeats => text.word(b"list-seats"),
         Call::ListInhibitors => text.word(b"list-inhibitors"),
-        Call::Activate(id) => push_session(text, b"activate", id),
-        Call::ActivateOnSeat(id, seat) => push_session_with(text, b"activate-on", id, seat),
-        Call::Lock(id) => push_session(text, b"lock", id),
-        Call::Unlock(id) => push_session(text, b"unlock", id),
+        Call::Activate(id) => push_session_id(text, b"activate", id),
+        Call::ActivateOnSeat(id, seat) => push_session_id_with(text, b"activate-on", id, seat),
+        Call::Lock(id) => push_session_id(text, b"lock", id),
+        Call::Unlock(id) => push_session_id(text, b"unlock", id),
         Call::LockAll => text.word(b"lock-all"),
         Call::UnlockAll => text.word(b"unlock-all"),
         Call::Kill(id, who, signal) => push_kill(text, id, who, *signal),
-        Call::Terminate(id) => push_session(text, b"terminate", id),
+        Call::Terminate(id) => push_session_id(text, b"terminate", id),
         Call::TerminateUser(uid) => push_numbered(text, b"terminate-user", uid.0),
         Call::TerminateSeat(seat) => push_named(text, b"terminate-seat", seat),
         Call::SetLinger(uid, on) => push_linger(text, *uid, *on),
@@ -388,7 +388,7 @@ pub(crate) fn push_call(text: &mut LineText, call: &Call) -> Result<(), NoMemory
         Call::SetIdle(id, on) => push_switched(text, b"idle", id, *on),
         Call::SetLocked(id, on) => push_switched(text, b"locked", id, *on),
         Call::Control(id, force) => push_switched(text, b"control", id, *force),
-        Call::Uncontrol(id) => push_session(text, b"uncontrol", id),
+        Call::Uncontrol(id) => push_session_id(text, b"uncontrol", id),
         Call::TakeDevice(id, device) => push_aimed(text, b"take", id, *device),
         Call::ReleaseDevice(id, device) => push_aimed(text, b"release", id, *device),
         Call::PauseComplete(id, device) => push_aimed(text, b"paused", id, *device),

@@ -5,15 +5,14 @@ ghost use Rattle.login_model.specs.Texts.{has_object};
 ghost use Rattle.recording.specs.Meaning.{are_short, meant_call, meant_event};
 ghost use Rattle.login_model.specs.Limits.{text_limit};
 
-use crate::word::LONGEST_ID;
 use login_base::{NoMemory, Word};
-use login_model::{Call, Creation, Event, PropertyName, Request, is_object};
+use login_model::{Call, Creation, Event, LONGEST_CALL_TEXT, PropertyName, Request, is_object};
 use std::alloc::Global;
 
 fn is_short(text: &Word) -> bool
     ensures { result ≡ nat_le (length text.now) text_limit }
 {
-    text.len() <= LONGEST_ID
+    text.len() <= LONGEST_CALL_TEXT
 }
 
 /// Whether each text of a creation has at most 512 bytes.

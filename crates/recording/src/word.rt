@@ -23,9 +23,6 @@ pub(crate) const LONGEST_TEXT: usize = 16384;
 /// The most bytes of a user's name.
 pub(crate) const LONGEST_USER: usize = 255;
 
-/// The most bytes of a session's id that ends, and of a text of a call.
-pub(crate) const LONGEST_ID: usize = 512;
-
 /// Why words are not read.
 #[derive(Clone, Copy, Debug, PartialEq, Eq)]
 pub(crate) enum Misread {

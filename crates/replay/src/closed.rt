@@ -11,7 +11,7 @@ use login_office::{LinkEnd, Unbegun};
 use std::alloc::Global;
 
 /// Room for the line of a link that has ended, in bytes.
-const CLOSED_LINE_ROOM: usize = 100;
+pub const CLOSED_LINE_ROOM: usize = 100;
 
 /// The number of why a link has not begun.
 pub fn not_begun_number(why: Unbegun) -> u32

@@ -23,7 +23,7 @@ mod writing;
 
 pub use ahead::{MOST_LINES, next_line, read_past};
 pub use cause::Cause;
-pub use closed::push_named_end;
+pub use closed::{CLOSED_LINE_ROOM, push_named_end};
 pub use early::Early;
 pub use law::{
     calls_are_of_bytes, ends_for_good, fault_is_of_an_action, lines_have_turns, one_cause,

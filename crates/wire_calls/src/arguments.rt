@@ -6,11 +6,8 @@ ghost use Rattle.wire_calls.specs.Arguments.{are_short, basic_at, device_in, fla
 
 use bus_value::{BasicValue, Value, ValueKind};
 use login_base::{DevNo, NoMemory, Word};
-use login_model::NamedSession;
+use login_model::{LONGEST_CALL_TEXT, NamedSession};
 use std::alloc::Global;
-
-/// The longest text of a call, in bytes.
-const MOST_BYTES: usize = 512;
 
 /// A value, where it is of a basic type.
 fn basic_in(value: &Value) -> Option<&BasicValue>
@@ -126,7 +123,7 @@ pub(crate) fn device_at(values: &[Value]) -> DevNo
 pub(crate) fn is_short(text: &Word) -> bool
     ensures { result ≡ is_short text.now }
 {
-    text.len() <= MOST_BYTES
+    text.len() <= LONGEST_CALL_TEXT
 }
 
 fn is_short_value(value: &Value) -> bool

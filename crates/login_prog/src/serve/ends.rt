@@ -9,11 +9,8 @@ use crate::serve::troubles::ServeEnd;
 use login_base::NoMemory;
 use login_edge::{Sink, WriteEnd, write_all};
 use login_office::LinkEnd;
-use replay::{RefusalLine, StatusLine, push_counted, push_named_end, report};
+use replay::{CLOSED_LINE_ROOM, RefusalLine, StatusLine, push_counted, push_named_end, report};
 use std::alloc::Global;
-
-/// Room for the line of a link.
-const LINE_ROOM: usize = 100;
 
 /// The memory of the lines on the errors, which is taken before it is needed.
 #[derive(Drop)]
@@ -27,7 +24,7 @@ impl ErrorLines {
     /// The memory, or none.
     pub fn new(alloc: Global) -> Result<ErrorLines, NoMemory> {
         Ok(ErrorLines {
-            line: Vec::with_capacity(alloc, LINE_ROOM)?,
+            line: Vec::with_capacity(alloc, CLOSED_LINE_ROOM)?,
             refusal: RefusalLine::new(alloc)?,
         })
     }
