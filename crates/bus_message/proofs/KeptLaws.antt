@@ -14,7 +14,7 @@ use Rattle.bus_value.specs.Fields.{list_type, fields_in, number, held, basic_in,
 use Rattle.bus_value.specs.Reading.{read_all}
 use Rattle.bus_value.specs.Spelling.{pad_size, spelling}
 use Rattle.bus_value.specs.Values.{Val, basic, array, struct, dict, variant}
-use Rattle.bus_message.specs.declared.fault.Cause.TheVariants.{MissingField, BadField, BadBody, FdsNotAgreed}
+use Rattle.bus_message.specs.declared.fault.MessageFault.TheVariants.{MissingField, BadField, BadBody, FdsNotAgreed}
 use Rattle.bus_message.specs.declared.fault.Fault.{Fault}
 use Rattle.bus_message.specs.declared.fault.Refusal.{Refusal}
 use Rattle.bus_message.specs.declared.fault.Refusal.TheVariants.{Malformed}

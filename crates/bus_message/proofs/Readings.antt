@@ -20,7 +20,7 @@ use Rattle.bus_value.specs.Values as values
 use Rattle.bus_value.specs.Spelling.{first_element}
 use Rattle.bus_value.specs.Limits.{AllFit}
 use Rattle.bus_value.specs.Alignment.{boundary}
-use Rattle.bus_message.specs.declared.fault.Cause.TheVariants.{BadField, BadBody}
+use Rattle.bus_message.specs.declared.fault.MessageFault.TheVariants.{BadField, BadBody}
 use Rattle.bus_message.specs.declared.fault.Refusal.{Refusal}
 use Rattle.bus_message.specs.declared.header.Header.{Header}
 use Rattle.bus_message.specs.Faults.{for_cause}

@@ -17,8 +17,8 @@ use Rattle.bus_value.proofs.Padding.{zeros-cons}
 use Rattle.bus_value.proofs.NumberSound.{AreBytes, back_4, bound_4, same_front}
 use Rattle.bus_value.proofs.Rules.{computed}
 use Rattle.bus_value.proofs.GrammarLaws.{all_read_so}
-use Rattle.bus_message.specs.declared.fault.Cause.{Cause}
-use Rattle.bus_message.specs.declared.fault.Cause.TheVariants.{BadField, BadBody}
+use Rattle.bus_message.specs.declared.fault.MessageFault.{MessageFault}
+use Rattle.bus_message.specs.declared.fault.MessageFault.TheVariants.{BadField, BadBody}
 use Rattle.bus_message.specs.declared.fault.Fault.{Fault}
 use Rattle.bus_message.specs.declared.header.Header.{Header}
 use Rattle.bus_message.specs.declared.message.Message.{Message}
@@ -52,7 +52,7 @@ went : {A B : Type 0} (r : Result A Fault) (f : A → Result B Fault) (b : B) �
 went (Ok a) f b e = record { value = a; was = refl; next = e }
 went (Err x) f b e = absurd (let k : ⊥ = cc in k)
 
-no_fault : {A : Type 0} (c : Cause) (r : Result A ValueFault) (a : A) → for_cause c r ≡ Ok a → r ≡ Ok a
+no_fault : {A : Type 0} (c : MessageFault) (r : Result A ValueFault) (a : A) → for_cause c r ≡ Ok a → r ≡ Ok a
 no_fault c (Ok x) a e = let same : x ≡ a = cc in ap Ok same
 no_fault c (Err x) a e = absurd (let k : ⊥ = cc in k)
 

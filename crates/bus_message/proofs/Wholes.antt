@@ -15,7 +15,7 @@ use Rattle.bus_value.specs.Numbers.{number_bytes, number}
 use Rattle.bus_value.proofs.NumberLaws.{spelled_4, width_4}
 use Rattle.bus_value.proofs.Rules.{computed}
 use Rattle.bus_value.proofs.GrammarLaws.{read_so}
-use Rattle.bus_message.specs.declared.fault.Cause.TheVariants.{BadField, BadBody}
+use Rattle.bus_message.specs.declared.fault.MessageFault.TheVariants.{BadField, BadBody}
 use Rattle.bus_message.specs.declared.header.Header.{Header}
 use Rattle.bus_message.specs.declared.message.Message.{Message}
 use Rattle.bus_message.specs.Faults.{and_then, for_cause}

@@ -4,7 +4,7 @@ use Rattle.std.proofs.lemmas.Bool.Decides.{nat_tests}
 use Rattle.bus_value.specs.declared.fault.ValueFault.TheVariants.{Padding}
 use Rattle.bus_value.specs.Faults.{reported, zeros}
 use Rattle.bus_value.proofs.Padding.{zeros_stop, zeros_go, zeros_end}
-use Rattle.bus_message.specs.declared.fault.Cause.TheVariants.{BadField}
+use Rattle.bus_message.specs.declared.fault.MessageFault.TheVariants.{BadField}
 use Rattle.bus_message.specs.declared.fault.Refusal.{Refusal}
 use Rattle.bus_message.specs.declared.fault.Refusal.TheVariants.{Malformed}
 use Rattle.bus_message.specs.Faults.{fault, for_cause}

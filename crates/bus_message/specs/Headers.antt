@@ -4,7 +4,7 @@ use Rattle.bus_value.specs.declared.order.Order.{Order}
 use Rattle.bus_value.specs.declared.order.Order.TheVariants.{Little, Big}
 use Rattle.bus_value.specs.Spelling.{pad_size}
 use Rattle.bus_value.specs.Numbers.{number}
-use Rattle.bus_message.specs.declared.fault.Cause.TheVariants.{BadOrder, BadVersion, ZeroSerial, TooLong, BadKind}
+use Rattle.bus_message.specs.declared.fault.MessageFault.TheVariants.{BadOrder, BadVersion, ZeroSerial, TooLong, BadKind}
 use Rattle.bus_message.specs.declared.fault.Fault.{Fault}
 use Rattle.bus_message.specs.declared.header.Header.{Header}
 use Rattle.bus_message.specs.Faults.{is_at}

@@ -4,7 +4,7 @@ use Rattle.bus_names.specs.Reading.{interface_fault, member_fault, bus_name_faul
 use Rattle.bus_value.specs.Values.{Val}
 use Rattle.bus_value.specs.Faults.{zeros}
 use Rattle.bus_value.specs.Reading.{read_all}
-use Rattle.bus_message.specs.declared.fault.Cause.TheVariants.{MissingField, BadField, BadBody, FdsNotAgreed}
+use Rattle.bus_message.specs.declared.fault.MessageFault.TheVariants.{MissingField, BadField, BadBody, FdsNotAgreed}
 use Rattle.bus_message.specs.declared.fault.Fault.{Fault}
 use Rattle.bus_message.specs.declared.header.Header.{Header}
 use Rattle.bus_message.specs.declared.message.Message.{Message}

@@ -8,7 +8,7 @@ ghost use Rattle.bus_message.specs.inner.Checks.{field_at};
 ghost use Rattle.bus_message.specs.inner.KnownFields.{first_bad, known_hold, shown};
 ghost use Rattle.bus_message.specs.Reading.{unless_bad};
 
-use crate::fault::{Cause, Refusal, refuse};
+use crate::fault::{MessageFault, Refusal, refuse};
 use crate::fields::{is_there, types, u32_at};
 use crate::message::Message;
 use bus_value::Field;
@@ -59,7 +59,7 @@ fn check_each(message: &Message, fields: &[Field]) -> Result<(), Refusal>
 {
     for index in 0..fields.len() {
         if is_bad(message, fields, index) {
-            return refuse(Cause::BadField, fields[index].offset);
+            return refuse(MessageFault::BadField, fields[index].offset);
         }
     }
     Ok(())
@@ -86,10 +86,10 @@ pub(crate) fn check_fields(message: &Message, fields: &[Field]) -> Result<(), Re
 {
     check_each(message, fields)?;
     if !has_required(message) {
-        return refuse(Cause::MissingField, 0);
+        return refuse(MessageFault::MissingField, 0);
     }
     match u32_at(fields, 9) {
-        Some(count) if count != 0 => refuse(Cause::FdsNotAgreed, 0),
+        Some(count) if count != 0 => refuse(MessageFault::FdsNotAgreed, 0),
         _ => Ok(()),
     }
 }

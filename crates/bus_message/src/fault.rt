@@ -9,7 +9,7 @@ use login_base::NoMemory;
 
 /// What is wrong with a message.
 #[derive(Clone, Copy, Debug, PartialEq, Eq)]
-pub enum Cause {
+pub enum MessageFault {
     /// Its first byte names no order of bytes.
     BadOrder,
     /// It is of another version than 1.
@@ -31,21 +31,21 @@ pub enum Cause {
     BadKind,
 }
 
-impl Cause {
+impl MessageFault {
     /// The number under which the cause is known.
     pub fn number(self) -> u8
         ensures { result ≡ number_of self }
     {
         match self {
-            Cause::BadOrder => 1,
-            Cause::BadVersion => 2,
-            Cause::ZeroSerial => 3,
-            Cause::MissingField => 4,
-            Cause::BadField => 5,
-            Cause::BadBody => 6,
-            Cause::TooLong => 7,
-            Cause::FdsNotAgreed => 8,
-            Cause::BadKind => 9,
+            MessageFault::BadOrder => 1,
+            MessageFault::BadVersion => 2,
+            MessageFault::ZeroSerial => 3,
+            MessageFault::MissingField => 4,
+            MessageFault::BadField => 5,
+            MessageFault::BadBody => 6,
+            MessageFault::TooLong => 7,
+            MessageFault::FdsNotAgreed => 8,
+            MessageFault::BadKind => 9,
         }
     }
 }
@@ -55,14 +55,14 @@ impl Cause {
 pub struct Malformed {
     /// The offset from the stream's start. One that is above the last `u64` is reported as that.
     pub offset: u64,
-    pub cause: Cause,
+    pub cause: MessageFault,
 }
 
 /// What is wrong with a message, with the offset from its start.
 #[derive(Clone, Copy)]
 pub struct Fault {
     pub offset: usize,
-    pub cause: Cause,
+    pub cause: MessageFault,
 }
 
 /// Why no message is read.
@@ -73,7 +73,7 @@ pub(crate) enum Refusal {
 }
 
 /// A message that is malformed there.
-pub(crate) fn refuse<T>(cause: Cause, offset: usize) -> Result<T, Refusal>
+pub(crate) fn refuse<T>(cause: MessageFault, offset: usize) -> Result<T, Refusal>
     ensures { result ≡ Err (Refusal.Malformed (record { offset = offset; cause = cause })) }
 {
     Err(Refusal::Malformed(Fault { offset, cause }))
@@ -95,7 +95,7 @@ fn offset_of(fault: ValueFault) -> usize
 }
 
 /// The fault of a value as one of this cause.
-pub(crate) fn refused(cause: Cause, fault: ValueFault) -> Refusal
+pub(crate) fn refused(cause: MessageFault, fault: ValueFault) -> Refusal
     ensures { result ≡ refusal_for cause fault }
 {
     match fault {

@@ -5,7 +5,7 @@ ghost use Rattle.bus_message.specs.inner.Faults.{Gives};
 ghost use Rattle.bus_message.specs.Headers.{order_of, stated, header_of, fields_end, body_start, size, most};
 ghost use Rattle.bus_message.specs.inner.Headers.{HasRoom};
 
-use crate::fault::{Cause, Refusal, refuse};
+use crate::fault::{MessageFault, Refusal, refuse};
 use bus_value::{Order, pad_size, read_u32};
 
 /// How many bytes tell how long a message is.
@@ -89,20 +89,20 @@ pub(crate) fn read_header(bytes: &[u8]) -> Result<Header, Refusal>
     ensures small { IfOk result (λ header. size header ≤ most) }
 {
     let Some(order) = order_of(bytes[0]) else {
-        return refuse(Cause::BadOrder, 0);
+        return refuse(MessageFault::BadOrder, 0);
     };
     let header = stated(bytes, order);
     if header.kind == 0 {
-        return refuse(Cause::BadKind, 1);
+        return refuse(MessageFault::BadKind, 1);
     }
     if bytes[3] != 1 {
-        return refuse(Cause::BadVersion, 3);
+        return refuse(MessageFault::BadVersion, 3);
     }
     if header.serial == 0 {
-        return refuse(Cause::ZeroSerial, 8);
+        return refuse(MessageFault::ZeroSerial, 8);
     }
     if MOST_BYTES < header.size() {
-        return refuse(Cause::TooLong, 4);
+        return refuse(MessageFault::TooLong, 4);
     }
     Ok(header)
 }

@@ -18,7 +18,7 @@ mod reading;
 pub use bodies::{alone, flag, joined, number, numbered};
 pub use cutter::{Cut, Cutter};
 pub use encoding::encode;
-pub use fault::{Cause, Malformed};
+pub use fault::{Malformed, MessageFault};
 pub use law::{
     cut_is_front, in_any_pieces, malformed_for_good, message_is_cut, no_continuation, one_cut,
     one_message, prefix_free,

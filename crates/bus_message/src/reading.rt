@@ -12,7 +12,7 @@ ghost use Rattle.bus_message.specs.inner.Parts.{target_in, parties_in};
 ghost use Rattle.bus_message.specs.Reading.{padding_read, headed, body_read, message_of};
 
 use crate::checks::{MOST_KNOWN, check_fields};
-use crate::fault::{Cause, Refusal, refuse, refused};
+use crate::fault::{MessageFault, Refusal, refuse, refused};
 use crate::fields::{bus_name, interface, member, path, types, u32_at};
 use crate::header::Header;
 use crate::message::Message;
@@ -29,11 +29,11 @@ fn read(
     types: &Signature,
     bytes: &[u8],
 ) -> Result<Values, Refusal>
-    ensures { Gives result (for_cause Cause.BadBody (read_all order start types.now bytes.now)) }
+    ensures { Gives result (for_cause MessageFault.BadBody (read_all order start types.now bytes.now)) }
 {
     match read_values(alloc, order, start, types, bytes) {
         Ok(values) => Ok(values),
-        Err(fault) => Err(refused(Cause::BadBody, fault)),
+        Err(fault) => Err(refused(MessageFault::BadBody, fault)),
     }
 }
 
@@ -47,18 +47,18 @@ fn known_fields(alloc: Global, header: Header, bytes: &[u8]) -> Result<Items<Fie
     let list = &bytes[12..header.fields_end()];
     match read_fields(alloc, header.order, 12, MOST_KNOWN, list) {
         Ok(fields) => Ok(fields),
-        Err(fault) => Err(refused(Cause::BadField, fault)),
+        Err(fault) => Err(refused(MessageFault::BadField, fault)),
     }
 }
 
 /// Whether this padding is zero, which stands from `at` on.
 fn check_zeros(padding: &[u8], at: usize) -> Result<(), Refusal>
     requires { at + length padding.now < 2 ^ 64 }
-    ensures { Gives result (for_cause Cause.BadField (zeros at padding.now)) }
+    ensures { Gives result (for_cause MessageFault.BadField (zeros at padding.now)) }
 {
     for index in 0..padding.len() {
         if padding[index] != 0 {
-            return refuse(Cause::BadField, at + index);
+            return refuse(MessageFault::BadField, at + index);
         }
     }
     Ok(())

@@ -9,7 +9,7 @@ mod header_fields;
 mod limits;
 
 use accepted::{BY_HAND, GLIB_BODIES, GLIB_CALLS, GLIB_SIGNALS, JEEPNEY};
-use bus_message::{Cause, Cut, Cutter, Malformed, Message, encode};
+use bus_message::{Cut, Cutter, Malformed, Message, MessageFault, encode};
 use bus_names::{BusName, Interface, Member, ObjectPath};
 use bus_value::{Order, Values};
 use clients::{SENT, Sent};
@@ -371,7 +371,7 @@ fn is_too_long(alloc: Global, text: &[u8]) -> Result<bool, NoMemory> {
         cut.malformed
             == Some(Malformed {
                 offset: 4,
-                cause: Cause::TooLong,
+                cause: MessageFault::TooLong,
             }),
     )
 }

@@ -18,7 +18,7 @@ use Rattle.login_conf.specs.Settings.{default_setting, most_number, setting_of, 
 use Rattle.login_conf.specs.Spans.{parts, span, span_of, sum_of, within}
 use Rattle.login_conf.specs.Text.{trimmed}
 use Rattle.login_conf.specs.Values.{flag_of, key_action_of, number_to}
-use Rattle.login_conf.specs.declared.diagnostic.Cause.TheVariants.{UnknownKey, BadValue, NoEqualsSign}
+use Rattle.login_conf.specs.declared.diagnostic.ConfFault.TheVariants.{UnknownKey, BadValue, NoEqualsSign}
 use Rattle.login_conf.specs.declared.key.Key.{Key}
 use Rattle.login_conf.specs.declared.key.Key.TheVariants.{Number, Span, Action, Flag}
 use Rattle.login_conf.specs.declared.key.NumberKey.TheVariants.{AutoVts, SessionsMax, InhibitorsMax}

@@ -3,7 +3,7 @@ use Rattle.std.specs.Prelude.{ℕ, List, [], ◌∷◌}
 use Rattle.std.specs.List.{flat_map}
 use Rattle.login_model.specs.declared.conf.Conf.{Conf}
 use Rattle.login_model.specs.Conf.{default_conf}
-use Rattle.login_conf.specs.declared.diagnostic.Cause.TheVariants.{OtherSection}
+use Rattle.login_conf.specs.declared.diagnostic.ConfFault.TheVariants.{OtherSection}
 use Rattle.login_conf.specs.declared.diagnostic.Diagnostic.{Diagnostic}
 use Rattle.login_conf.specs.declared.saying.Section.{Section}
 use Rattle.login_conf.specs.declared.saying.Section.TheVariants.{Before, Login, Other}

@@ -2,7 +2,7 @@
 use Rattle.std.specs.Prelude.{ℕ, ◌==◌, ◌&&◌, ◌||◌, ◌-◌, not, Bool, List, length, slice_index, Some, None, codes, if◌then◌else◌}
 use Rattle.std.specs.List.{list_any, before_first, after_first}
 use Rattle.std.specs.Str.{bytes_eq}
-use Rattle.login_conf.specs.declared.diagnostic.Cause.TheVariants.{BeforeSections, UnknownKey, BadValue, NoEqualsSign}
+use Rattle.login_conf.specs.declared.diagnostic.ConfFault.TheVariants.{BeforeSections, UnknownKey, BadValue, NoEqualsSign}
 use Rattle.login_conf.specs.declared.saying.Section.{Section}
 use Rattle.login_conf.specs.declared.saying.Section.TheVariants.{Before, Login, Other}
 use Rattle.login_conf.specs.declared.saying.Saying.{Saying}

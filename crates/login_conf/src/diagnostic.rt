@@ -2,7 +2,7 @@
 
 /// What is wrong with a line. A line has one cause at most.
 #[derive(Clone, Copy, Debug, PartialEq, Eq)]
-pub enum Cause {
+pub enum ConfFault {
     /// It stands before any section.
     BeforeSections,
     /// It opens another section than `[Login]`.
@@ -19,5 +19,5 @@ pub enum Cause {
 #[derive(Clone, Copy, Debug, PartialEq, Eq)]
 pub struct Diagnostic {
     pub line: u64,
-    pub cause: Cause,
+    pub cause: ConfFault,
 }

@@ -11,6 +11,6 @@ mod setting;
 mod span;
 mod value;
 
-pub use diagnostic::{Cause, Diagnostic};
+pub use diagnostic::{ConfFault, Diagnostic};
 pub use law::confs_are_allowed;
 pub use reader::read_conf;

@@ -8,7 +8,7 @@ ghost use Rattle.login_conf.specs.Reading.{conf_of, diagnostics_of};
 ghost use Rattle.login_conf.specs.inner.UnderWay.{IsRead, Hears, Grows, Begins, Leads, open_saying};
 
 use crate::cut::{continued, cut};
-use crate::diagnostic::{Cause, Diagnostic};
+use crate::diagnostic::{ConfFault, Diagnostic};
 use crate::saying::{Saying, Section, read_line};
 use crate::setting::with_setting;
 use login_base::{Items, NoMemory};
@@ -49,7 +49,7 @@ impl Reader {
     }
 
     /// Something is wrong with the line that is open.
-    fn complain(&mut self, cause: Cause) -> Result<(), NoMemory>
+    fn complain(&mut self, cause: ConfFault) -> Result<(), NoMemory>
         ensures { OnOk result (self.new ≡ record self.old { diagnostics = self.old.diagnostics ++ record { line = self.old.first; cause = cause } ∷ [] }) }
     {
         let line = self.first;
@@ -65,7 +65,7 @@ impl Reader {
             Saying::Opens(section) => {
                 self.section = section;
                 match section {
-                    Section::Other => self.complain(Cause::OtherSection),
+                    Section::Other => self.complain(ConfFault::OtherSection),
                     _ => Ok(()),
                 }
             }

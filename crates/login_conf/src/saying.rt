@@ -4,7 +4,7 @@ ghost use Rattle.std.specs.Prelude.{◌≡◌};
 ghost use Rattle.login_conf.specs.Sayings.{is_silent, is_section_line, section_of, assignment, login_line, saying};
 
 use crate::cut::{cut, trimmed};
-use crate::diagnostic::Cause;
+use crate::diagnostic::ConfFault;
 use crate::key::{is_skipped, read_key};
 use crate::setting::{Setting, read_setting};
 
@@ -27,7 +27,7 @@ pub enum Saying {
     Opens(Section),
     /// A key has a value.
     Sets(Setting),
-    Wrong(Cause),
+    Wrong(ConfFault),
 }
 
 /// Whether a line without blanks at its ends is empty or a comment.
@@ -63,13 +63,13 @@ fn assignment(key: &[u8], value: &[u8]) -> Saying
     match read_key(key) {
         Some(key) => match read_setting(key, value) {
             Some(setting) => Saying::Sets(setting),
-            None => Saying::Wrong(Cause::BadValue),
+            None => Saying::Wrong(ConfFault::BadValue),
         },
         None => {
             if is_skipped(key) {
                 Saying::Nothing
             } else {
-                Saying::Wrong(Cause::UnknownKey)
+                Saying::Wrong(ConfFault::UnknownKey)
             }
         }
     }
@@ -83,7 +83,7 @@ fn login_line(line: &[u8]) -> Saying
     let (key, value) = cut(line, b'=');
     match value {
         Some(value) => assignment(trimmed(key), trimmed(value)),
-        None => Saying::Wrong(Cause::NoEqualsSign),
+        None => Saying::Wrong(ConfFault::NoEqualsSign),
     }
 }
 
@@ -100,7 +100,7 @@ pub(crate) fn read_line(section: Section, text: &[u8]) -> Saying
         return Saying::Opens(section_of(line));
     }
     match section {
-        Section::Before => Saying::Wrong(Cause::BeforeSections),
+        Section::Before => Saying::Wrong(ConfFault::BeforeSections),
         Section::Login => login_line(line),
         Section::Other => Saying::Nothing,
     }

@@ -1,7 +1,7 @@
 // Whole texts: what each sets, and what is wrong with its lines.
 
 use login_base::{Millis, NoMemory};
-use login_conf::{Cause, Diagnostic, read_conf};
+use login_conf::{ConfFault, Diagnostic, read_conf};
 use login_model::{Conf, KeyAction, OpKind};
 use std::process::Abort;
 
@@ -26,7 +26,7 @@ const DEFAULT: Conf = Conf {
 };
 
 /// What a text says is this.
-fn says(rt: &(impl Abort + AllocGlobal), text: &[u8], wanted: Conf, wrong: &[(u64, Cause)]) {
+fn says(rt: &(impl Abort + AllocGlobal), text: &[u8], wanted: Conf, wrong: &[(u64, ConfFault)]) {
     let read = read_conf(rt.alloc(), text);
     assert!(rt; read.is_ok());
     if let Ok((conf, diagnostics)) = read {
@@ -43,7 +43,7 @@ fn says(rt: &(impl Abort + AllocGlobal), text: &[u8], wanted: Conf, wrong: &[(u6
 }
 
 /// Lines, how they are joined and counted, and sections.
-const LINES: [(&[u8], Conf, &[(u64, Cause)]); 18] = [
+const LINES: [(&[u8], Conf, &[(u64, ConfFault)]); 18] = [
     (b"", DEFAULT, &[]),
     (b"\n\n", DEFAULT, &[]),
     (
@@ -53,7 +53,7 @@ const LINES: [(&[u8], Conf, &[(u64, Cause)]); 18] = [
             inhibit_delay_max: Millis(90_000),
             ..DEFAULT
         },
-        &[(3, Cause::UnknownKey), (4, Cause::BadValue)],
+        &[(3, ConfFault::UnknownKey), (4, ConfFault::BadValue)],
     ),
     (
         b"# a\n ; b\n\t[Login] \n \tNAutoVTs \t=\t 3 \t\n",
@@ -70,40 +70,40 @@ const LINES: [(&[u8], Conf, &[(u64, Cause)]); 18] = [
             ..DEFAULT
         },
         &[
-            (1, Cause::BeforeSections),
-            (2, Cause::BeforeSections),
-            (5, Cause::OtherSection),
-            (9, Cause::NoEqualsSign),
+            (1, ConfFault::BeforeSections),
+            (2, ConfFault::BeforeSections),
+            (5, ConfFault::OtherSection),
+            (9, ConfFault::NoEqualsSign),
         ],
     ),
     (
         b"[login]\n[ Login ]\n[]\nNAutoVTs=1",
         DEFAULT,
         &[
-            (1, Cause::OtherSection),
-            (2, Cause::OtherSection),
-            (3, Cause::OtherSection),
+            (1, ConfFault::OtherSection),
+            (2, ConfFault::OtherSection),
+            (3, ConfFault::OtherSection),
         ],
     ),
     (
         b"[\n]\n[Login\n[Login]\n[Foo=1",
         DEFAULT,
         &[
-            (1, Cause::BeforeSections),
-            (2, Cause::BeforeSections),
-            (3, Cause::BeforeSections),
-            (5, Cause::UnknownKey),
+            (1, ConfFault::BeforeSections),
+            (2, ConfFault::BeforeSections),
+            (3, ConfFault::BeforeSections),
+            (5, ConfFault::UnknownKey),
         ],
     ),
     (
         b"[Login]\nNAuto\\\nVTs=1\nFoo",
         DEFAULT,
-        &[(2, Cause::UnknownKey), (4, Cause::NoEqualsSign)],
+        &[(2, ConfFault::UnknownKey), (4, ConfFault::NoEqualsSign)],
     ),
     (
         b"[Login]\nFoo\\\n\\\n=1\nBar=1",
         DEFAULT,
-        &[(2, Cause::UnknownKey), (5, Cause::UnknownKey)],
+        &[(2, ConfFault::UnknownKey), (5, ConfFault::UnknownKey)],
     ),
     (
         b"[Login]\nNAutoVTs=\\\n\\\n 2\nFoo=1",
@@ -111,12 +111,12 @@ const LINES: [(&[u8], Conf, &[(u64, Cause)]); 18] = [
             auto_vts: 2,
             ..DEFAULT
         },
-        &[(5, Cause::UnknownKey)],
+        &[(5, ConfFault::UnknownKey)],
     ),
     (
         b"[Login]\n# \\\nNAutoVTs=2\nFoo=1",
         DEFAULT,
-        &[(4, Cause::UnknownKey)],
+        &[(4, ConfFault::UnknownKey)],
     ),
     (
         b"[Login]\nNAutoVTs=2\\ \nSessionsMax=3\\",
@@ -124,7 +124,7 @@ const LINES: [(&[u8], Conf, &[(u64, Cause)]); 18] = [
             sessions_max: 3,
             ..DEFAULT
         },
-        &[(2, Cause::BadValue)],
+        &[(2, ConfFault::BadValue)],
     ),
     (b"[Login]\\", DEFAULT, &[]),
     (
@@ -133,7 +133,7 @@ const LINES: [(&[u8], Conf, &[(u64, Cause)]); 18] = [
             sessions_max: 1,
             ..DEFAULT
         },
-        &[(4, Cause::UnknownKey)],
+        &[(4, ConfFault::UnknownKey)],
     ),
     (
         b"[Login]\nInhibitDelayMaxSec=1min\\\n30s",
@@ -146,17 +146,20 @@ const LINES: [(&[u8], Conf, &[(u64, Cause)]); 18] = [
     (
         b"[Lo\\\ngin]\nNAutoVTs=1",
         DEFAULT,
-        &[(1, Cause::OtherSection)],
+        &[(1, ConfFault::OtherSection)],
     ),
     (
         b"[Login]\x0d\nNAutoVTs=1",
         DEFAULT,
-        &[(1, Cause::BeforeSections), (2, Cause::BeforeSections)],
+        &[
+            (1, ConfFault::BeforeSections),
+            (2, ConfFault::BeforeSections),
+        ],
     ),
     (
         b"[Login]\nNAutoVTs=1\0\n\xc3\xbf=1",
         DEFAULT,
-        &[(2, Cause::BadValue), (3, Cause::UnknownKey)],
+        &[(2, ConfFault::BadValue), (3, ConfFault::UnknownKey)],
     ),
 ];
 
@@ -168,17 +171,17 @@ fn lines(rt: HostRuntime) {
 }
 
 /// Keys, and values that come later or are empty.
-const KEYS: [(&[u8], Conf, &[(u64, Cause)]); 9] = [
+const KEYS: [(&[u8], Conf, &[(u64, ConfFault)]); 9] = [
     (
         b"[Login]\nFoo=1\nFoo=\n=1\nnautovts=1\nRemoveIPC\nRemoveIPC=x\nRemoveIPC=\n=",
         DEFAULT,
         &[
-            (2, Cause::UnknownKey),
-            (3, Cause::UnknownKey),
-            (4, Cause::UnknownKey),
-            (5, Cause::UnknownKey),
-            (6, Cause::NoEqualsSign),
-            (9, Cause::UnknownKey),
+            (2, ConfFault::UnknownKey),
+            (3, ConfFault::UnknownKey),
+            (4, ConfFault::UnknownKey),
+            (5, ConfFault::UnknownKey),
+            (6, ConfFault::NoEqualsSign),
+            (9, ConfFault::UnknownKey),
         ],
     ),
     (
@@ -196,17 +199,17 @@ const KEYS: [(&[u8], Conf, &[(u64, Cause)]); 9] = [
             sessions_max: 1,
             ..DEFAULT
         },
-        &[(3, Cause::BadValue)],
+        &[(3, ConfFault::BadValue)],
     ),
     (
         b"[Login]\nSessionsMax=1=1\nHandlePowerKey = lock = lock",
         DEFAULT,
-        &[(2, Cause::BadValue), (3, Cause::BadValue)],
+        &[(2, ConfFault::BadValue), (3, ConfFault::BadValue)],
     ),
     (
         b"[Login]\nSwitchDelayMaxSec=\n",
         DEFAULT,
-        &[(2, Cause::UnknownKey)],
+        &[(2, ConfFault::UnknownKey)],
     ),
     (
         b"[Login]\nPowerKeyIgnoreInhibited=yes\n",
@@ -255,7 +258,7 @@ fn keys(rt: HostRuntime) {
 }
 
 /// Values of each kind.
-const VALUES: [(&[u8], Conf, &[(u64, Cause)]); 6] = [
+const VALUES: [(&[u8], Conf, &[(u64, ConfFault)]); 6] = [
     (
         b"[Login]\nNAutoVTs=63\nSessionsMax=32768\nInhibitorsMax=0",
         Conf {
@@ -278,14 +281,14 @@ const VALUES: [(&[u8], Conf, &[(u64, Cause)]); 6] = [
          SessionsMax=4294967297",
         DEFAULT,
         &[
-            (2, Cause::BadValue),
-            (3, Cause::BadValue),
-            (4, Cause::BadValue),
-            (5, Cause::BadValue),
-            (6, Cause::BadValue),
-            (7, Cause::BadValue),
-            (8, Cause::BadValue),
-            (9, Cause::BadValue),
+            (2, ConfFault::BadValue),
+            (3, ConfFault::BadValue),
+            (4, ConfFault::BadValue),
+            (5, ConfFault::BadValue),
+            (6, ConfFault::BadValue),
+            (7, ConfFault::BadValue),
+            (8, ConfFault::BadValue),
+            (9, ConfFault::BadValue),
         ],
     ),
     (
@@ -320,7 +323,7 @@ const VALUES: [(&[u8], Conf, &[(u64, Cause)]); 6] = [
             handle_hibernate_key: KeyAction::Operation(OpKind::SuspendThenHibernate),
             ..DEFAULT
         },
-        &[(5, Cause::BadValue), (6, Cause::BadValue)],
+        &[(5, ConfFault::BadValue), (6, ConfFault::BadValue)],
     ),
     (
         b"[Login]\n\
@@ -348,7 +351,7 @@ const VALUES: [(&[u8], Conf, &[(u64, Cause)]); 6] = [
             lid_switch_ignore_inhibited: false,
             ..DEFAULT
         },
-        &[(6, Cause::BadValue)],
+        &[(6, ConfFault::BadValue)],
     ),
 ];
 
@@ -364,7 +367,7 @@ fn delays(
     rt: &(impl Abort + AllocGlobal),
     span: &[u8],
     wanted: u64,
-    wrong: &[(u64, Cause)],
+    wrong: &[(u64, ConfFault)],
 ) -> Result<(), NoMemory> {
     let mut text = Vec::new(rt.alloc());
     text.extend_from_slice(b"[Login]\nIdleActionSec=1min\nIdleActionSec=")?;
@@ -432,13 +435,13 @@ const NO_SPANS: [&[u8]; 20] = [
 #[test]
 fn no_spans(rt: HostRuntime) -> Result<(), NoMemory> {
     for text in NO_SPANS {
-        delays(&rt, text, 60_000, &[(3, Cause::BadValue)])?;
+        delays(&rt, text, 60_000, &[(3, ConfFault::BadValue)])?;
     }
     Ok(())
 }
 
 /// Spans as values of a key.
-const SPAN_VALUES: [(&[u8], Conf, &[(u64, Cause)]); 2] = [
+const SPAN_VALUES: [(&[u8], Conf, &[(u64, ConfFault)]); 2] = [
     (
         b"[Login]\nInhibitDelayMaxSec= 1min 30s \nUserStopDelaySec=5 5\nIdleActionSec=4000000000000ms",
         Conf {
@@ -452,7 +455,7 @@ const SPAN_VALUES: [(&[u8], Conf, &[(u64, Cause)]); 2] = [
     (
         b"[Login]\nIdleActionSec=1\nIdleActionSec=4000000000001ms\nUserStopDelaySec=1 min\nIdleActionSec=\n",
         DEFAULT,
-        &[(3, Cause::BadValue), (4, Cause::BadValue)],
+        &[(3, ConfFault::BadValue), (4, ConfFault::BadValue)],
     ),
 ];
 

@@ -6,7 +6,7 @@ use Rattle.bus_value.specs.declared.fields.Field.{Field}
 use Rattle.bus_value.specs.Values.{Val, basic, struct, variant, none, more}
 use Rattle.bus_value.specs.Fields.{kept_in}
 use Rattle.bus_value.specs.Reading.{read_all}
-use Rattle.bus_message.specs.declared.fault.Cause.TheVariants.{MissingField, BadField, FdsNotAgreed}
+use Rattle.bus_message.specs.declared.fault.MessageFault.TheVariants.{MissingField, BadField, FdsNotAgreed}
 use Rattle.bus_message.specs.declared.fault.Fault.{Fault}
 use Rattle.bus_message.specs.declared.header.Header.{Header}
 use Rattle.bus_message.specs.declared.message.Message.{Message}

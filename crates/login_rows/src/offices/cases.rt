@@ -2,7 +2,7 @@
 // the messages are by hand, from "Message Format".
 
 use bus_auth::Ending;
-use bus_message::{Cause, Malformed};
+use bus_message::{Malformed, MessageFault};
 use login_office::{LinkEnd, Unbegun};
 
 /// A handshake of user 1000 that begins.
@@ -88,7 +88,7 @@ pub const CASES: &[Case] = &[
         calls: &[],
         end: Some(LinkEnd::Malformed(Malformed {
             offset: 87,
-            cause: Cause::BadField,
+            cause: MessageFault::BadField,
         })),
     },
     // The call in front of a malformed message is one; the one behind it is none.
@@ -99,7 +99,7 @@ pub const CASES: &[Case] = &[
         calls: &[LINE],
         end: Some(LinkEnd::Malformed(Malformed {
             offset: 214,
-            cause: Cause::BadField,
+            cause: MessageFault::BadField,
         })),
     },
     Case {
