@@ -176,20 +176,14 @@ impl Fact {
     pub fn is_client_of(&self, uid: u32) -> bool
         ensures { result ≡ is_client_of uid self.now }
     {
-        match self {
-            Fact::Connected(user) => user.0 == uid,
-            _ => false,
-        }
+        self.client() == Some(Uid(uid))
     }
 
     /// The number of a connected client's user, or that number.
     pub fn client_or(&self, uid: u32) -> u32
         ensures { result ≡ client_or uid self.now }
     {
-        match self {
-            Fact::Connected(user) => user.0,
-            _ => uid,
-        }
+        self.client().map_or(uid, |user| user.0)
     }
 
     /// A session that was created, gone or not.
@@ -206,78 +200,53 @@ impl Fact {
     pub fn is_session(&self) -> bool
         ensures { result ≡ is_session_fact self.now }
     {
-        match self {
-            Fact::Session(session) => matches!(session.get().phase, Phase::Open | Phase::Closing),
-            _ => false,
-        }
+        self.is_open() || self.is_closing()
     }
 
     /// Whether it is that of an open session.
     pub fn is_open(&self) -> bool
         ensures { result ≡ is_open_fact self.now }
     {
-        match self {
-            Fact::Session(session) => matches!(session.get().phase, Phase::Open),
-            _ => false,
-        }
+        self.session()
+            .is_some_and(|session| session.phase == Phase::Open)
     }
 
     /// Whether it is that of a session that is closing.
     pub fn is_closing(&self) -> bool
         ensures { result ≡ is_closing_fact self.now }
     {
-        match self {
-            Fact::Session(session) => matches!(session.get().phase, Phase::Closing),
-            _ => false,
-        }
+        self.session()
+            .is_some_and(|session| session.phase == Phase::Closing)
     }
 
     /// The user of a session, or root.
     pub fn user_or_root(&self) -> Uid
         ensures { result ≡ user_or_root self.now }
     {
-        match self {
-            Fact::Session(session) => session.get().uid,
-            _ => Uid(0),
-        }
+        self.session().map_or(Uid(0), |session| session.uid)
     }
 
     /// Whether it is that of a user's session, gone or not.
     pub fn is_session_of(&self, uid: u32) -> bool
         ensures { result ≡ is_session_of uid self.now }
     {
-        match self {
-            Fact::Session(session) => session.get().uid.0 == uid,
-            _ => false,
-        }
+        self.session().is_some_and(|session| session.uid.0 == uid)
     }
 
     /// Whether it is that of a user's open session.
     pub fn is_open_of(&self, uid: u32) -> bool
         ensures { result ≡ is_open_of uid self.now }
     {
-        match self {
-            Fact::Session(session) => {
-                let session = session.get();
-                matches!(session.phase, Phase::Open) && session.uid.0 == uid
-            }
-            _ => false,
-        }
+        self.is_open() && self.is_session_of(uid)
     }
 
     /// Whether it is that of another user's open session of the class of users.
     pub fn is_other_user(&self, uid: u32) -> bool
         ensures { result ≡ is_other_user uid self.now }
     {
-        match self {
-            Fact::Session(session) => {
-                let session = session.get();
-                matches!(session.phase, Phase::Open)
-                    && matches!(session.class, Class::User)
-                    && !(session.uid.0 == uid)
-            }
-            _ => false,
-        }
+        self.session().is_some_and(|session| {
+            session.phase == Phase::Open && session.class == Class::User && session.uid.0 != uid
+        })
     }
 
     /// Whether it is that of a user's open session that has a seat.
@@ -291,60 +260,43 @@ impl Fact {
     pub fn seat(&self) -> Option<SeatName>
         ensures { result ≡ seat_in_fact self.now }
     {
-        match self {
-            Fact::Session(session) => session.get().seat,
-            _ => None,
-        }
+        self.session()?.seat
     }
 
     /// The virtual terminal of a session, or 0.
     pub fn vt(&self) -> u32
         ensures { result ≡ vt_in self.now }
     {
-        match self {
-            Fact::Session(session) => session.get().vt,
-            _ => 0,
-        }
+        self.session().map_or(0, |session| session.vt)
     }
 
     /// The handle whose closing closes a session, or 0.
     pub fn fifo(&self) -> HandleNo
         ensures { result ≡ fifo_in self.now }
     {
-        match self {
-            Fact::Session(session) => session.get().fifo,
-            _ => HandleNo(0),
-        }
+        self.session().map_or(HandleNo(0), |session| session.fifo)
     }
 
     /// The connection that leads a session.
     pub fn leader(&self) -> Option<ConnId>
         ensures { result ≡ leader_in self.now }
     {
-        match self {
-            Fact::Session(session) => Some(session.get().leader),
-            _ => None,
-        }
+        Some(self.session()?.leader)
     }
 
     /// Whether it is that of an open session of seat0 on the terminal that the other fact names.
     pub fn is_on_terminal(&self, terminal: &Fact) -> bool
         ensures { result ≡ is_on_terminal terminal.now self.now }
     {
-        match self {
-            Fact::Session(session) => is_session_on(session.get(), terminal),
-            _ => false,
-        }
+        self.session()
+            .is_some_and(|session| is_session_on(session, terminal))
     }
 
     /// Whether it is a yes.
     pub fn is_set(&self) -> bool
         ensures { result ≡ is_set self.now }
     {
-        match self {
-            Fact::Flag(is_so) => *is_so,
-            _ => false,
-        }
+        matches!(self, Fact::Flag(true))
     }
 
     /// A session's controller.
@@ -368,10 +320,7 @@ impl Fact {
     pub fn is_controller(&self, who: ConnId) -> bool
         ensures { result ≡ is_controller_fact who self.now }
     {
-        match self {
-            Fact::Controller(other) => other.0 == who.0,
-            _ => false,
-        }
+        self.controller() == Some(who)
     }
 
     /// Whether it is that of a user who is known.
@@ -412,21 +361,16 @@ impl Fact {
     pub fn is_owned(&self) -> bool
         ensures { result ≡ is_owned_fact self.now }
     {
-        matches!(
-            self,
-            Fact::Owned(Owner::Device(..) | Owner::Fifo(..) | Owner::Lock(..))
-        )
+        self.holder().is_some()
     }
 
     /// The connection that has a handle.
     pub fn holder(&self) -> Option<ConnId>
         ensures { result ≡ holder_in self.now }
     {
-        match self {
-            Fact::Owned(Owner::Device(who, ..) | Owner::Fifo(who, _) | Owner::Lock(who, _)) => Some(
-                *who,
-            ),
-            _ => None,
+        match self.owner()? {
+            Owner::Device(who, ..) | Owner::Fifo(who, _) | Owner::Lock(who, _) => Some(who),
+            Owner::Closed => None,
         }
     }
 
@@ -434,10 +378,7 @@ impl Fact {
     pub fn is_fifo_of(&self, who: ConnId) -> bool
         ensures { result ≡ is_fifo_of who self.now }
     {
-        match self {
-            Fact::Owned(Owner::Fifo(other, _)) => other.0 == who.0,
-            _ => false,
-        }
+        matches!(self.owner(), Some(Owner::Fifo(other, _)) if other == who)
     }
 
     /// The session that a handle keeps open.
@@ -481,10 +422,7 @@ impl Fact {
     pub fn is_this_handle(&self, handle: HandleNo) -> bool
         ensures { result ≡ is_this_handle handle self.now }
     {
-        match self {
-            Fact::Handle(other) => other.0 == handle.0,
-            _ => false,
-        }
+        self.handle() == Some(handle)
     }
 
     /// Whether it is that of a seat that is present.
@@ -508,10 +446,7 @@ impl Fact {
     pub fn is_acting(&self, session: SessId) -> bool
         ensures { result ≡ is_acting_fact session self.now }
     {
-        match self {
-            Fact::Active(other) => other.0 == session.0,
-            _ => false,
-        }
+        self.active() == Some(session)
     }
 
     /// A number.
@@ -528,10 +463,7 @@ impl Fact {
     pub fn number_or_zero(&self) -> u32
         ensures { result ≡ number_or_zero self.now }
     {
-        match self {
-            Fact::Number(number) => *number,
-            _ => 0,
-        }
+        self.number().unwrap_or(0)
     }
 
     /// Whether it is a number.
@@ -545,10 +477,7 @@ impl Fact {
     pub fn is_this_number(&self, number: u32) -> bool
         ensures { result ≡ is_this_number number self.now }
     {
-        match self {
-            Fact::Number(other) => number == *other,
-            _ => false,
-        }
+        self.number() == Some(number)
     }
 
     /// A moment.
@@ -565,10 +494,7 @@ impl Fact {
     pub fn moment_or_zero(&self) -> u64
         ensures { result ≡ moment_or_zero self.now }
     {
-        match self {
-            Fact::Moment(moment) => moment.0,
-            _ => 0,
-        }
+        self.moment().map_or(0, |moment| moment.0)
     }
 
     /// The kind of a device that is present.
@@ -619,40 +545,30 @@ impl Fact {
     pub fn is_lock_of(&self, who: ConnId) -> bool
         ensures { result ≡ is_lock_of who self.now }
     {
-        match self {
-            Fact::Lock(lock) => lock.get().holder.0 == who.0,
-            _ => false,
-        }
+        self.lock().is_some_and(|lock| lock.holder == who)
     }
 
     /// Whether it is that of a lock of this mode that holds up an operation.
     pub fn holds_back(&self, kind: OpKind, mode: LockMode) -> bool
         ensures { result ≡ holds_back kind mode self.now }
     {
-        match self {
-            Fact::Lock(lock) => lock.get().mode == mode && lock.get().what.holds_up(kind),
-            _ => false,
-        }
+        self.lock()
+            .is_some_and(|lock| lock.mode == mode && lock.what.holds_up(kind))
     }
 
     /// What the lock holds up whose it is, if that has this mode; else nothing.
     pub fn inhibited(&self, mode: LockMode) -> Inhibited
         ensures { result ≡ inhibited_in mode self.now }
     {
-        match self {
-            Fact::Lock(lock) => lock.get().inhibited(mode),
-            _ => Inhibited::NOTHING,
-        }
+        self.lock()
+            .map_or(Inhibited::NOTHING, |lock| lock.inhibited(mode))
     }
 
     /// Whether it is that of a lock that takes a key from the login manager.
     pub fn handles_key(&self, key: HardKey) -> bool
         ensures { result ≡ handles_key key self.now }
     {
-        match self {
-            Fact::Lock(lock) => lock.get().what.holds_key(key),
-            _ => false,
-        }
+        self.lock().is_some_and(|lock| lock.what.holds_key(key))
     }
 
     /// What the machine as a whole is being made to do.
