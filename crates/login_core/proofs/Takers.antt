@@ -1,5 +1,5 @@
 -- The sessions that have a device taken, as it goes from them; and whether a graphics device is on a seat.
-use Rattle.std.proofs.Common.{◌≡◌, ◌&&◌, ◌||◌, Bool, true, false, Option, Some, None, List, [], ◌∷◌, filter, refl, ap, sym, ◌∙◌, inl, inr}
+use Rattle.std.proofs.Common.{◌≡◌, ◌&&◌, ◌||◌, Bool, true, false, cond, Option, Some, None, List, [], ◌∷◌, filter, find, refl, ap, ◌∙◌}
 use Rattle.std.specs.List.{list_any}
 use Rattle.std.specs.Option.{is_some}
 use Rattle.login_base.specs.declared.ids.DevNo.{DevNo}
@@ -11,10 +11,9 @@ use Rattle.login_model.specs.Taking.{takers}
 use Rattle.login_model.specs.Trail.{Trail}
 use Rattle.login_model.specs.Where.{is_session, sessions}
 use Rattle.login_model.specs.declared.fact.Key.TheVariants.{Sess, Taken}
-use Rattle.login_model.proofs.InOrder.{Enumerates, IsIn, filter-gives, filter-keeps}
-use Rattle.login_model.proofs.Keys.{both}
+use Rattle.login_model.proofs.InOrder.{Enumerates}
 use Rattle.login_core.specs.inner.Chosen.{is_chosen}
-use Rattle.login_core.proofs.Chosen.{filter-chosen}
+use Rattle.login_core.proofs.Chosen.{filter-chosen, next-found}
 use Rattle.login_core.proofs.Devices.{keeps-revoke}
 use Rattle.login_core.proofs.Going.{KeepsAbove}
 use Rattle.login_core.proofs.Sessions.{apart, sessions_that, sessions-above}
@@ -33,27 +32,15 @@ takers-chosen t d = filter-chosen (is_session t) (λ s. is_taken t s d) (names s
 
 -- ---- whether a name meets a test
 
-or-true : (a b : Bool) → b ≡ true → (a || b) ≡ true
-or-true true b e = refl
-or-true false b e = e
+any-step : {A : Type 0} (b c : Bool) (x : A) (o : Option A) → is_some o ≡ c → is_some (cond b (Some x) o) ≡ (b || c)
+any-step true c x o e = refl
+any-step false c x o e = e
 
-any-in : {A : Type 0} (p : A → Bool) (a : A) (ys : List A) → IsIn a ys → p a ≡ true → list_any p ys ≡ true
-any-in p a [] i e = absurd i
-any-in p a (y ∷ ys) (inl q) e = ap (λ (b : Bool). b || list_any p ys) (sym (ap p q) ∙ e)
-any-in p a (y ∷ ys) (inr i) e = or-true (p y) (list_any p ys) (any-in p a ys i e)
-
-not-met : (b : Bool) → (b ≡ true → ⊥) → b ≡ false
-not-met true f = absurd (f refl)
-not-met false f = refl
-
-none-in : {A : Type 0} (p : A → Bool) (ys : List A) → ((a : A) → IsIn a ys → p a ≡ true → ⊥) → list_any p ys ≡ false
-none-in p [] f = refl
-none-in p (y ∷ ys) f = ap (λ (b : Bool). b || list_any p ys) (not-met (p y) (f y (inl refl))) ∙ none-in p ys (λ a i. f a (inr i))
+found-any : {A : Type 0} (p : A → Bool) (xs : List A) → is_some (find p xs) ≡ list_any p xs
+found-any p [] = refl
+found-any p (x ∷ xs) = any-step (p x) (list_any p xs) x (find p xs) (found-any p xs)
 
 -- the first that meets a test is there where one meets it
 pub first-that : {A : Type 0} (lt : A → A → Bool) (there meets : A → Bool) (xs : List A) → Enumerates lt there xs → (o : Option A) → IsNext lt (is_chosen there meets) None o
     → is_some o ≡ list_any meets (filter there xs)
-first-that lt there meets xs n (Some a) h =
-    (let b = both (there a) (meets a) h.0 in sym (any-in meets a (filter there xs) (filter-keeps there a xs b.0 (n.complete a b.0)) b.1))
-first-that lt there meets xs n None h =
-    sym (none-in meets (filter there xs) (λ a i e. h a (ap (λ (b : Bool). b && meets a) (filter-gives there a xs i) ∙ e) refl))
+first-that lt there meets xs n o h = ap is_some (next-found lt there meets xs n o h) ∙ found-any meets (filter there xs)
