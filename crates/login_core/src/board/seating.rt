@@ -7,6 +7,7 @@ ghost use Rattle.login_core.specs.inner.Counts.{one_if};
 ghost use Rattle.login_core.specs.inner.Seating.{buckets, AreLow, AreSeated, CanSeat, CanShift, Seats, Shifts, bucket_of, high_in, is_at, is_none_at, is_one_at, terminal_in, user_in};
 
 use crate::board::Draft;
+use crate::board::choosing::least_that;
 use crate::board::so_far::SoFar;
 use login_base::SessId;
 use login_model::{Fact, Key, Look};
@@ -212,17 +213,10 @@ impl<'a> SoFar<'a> {
     fn find_on_terminal(&self, vt: u32) -> Option<SessId>
         ensures { result ≡ session_on self.now vt }
     {
-        let mut above = None;
-        while let Some(session) = self.next_session(above) {
-            if self
-                .fact(&Key::Sess(session))
+        least_that(self, None, |session| {
+            self.fact(&Key::Sess(session))
                 .is_on_terminal(&Fact::Number(vt))
-            {
-                return Some(session);
-            }
-            above = Some(session);
-        }
-        None
+        })
     }
 
     /// The open session of seat0 that has a terminal.
@@ -250,14 +244,10 @@ impl<'a> SoFar<'a> {
     fn find_seated(&self, uid: u32) -> bool
         ensures { result ≡ has_seat self.now uid }
     {
-        let mut above = None;
-        while let Some(session) = self.next_session(above) {
-            if self.fact(&Key::Sess(session)).is_seated_of(uid) {
-                return true;
-            }
-            above = Some(session);
-        }
-        false
+        let seated = least_that(self, None, |session: SessId| {
+            self.fact(&Key::Sess(session)).is_seated_of(uid)
+        });
+        seated.is_some()
     }
 
     /// Whether an open session of a user has a seat.

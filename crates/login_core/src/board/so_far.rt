@@ -1,10 +1,14 @@
 // The facts of a draft, as they stand for the marks so far. More can be put at the end of its list meanwhile.
 
 ghost use Rattle.std.specs.Prelude.{◌≡◌};
+ghost use Rattle.login_model.proofs.InOrder.{sessions-enumerated};
+ghost use Rattle.login_model.specs.Names.{IsNext, names, session_in, session_lt};
+ghost use Rattle.login_model.specs.Where.{is_session};
 ghost use Rattle.login_core.specs.inner.Facts.{StandFor};
 ghost use Rattle.login_core.specs.inner.Seating.{AreSeated};
 ghost use Rattle.login_core.specs.inner.UnderWay.{so_far};
 
+use crate::board::choosing::Tells;
 use crate::board::facts::Facts;
 use crate::board::seating::Seating;
 use login_base::{ConnId, DevNo, HandleNo, LockNo, Reserved, SeatName, SessId, Uid};
@@ -127,5 +131,22 @@ impl<'a> Look for SoFar<'a> {
 
     fn is_seated(&self, uid: u32) -> bool {
         self.has_seat(uid)
+    }
+}
+
+/// The sessions that are there.
+impl<'a> Tells<SessId> for SoFar<'a> {
+    ghost lt = { session_lt };
+
+    ghost is_told = { λ t s. is_session t s };
+
+    ghost among = { λ t. names session_lt session_in t };
+
+    ghost whole = { λ t. sessions-enumerated t };
+
+    fn next(&self, above: Option<SessId>) -> Option<SessId>
+        ensures { IsNext session_lt (is_session self.now) above result }
+    {
+        self.next_session(above)
     }
 }
