@@ -124,8 +124,8 @@ fn copied_lock(lock: &Lock) -> Result<Lock, NoMemory>
 fn push_lock(rows: &mut Items<Lock>, fact: &Fact) -> Result<(), NoMemory>
     ensures { OnOk result (rows.new ≡ rows.old ++ lock_row fact.now []) }
 {
-    if let Fact::Lock(lock) = fact {
-        rows.push(copied_lock(lock.get())?)?;
+    if let Some(lock) = fact.lock() {
+        rows.push(copied_lock(lock)?)?;
     }
     Ok(())
 }

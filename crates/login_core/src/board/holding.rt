@@ -153,10 +153,10 @@ fn held_lock_in(number: LockNo, fact: &Fact) -> Option<Holding>
 fn owned_fifo_in(handle: HandleNo, fact: &Fact) -> Option<Holding>
     ensures { result ≡ owned_fifo_in handle fact.now }
 {
-    match fact {
-        Fact::Owned(Owner::Fifo(who, session)) => Some(Holding {
-            who: *who,
-            thing: Thing::Fifo(*session, handle),
+    match fact.owner()? {
+        Owner::Fifo(who, session) => Some(Holding {
+            who,
+            thing: Thing::Fifo(session, handle),
         }),
         _ => None,
     }
