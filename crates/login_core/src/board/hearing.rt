@@ -10,7 +10,7 @@ ghost use Rattle.login_core.specs.Rings.{ring_count};
 use device_model::DeviceModel;
 use device_revoke::DeviceRevoke;
 use login_base::{DevNo, HandleNo};
-use login_model::{Call, DevKind, Event, Fact, Hardware, Inputs, Key, Mark, Owner, Verdict};
+use login_model::{Call, DevKind, Event, Fact, Hardware, Inputs, Key, Mark, Verdict};
 use login_table::Table;
 
 /// The handle that a mark makes live or dead.
@@ -90,23 +90,15 @@ fn deafen(devices: &mut DeviceModel, marks: &[Mark])
 fn is_evdev(fact: &Fact) -> bool
     ensures { result ≡ is_evdev fact.now }
 {
-    matches!(fact, Fact::Device(DevKind::Evdev, _))
+    fact.device_kind() == Some(DevKind::Evdev)
 }
 
 /// The device to which a handle with this owner listens, if it is an input device.
 fn listened_to(devices: &DeviceModel, owner: &Fact) -> Option<DevNo>
     ensures { result ≡ listened_to devices.now.trail owner.now }
 {
-    match owner {
-        Fact::Owned(Owner::Device(_, _, device)) => {
-            if is_evdev(devices.fact(&Key::Dev(*device))) {
-                Some(*device)
-            } else {
-                None
-            }
-        }
-        _ => None,
-    }
+    let device = owner.handle_device()?;
+    is_evdev(devices.fact(&Key::Dev(device))).then_some(device)
 }
 
 /// A live handle of an input device begins to listen to it, unless it listens.
