@@ -38,11 +38,9 @@ fn in_phase(fact: &Fact, phase: Phase, texts: SessionTexts, slot: Slot<Session>)
     requires { HasTexts fact.now texts }
     ensures { result ≡ in_phase phase fact.now }
 {
-    match fact {
-        Fact::Session(session) => {
-            Fact::Session(slot.fill(session_in_phase(session.get(), phase, texts)))
-        }
-        _ => Fact::Absent,
+    match fact.session() {
+        Some(session) => Fact::Session(slot.fill(session_in_phase(session, phase, texts))),
+        None => Fact::Absent,
     }
 }
 
