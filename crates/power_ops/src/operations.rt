@@ -66,9 +66,9 @@ fn start<F: Look>(facts: &F, conf: &Conf, fact: &Fact, out: &mut Reserved<Mark>)
     ensures appends { Appends (start conf.now fact.now) (F.trail facts.now) out.old.items out.new.items }
     ensures room { LeavesRoom (start conf.now fact.now) (F.trail facts.now) out.old.spare out.new.spare }
 {
-    if let Fact::Operation(Operation::Waiting(kind, since, _)) = fact {
-        if is_over(facts, conf, *since) || !is_delayed(facts, *kind) {
-            put(facts, Operation::Running(*kind), out);
+    if let Some(Operation::Waiting(kind, since, _)) = fact.operation() {
+        if is_over(facts, conf, since) || !is_delayed(facts, kind) {
+            put(facts, Operation::Running(kind), out);
         }
     }
 }
@@ -89,9 +89,9 @@ fn end<F: Look>(facts: &F, fact: &Fact, out: &mut Reserved<Mark>)
     ensures appends { Appends (end_operation fact.now) (F.trail facts.now) out.old.items out.new.items }
     ensures room { LeavesRoom (end_operation fact.now) (F.trail facts.now) out.old.spare out.new.spare }
 {
-    if let Fact::Operation(Operation::Running(kind)) = fact {
+    if let Some(kind) = fact.running() {
         put(facts, Operation::Idle, out);
-        out.push(Mark::Say(Whom::All, prepare(*kind, false)));
+        out.push(Mark::Say(Whom::All, prepare(kind, false)));
     }
 }
 
