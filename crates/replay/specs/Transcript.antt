@@ -4,8 +4,8 @@ use Rattle.std.specs.List.{flat_map}
 use Rattle.std.specs.Fmt.{decimal}
 use Rattle.login_model.specs.declared.mark.Entry.{Entry}
 use Rattle.login_conf.specs.Reading.{diagnostics_of}
-use Rattle.login_conf.specs.declared.diagnostic.Cause.{Cause}
-use Rattle.login_conf.specs.declared.diagnostic.Cause.TheVariants.{BeforeSections, OtherSection, UnknownKey, BadValue, NoEqualsSign}
+use Rattle.login_conf.specs.declared.diagnostic.ConfFault.{ConfFault}
+use Rattle.login_conf.specs.declared.diagnostic.ConfFault.TheVariants.{BeforeSections, OtherSection, UnknownKey, BadValue, NoEqualsSign}
 use Rattle.login_conf.specs.declared.diagnostic.Diagnostic.{Diagnostic}
 use Rattle.recording.specs.declared.line.Line.{Line}
 use Rattle.login_base.specs.declared.ids.ConnId.{ConnId}
@@ -26,7 +26,7 @@ abbrev pub transcript_end : ℕ → List ℕ
 transcript_end count = codes "end " ++ (decimal count ++ 10 ∷ [])
 
 -- the number of what is wrong with a line of the configuration
-abbrev pub diagnostic_number : Cause → ℕ
+abbrev pub diagnostic_number : ConfFault → ℕ
 diagnostic_number BeforeSections = 1
 diagnostic_number OtherSection = 2
 diagnostic_number UnknownKey = 3

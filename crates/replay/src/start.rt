@@ -5,19 +5,19 @@ ghost use Rattle.replay.specs.Transcript.{diagnostic_number, diagnostic_line, st
 
 use crate::numbered::{append_numbered, end_numbered};
 use login_base::NoMemory;
-use login_conf::{Cause, Diagnostic};
+use login_conf::{ConfFault, Diagnostic};
 use std::alloc::Global;
 
 /// The number by which a transcript knows what is wrong with a line of the configuration.
-fn diagnostic_number(cause: Cause) -> u64
+fn diagnostic_number(cause: ConfFault) -> u64
     ensures { result ≡ diagnostic_number cause }
 {
     match cause {
-        Cause::BeforeSections => 1,
-        Cause::OtherSection => 2,
-        Cause::UnknownKey => 3,
-        Cause::BadValue => 4,
-        Cause::NoEqualsSign => 5,
+        ConfFault::BeforeSections => 1,
+        ConfFault::OtherSection => 2,
+        ConfFault::UnknownKey => 3,
+        ConfFault::BadValue => 4,
+        ConfFault::NoEqualsSign => 5,
     }
 }
 
