@@ -3,8 +3,8 @@ use Rattle.std.specs.Prelude.{ℕ, ◌+◌, ◌*◌, nat_lt, if◌then◌else◌
 use Rattle.login_base.specs.declared.ids.SessId.{SessId}
 use Rattle.login_model.specs.declared.fact.Key.TheVariants.{Ctl}
 use Rattle.login_model.specs.declared.mark.Entry.{Entry}
-use Rattle.login_model.specs.declared.count.Count.{Count}
-use Rattle.login_model.specs.declared.count.Count.TheVariants.{Entries, Marks}
+use Rattle.login_model.specs.declared.fullness.Fullness.{Fullness}
+use Rattle.login_model.specs.declared.fullness.Fullness.TheVariants.{Entries, Marks}
 use Rattle.login_model.specs.declared.event.Event.{Event}
 use Rattle.login_model.specs.declared.event.Event.TheVariants.{Connect, Disconnect, Stop}
 use Rattle.login_model.specs.declared.setup.Setup.{Setup}
@@ -54,12 +54,12 @@ marks_needed t marks =
     + 32 * taken_count t + 8 * length (sessions t) + 4 * length (users t) + marks_in_reserve
 
 -- the first count that is above its limit
-abbrev pub over : ℕ → (ℕ → Count) → ℕ → Option Count → Option Count
+abbrev pub over : ℕ → (ℕ → Fullness) → ℕ → Option Fullness → Option Fullness
 over limit what count other = if nat_lt limit count then Some (what count) else other
 
 -- whether the journal is full for an event, and of what: of entries, then of marks; it never is for a
 -- disconnect or the stop
-unfoldable pub full : Setup → List Entry → Event → Option Count
+unfoldable pub full : Setup → List Entry → Event → Option Fullness
 full U before (Disconnect c) = None
 full U before Stop = None
 full U before e =

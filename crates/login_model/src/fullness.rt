@@ -2,9 +2,9 @@
 
 /// A number of the journal that is above its limit, with what each connection's end and the stop may need.
 #[derive(Clone, Copy, Debug, PartialEq, Eq)]
-pub enum Count {
-    /// More entries than 200000.
+pub enum Fullness {
+    /// So many entries, more than a journal may have.
     Entries(u64),
-    /// More marks than 4000000.
+    /// So many marks, more than a journal may have.
     Marks(u64),
 }
