@@ -3,7 +3,7 @@
 ghost use Rattle.std.specs.Prelude.{◌≡◌, ◌≤◌, ◌<◌, length, take, IfOk, ◌++◌};
 ghost use Rattle.bus_auth.specs.Cutting.{Open, cut};
 ghost use Rattle.bus_auth.specs.Greeting.{turn_of, run};
-ghost use Rattle.bus_auth.specs.inner.Outcomes.{greeting_in, IsOpenIn, HasRoom, open_outcome};
+ghost use Rattle.bus_auth.specs.inner.Outcomes.{greeting_in, IsOpenIn, HasLinesLeft, open_outcome};
 
 use crate::command::read_command;
 use crate::line::{first_end, least_length};
@@ -60,7 +60,7 @@ pub(crate) struct Heard {
 #[tactic(auto, unfolding(crate::specs::Greeting::turn_of))]
 fn take_line(uid: Uid, talk: Talk, line: &[u8]) -> Turn
     ensures turn { result ≡ turn_of uid talk line.now }
-    ensures room { HasRoom result talk.lines }
+    ensures room { HasLinesLeft result talk.lines }
 {
     if line.len() > MOST_BYTES {
         Turn::End(Ending::LineTooLong)

@@ -12,7 +12,7 @@ use Rattle.bus_message.specs.declared.cutting.Pieces.{Pieces}
 use Rattle.bus_message.specs.Cutting.{Whole, front, Cutting, cut_from, cut}
 use Rattle.bus_message.specs.Feeding.{Stream, kept, HasFed, Feeds, IsKept}
 use Rattle.bus_message.specs.inner.Feeding.{Shows}
-use Rattle.bus_message.specs.inner.Outcomes.{before, ended, cut_at, LeavesOpen, IsCutFrom, Gives}
+use Rattle.bus_message.specs.inner.Outcomes.{before, ended, cut_at, LeavesOpen, IsCutFrom, AnswersCut}
 use Rattle.bus_message.specs.Laws.{MalformedForGood}
 use Rattle.bus_message.proofs.Zeros.{reported_small}
 use Rattle.bus_message.proofs.Cuts.{cut_open, cut_bad, cut_whole, onward, resume, cut-append}
@@ -81,12 +81,12 @@ malformed_for_good text piece place some =
 
 -- the answer of a stream that is not malformed
 fed_open : (old new : Stream) (piece : List ℕ) (answer : Cut) → old.malformed ≡ None
-    → ((place : ℕ) → old.place ≡ reported place → Gives (cut_at place (old.rest ++ piece)) new answer)
+    → ((place : ℕ) → old.place ≡ reported place → AnswersCut (cut_at place (old.rest ++ piece)) new answer)
     → Feeds old piece new answer
 fed_open old new piece answer running gives =
     let whole : (text : List ℕ) → HasFed old text → cut (text ++ piece) ≡ before (cut text).messages (cut_at (cut text).place (old.rest ++ piece)) =
     λ text fed. followed old text piece fed running in
-    let g : (text : List ℕ) → HasFed old text → Gives (cut_at (cut text).place (old.rest ++ piece)) new answer =
+    let g : (text : List ℕ) → HasFed old text → AnswersCut (cut_at (cut text).place (old.rest ++ piece)) new answer =
     λ text fed. gives (cut text).place (ap (λ (s : Stream). s.place) fed.state) in
     record {
       fed = λ text fed. record { state = (g text fed).kept_as ∙ sym (ap kept (whole text fed)) };
@@ -125,7 +125,7 @@ pub settled : (now at : ℕ) (text rest : List ℕ) (malformed : Option Malforme
     → rest ≡ (ended (at + pieces.taken) (drop pieces.taken text) pieces.fault).rest
     → malformed ≡ (ended (at + pieces.taken) (drop pieces.taken text) pieces.fault).malformed
     → answer.messages ≡ pieces.messages → answer.malformed ≡ malformed
-    → Gives (cut_at at text) (record { place = now; rest = rest; malformed = malformed }) answer
+    → AnswersCut (cut_at at text) (record { place = now; rest = rest; malformed = malformed }) answer
 settled now at text rest malformed pieces answer is count left why messages same =
     let c : Cutting = ended (at + pieces.taken) (drop pieces.taken text) pieces.fault in
     let whole : cut_at at text ≡ before pieces.messages c = is.same at in
@@ -151,7 +151,7 @@ pub settled_at : (place now at : ℕ) (text rest : List ℕ) (malformed : Option
     → rest ≡ (ended now (drop pieces.taken text) pieces.fault).rest
     → ((to : ℕ) → now ≡ reported to → malformed ≡ (ended to (drop pieces.taken text) pieces.fault).malformed)
     → answer.messages ≡ pieces.messages → answer.malformed ≡ malformed
-    → Gives (cut_at at text) (record { place = now; rest = rest; malformed = malformed }) answer
+    → AnswersCut (cut_at at text) (record { place = now; rest = rest; malformed = malformed }) answer
 settled_at place now at text rest malformed pieces answer is from count left why messages same =
     let reached : now ≡ reported (at + pieces.taken) = count ∙ reported_sum at place pieces.taken from in
     settled now at text rest malformed pieces answer is reached (left ∙ ended_rest now (at + pieces.taken) (drop pieces.taken text) pieces.fault) (why (at + pieces.taken) reached) messages same
@@ -203,6 +203,6 @@ bad_shown text messages taken x n w h is =
 
 -- the same, of what is kept with the piece behind it
 pub fed_behind : (old new : Stream) (piece buffer : List ℕ) (answer : Cut) → old.malformed ≡ None → buffer ≡ old.rest ++ piece
-    → ((place : ℕ) → old.place ≡ reported place → Gives (cut_at place buffer) new answer) → Feeds old piece new answer
+    → ((place : ℕ) → old.place ≡ reported place → AnswersCut (cut_at place buffer) new answer) → Feeds old piece new answer
 fed_behind old new piece buffer answer running whole gives =
-    fed_open old new piece answer running (λ place from. subst (λ (x : List ℕ). Gives (cut_at place x) new answer) whole (gives place from))
+    fed_open old new piece answer running (λ place from. subst (λ (x : List ℕ). AnswersCut (cut_at place x) new answer) whole (gives place from))

@@ -13,7 +13,7 @@ use Rattle.bus_value.specs.declared.order.Order.{Order}
 use Rattle.bus_value.specs.BasicValues.{kind_of}
 use Rattle.bus_value.specs.Values.{Val, vals, basic, shapes}
 use Rattle.bus_value.specs.Spelling.{spelling, padding}
-use Rattle.bus_value.specs.Limits.{HasRoom, AllFit}
+use Rattle.bus_value.specs.Limits.{HasShortLength, AllFit}
 use Rattle.bus_value.specs.Grammar.{Spells}
 use Rattle.login_base.specs.Texts.{is_text}
 use Rattle.bus_value.proofs.Typing.{IsLegal, HasType, AllHave}
@@ -240,7 +240,7 @@ IsNamed (U32 n) = n < 2 ^ 32
 IsNamed (Sig ts) = IsWithin ts
 IsNamed a = ⊥
 
-legal_by : (a : BasicValue) → IsNamed a → HasRoom a → IsLegal a
+legal_by : (a : BasicValue) → IsNamed a → HasShortLength a → IsLegal a
 legal_by (Str text) h room = (h, room)
 legal_by (Path path) h room = (h, room)
 legal_by (U32 n) h room = h

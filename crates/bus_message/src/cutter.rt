@@ -4,7 +4,7 @@ ghost use Rattle.std.specs.Prelude.{◌≡◌, ◌≤◌, ℕ, [], length, drop,
 ghost use Rattle.std.specs.Fn.{FnOnceReturnsAt};
 ghost use Rattle.bus_value.specs.Faults.{reported};
 ghost use Rattle.bus_message.specs.Feeding.{AreMessages, Feeds, HasFed, IsEnded, IsKept};
-ghost use Rattle.bus_message.specs.inner.Outcomes.{IsCutFrom, Gives, ended, cut_at};
+ghost use Rattle.bus_message.specs.inner.Outcomes.{IsCutFrom, AnswersCut, ended, cut_at};
 
 use crate::cutting::{Pieces, cut_messages};
 use crate::fault::{Fault, Malformed};
@@ -79,7 +79,7 @@ fn settle(
     requires running { malformed.old ≡ None }
     requires cut { IsCutFrom buffer.old.items pieces }
     ensures messages { result.messages ≡ pieces.messages }
-    ensures gives { (at : ℕ) → place.old ≡ reported at → Gives (cut_at at buffer.old.items)
+    ensures gives { (at : ℕ) → place.old ≡ reported at → AnswersCut (cut_at at buffer.old.items)
         (record { place = place.new; rest = buffer.new.items; malformed = malformed.new }) result }
     ensures kept { IsKept malformed.new buffer.new.items }
     ensures told { result.malformed ≡ malformed.new }

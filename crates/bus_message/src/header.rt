@@ -3,7 +3,7 @@
 ghost use Rattle.std.specs.Prelude.{◌≡◌, ◌≤◌, ◌<◌, length, IfOk};
 ghost use Rattle.bus_message.specs.inner.Faults.{Gives};
 ghost use Rattle.bus_message.specs.Headers.{order_of, stated, header_of, fields_end, body_start, size, most};
-ghost use Rattle.bus_message.specs.inner.Headers.{HasRoom};
+ghost use Rattle.bus_message.specs.inner.Headers.{HasShortLengths};
 
 use crate::fault::{MessageFault, Refusal, refuse};
 use bus_value::{Order, pad_size, read_u32};
@@ -30,7 +30,7 @@ pub struct Header {
 impl Header {
     /// The offset behind the fields.
     pub fn fields_end(&self) -> usize
-        requires { HasRoom self.now }
+        requires { HasShortLengths self.now }
         ensures { result ≡ fields_end self.now }
     {
         SIZE + self.fields
@@ -38,7 +38,7 @@ impl Header {
 
     /// The offset of the body.
     pub fn body_start(&self) -> usize
-        requires { HasRoom self.now }
+        requires { HasShortLengths self.now }
         ensures { result ≡ body_start self.now }
     {
         let end = self.fields_end();
@@ -47,7 +47,7 @@ impl Header {
 
     /// How many bytes the message has.
     pub fn size(&self) -> usize
-        requires { HasRoom self.now }
+        requires { HasShortLengths self.now }
         ensures { result ≡ size self.now }
     {
         self.body_start() + self.body
@@ -69,7 +69,7 @@ fn order_of(letter: u8) -> Option<Order>
 fn stated(bytes: &[u8], order: Order) -> Header
     requires { length bytes.now ≡ 16 }
     ensures value { result ≡ stated bytes.now order }
-    ensures room { HasRoom result }
+    ensures room { HasShortLengths result }
 {
     Header {
         order,

@@ -6,7 +6,7 @@ ghost use Rattle.bus_value.specs.Reading.{read_all};
 ghost use Rattle.bus_message.specs.Faults.{for_cause};
 ghost use Rattle.bus_message.specs.inner.Faults.{Gives};
 ghost use Rattle.bus_message.specs.Headers.{size};
-ghost use Rattle.bus_message.specs.inner.Headers.{HasRoom};
+ghost use Rattle.bus_message.specs.inner.Headers.{HasShortLengths};
 ghost use Rattle.bus_message.specs.inner.KnownFields.{fields_known, known_message, shown, with_known};
 ghost use Rattle.bus_message.specs.inner.Parts.{target_in, parties_in};
 ghost use Rattle.bus_message.specs.Reading.{padding_read, headed, body_read, message_of};
@@ -40,7 +40,7 @@ fn read(
 /// The known fields. All are checked, and the others are not kept.
 #[tactic(auto, unfolding(crate::specs::inner::KnownFields::fields_known))]
 fn known_fields(alloc: Global, header: Header, bytes: &[u8]) -> Result<Items<Field>, Refusal>
-    requires room { HasRoom header }
+    requires room { HasShortLengths header }
     requires whole { length bytes.now ≡ size header }
     ensures { Gives result (fields_known header bytes.now) }
 {
@@ -67,7 +67,7 @@ fn check_zeros(padding: &[u8], at: usize) -> Result<(), Refusal>
 /// Whether the padding behind the fields is zero.
 #[tactic(auto, unfolding(crate::specs::Reading::padding_read))]
 fn check_padding(header: Header, bytes: &[u8]) -> Result<(), Refusal>
-    requires room { HasRoom header }
+    requires room { HasShortLengths header }
     requires whole { length bytes.now ≡ size header }
     ensures { Gives result (padding_read header bytes.now) }
 {
@@ -148,7 +148,7 @@ fn read_body(
     fields: &[Field],
     bytes: &[u8],
 ) -> Result<Values, Refusal>
-    requires room { HasRoom header }
+    requires room { HasShortLengths header }
     requires whole { length bytes.now ≡ size header }
     ensures { Gives result (body_read header (shown fields.now) bytes.now) }
 {
@@ -170,7 +170,7 @@ fn with_fields(
     fields: &[Field],
     bytes: &[u8],
 ) -> Result<Message, Refusal>
-    requires room { HasRoom header }
+    requires room { HasShortLengths header }
     requires whole { length bytes.now ≡ size header }
     ensures { Gives result (with_known header bytes.now fields.now) }
 {
@@ -183,7 +183,7 @@ fn with_fields(
 /// The message, by its known fields.
 #[tactic(auto, unfolding(crate::specs::inner::KnownFields::known_message))]
 fn known_message(alloc: Global, header: Header, bytes: &[u8]) -> Result<Message, Refusal>
-    requires room { HasRoom header }
+    requires room { HasShortLengths header }
     requires whole { length bytes.now ≡ size header }
     ensures { Gives result (known_message header bytes.now) }
 {
@@ -194,7 +194,7 @@ fn known_message(alloc: Global, header: Header, bytes: &[u8]) -> Result<Message,
 
 /// The message that the bytes are, which have this header.
 pub(crate) fn read_message(alloc: Global, header: Header, bytes: &[u8]) -> Result<Message, Refusal>
-    requires room { HasRoom header }
+    requires room { HasShortLengths header }
     requires whole { length bytes.now ≡ size header }
     ensures { Gives result (message_of header bytes.now) }
 {

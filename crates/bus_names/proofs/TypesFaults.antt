@@ -19,7 +19,7 @@ use Rattle.bus_names.specs.Frames.{array_count, struct_count}
 use Rattle.bus_names.specs.Parsing.{start, complete, open_entry, close_struct, other_letter, first_by, key_by, key_letter, end_letter, step_by, step, is_ready, refused_at, parse_from}
 use Rattle.bus_names.proofs.Letters.{parse_from-err, parse_from-ok, parse_from-end}
 use borrow.Author.Tests.{ltb-true}
-use Rattle.bus_names.specs.Signatures.{IsWithin, IsSignature, IsUnlimited, IsTooDeep, IsBad, Explains}
+use Rattle.bus_names.specs.Signatures.{IsWithin, IsSignature, IsUnlimited, IsTooDeep, IsBad, ExplainsTypes}
 use Rattle.bus_names.specs.Parsing.{signature_of}
 use Rattle.bus_names.proofs.TypesRead.{state, types_read}
 use Rattle.bus_names.proofs.TypesSound.{parse_sound, start_fits}
@@ -312,30 +312,30 @@ deep_law text k h = record {
   opening = (h.more, is_unlimited h.limit _ h.read);
 }
 
-parse_law : (text : List ℕ) → length text ≤ 255 → (r : Result (List Shape) NameFault) → parse_from 32 start 0 text ≡ r → Explains text r
+parse_law : (text : List ℕ) → length text ≤ 255 → (r : Result (List Shape) NameFault) → parse_from 32 start 0 text ≡ r → ExplainsTypes text r
 parse_law text short (Ok ts) e =
     let h = parse_sound 32 text start 0 ts e in
     (h.same, record { nested = h.nested (start_fits 32); short = subst (λ (x : List ℕ). length x ≤ 255) h.same short })
 parse_law text short (Err f) e = by (explained 32 text start 0 f e)
   where
-    by : Explained 32 start 0 text f → Explains text (Err f)
+    by : Explained 32 start 0 text f → ExplainsTypes text (Err f)
     by h = of h.1
       where
         zero : 0 + h.0 ≡ h.0
         zero = zero-add h.0
 
-        of : ((f ≡ BadSignature (0 + h.0)) × BadAt 32 start 0 text h.0) ⊎ ((f ≡ TooDeep (0 + h.0)) × DeepAt 32 start 0 text h.0) → Explains text (Err f)
-        of (inl g) = subst (λ (x : NameFault). Explains text (Err x)) (sym (g.0 ∙ ap (λ (n : ℕ). BadSignature n) zero)) (inr (short, bad_law text h.0 g.1))
-        of (inr g) = subst (λ (x : NameFault). Explains text (Err x)) (sym (g.0 ∙ ap (λ (n : ℕ). TooDeep n) zero)) (short, deep_law text h.0 g.1)
+        of : ((f ≡ BadSignature (0 + h.0)) × BadAt 32 start 0 text h.0) ⊎ ((f ≡ TooDeep (0 + h.0)) × DeepAt 32 start 0 text h.0) → ExplainsTypes text (Err f)
+        of (inl g) = subst (λ (x : NameFault). ExplainsTypes text (Err x)) (sym (g.0 ∙ ap (λ (n : ℕ). BadSignature n) zero)) (inr (short, bad_law text h.0 g.1))
+        of (inr g) = subst (λ (x : NameFault). ExplainsTypes text (Err x)) (sym (g.0 ∙ ap (λ (n : ℕ). TooDeep n) zero)) (short, deep_law text h.0 g.1)
 
 too_long : (text : List ℕ) → ltb 255 (length text) ≡ true → 255 < length text
 too_long text e = ltb-true 255 (length text) e
 
-pub signature_law : (text : List ℕ) → Explains text (signature_of text)
+pub signature_law : (text : List ℕ) → ExplainsTypes text (signature_of text)
 unfolding signature_of
 signature_law text = by (ltb 255 (length text)) refl
   where
-    by : (c : Bool) → ltb 255 (length text) ≡ c → Explains text (cond c (Err (BadSignature 255)) (parse_from 32 start 0 text))
+    by : (c : Bool) → ltb 255 (length text) ≡ c → ExplainsTypes text (cond c (Err (BadSignature 255)) (parse_from 32 start 0 text))
     by true e = inl (too_long text e, refl)
     by false e = parse_law text (let h : length text ≤ 255 = grind (arith, nat_tests) in h) (parse_from 32 start 0 text) refl
 

@@ -41,10 +41,10 @@ pub record IsBad (text : List ℕ) (offset : ℕ) : Type 0 where
 -- A text is the signature of the types; or it is too long; or a fault is the first letter with which no
 -- continuation is a signature, with no limit on the length: a bad one, however deep it may be nested, or
 -- an opening that is one too many.
-abbrev pub Explains : List ℕ → Result (List Shape) NameFault → Type 0
-Explains text (Ok ts) = (text ≡ signature_text ts) × IsWithin ts
-Explains text (Err (BadSignature offset)) = ((most_letters < length text) × (offset ≡ most_letters)) ⊎ ((length text ≤ most_letters) × IsBad text offset)
-Explains text (Err (TooDeep offset)) = (length text ≤ most_letters) × IsTooDeep text offset
-Explains text (Err (BadName offset)) = ⊥
-Explains text (Err BadLabel) = ⊥
-Explains text (Err NoMemory) = ⊥
+abbrev pub ExplainsTypes : List ℕ → Result (List Shape) NameFault → Type 0
+ExplainsTypes text (Ok ts) = (text ≡ signature_text ts) × IsWithin ts
+ExplainsTypes text (Err (BadSignature offset)) = ((most_letters < length text) × (offset ≡ most_letters)) ⊎ ((length text ≤ most_letters) × IsBad text offset)
+ExplainsTypes text (Err (TooDeep offset)) = (length text ≤ most_letters) × IsTooDeep text offset
+ExplainsTypes text (Err (BadName offset)) = ⊥
+ExplainsTypes text (Err BadLabel) = ⊥
+ExplainsTypes text (Err NoMemory) = ⊥

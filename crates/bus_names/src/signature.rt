@@ -3,7 +3,7 @@
 ghost use Rattle.std.specs.Prelude.{◌≡◌, ◌∷◌, [], IfOk};
 ghost use Rattle.bus_names.specs.Types.{signature_text};
 ghost use Rattle.bus_names.specs.Parsing.{signature_of, Parses};
-ghost use Rattle.bus_names.specs.Signatures.{IsWithin, Explains};
+ghost use Rattle.bus_names.specs.Signatures.{IsWithin, ExplainsTypes};
 
 use crate::fault::NameFault;
 use crate::parse::parse;
@@ -41,7 +41,7 @@ impl Model for Signature {
 /// The types of a text, or its first fault.
 fn read_types(alloc: Global, text: &[u8]) -> Result<Items<Type>, NameFault>
     ensures value { Parses result (signature_of text.now) }
-    ensures law { Explains text.now (signature_of text.now) }
+    ensures law { ExplainsTypes text.now (signature_of text.now) }
 {
     if text.len() > MOST_BYTES {
         return Err(NameFault::BadSignature(MOST_BYTES));
@@ -55,7 +55,7 @@ impl Signature {
     /// struct that is one too many.
     pub fn read(alloc: Global, text: &[u8]) -> Result<Signature, NameFault>
         ensures value { Parses result (signature_of text.now) }
-        ensures law { Explains text.now (signature_of text.now) }
+        ensures law { ExplainsTypes text.now (signature_of text.now) }
     {
         let types = read_types(alloc, text)?;
         Ok(Signature { types })

@@ -3,7 +3,7 @@
 ghost use Rattle.std.specs.Prelude.{◌≡◌, ◌∷◌, [], ◌<◌, ◌^◌, length, IfOk};
 ghost use Rattle.bus_names.specs.Types as shapes;
 ghost use Rattle.bus_value.specs.Values.{vals, basic, array, variant, none, more, dict, entry, no_entries};
-ghost use Rattle.bus_value.specs.Limits.{AllFit, HasRoom};
+ghost use Rattle.bus_value.specs.Limits.{AllFit, HasShortLength};
 
 mod accepted;
 mod basic;
@@ -42,7 +42,7 @@ fn is_written(
 
 /// A value of a type of numbers.
 fn number(kind: Basic, number: i64) -> BasicValue
-    ensures { HasRoom result }
+    ensures { HasShortLength result }
 {
     match kind {
         Basic::Byte => BasicValue::Byte(u8::try_from(number).unwrap_or(0)),
@@ -301,7 +301,7 @@ fn numbers_are_read_and_written(rt: HostRuntime) -> Result<(), ValueFault> {
 /// A value of a type of texts.
 fn text(alloc: Global, kind: Basic, text: &[u8]) -> Result<BasicValue, NameFault>
     requires { length text.now < 2 ^ 32 }
-    ensures { IfOk result HasRoom }
+    ensures { IfOk result HasShortLength }
 {
     match kind {
         Basic::Path => Ok(BasicValue::Path(ObjectPath::read(alloc, text)?)),

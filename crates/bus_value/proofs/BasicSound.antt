@@ -10,7 +10,7 @@ use Rattle.bus_names.specs.declared.basic.Basic.{Basic}
 use Rattle.bus_names.specs.declared.basic.Basic.TheVariants as kinds
 use Rattle.bus_names.specs.declared.fault.NameFault.{NameFault}
 use Rattle.bus_names.specs.Types.{Shape}
-use Rattle.bus_names.specs.Signatures.{IsWithin, Explains}
+use Rattle.bus_names.specs.Signatures.{IsWithin, ExplainsTypes}
 use Rattle.bus_names.specs.Reading.{path_fault}
 use Rattle.bus_names.specs.Parsing.{signature_of}
 use Rattle.bus_names.proofs.TypesFaults.{signature_law}
@@ -144,7 +144,7 @@ types_sound at (l ∷ more) ts s e = by (ends_with_zero (l ∷ more)) (signature
     by : (z : Bool) (r : Result (List Shape) NameFault) → ends_with_zero (l ∷ more) ≡ z → signature_of text ≡ r → cond z (types_by at r) (Err (BadText (reported at))) ≡ Ok ts → (l ∷ more ≡ signature_bytes ts) × IsWithin ts
     by true (Ok us) z r e =
         let same : us ≡ ts = ok_same us ts e in
-        let law : Explains text (Ok us) = subst (λ (q : Result (List Shape) NameFault). Explains text q) r (signature_law text) in
+        let law : ExplainsTypes text (Ok us) = subst (λ (q : Result (List Shape) NameFault). ExplainsTypes text q) r (signature_law text) in
         let m : suc (length more) ≡ l + 2 = sized _ _ s in
         let k : length more ≡ l + 1 = omega (arith, m) in
         let i : length (l ∷ more) - 1 ≡ suc l = omega (arith, k) in

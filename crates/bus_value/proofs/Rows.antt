@@ -14,7 +14,7 @@ use Rattle.bus_value.specs.Numbers.{number_bytes}
 use Rattle.bus_value.specs.Spelling.{pad_size, padding, array_bytes, first_element, behind_length, basic_spelling, spelling, spellings, entry_spellings, pair_bytes, value_at, key_at}
 use Rattle.bus_value.specs.inner.Spelling.{array_front}
 use Rattle.bus_value.specs.Alignment.{boundary}
-use Rattle.bus_value.specs.Limits.{Fits, AllFit, EntriesFit, HasRoom}
+use Rattle.bus_value.specs.Limits.{Fits, AllFit, EntriesFit, HasShortLength}
 
 -- one more value
 pub spellings_push : (o : Order) (vs : List Val) (at : ℕ) (v : Val) → spellings o at (vals (vs ++ v ∷ [])) ≡ spellings o at (vals vs) ++ spelling o (at + length (spellings o at (vals vs))) v
@@ -130,7 +130,7 @@ entries_push o (u ∷ es) at e =
 
 -- a dict entry is within the limits, where it stands
 abbrev pub PairFits : Order → ℕ → BasicValue × Val → Type 0
-PairFits o at e = HasRoom e.0 × Fits o (value_at o at e.0) e.1
+PairFits o at e = HasShortLength e.0 × Fits o (value_at o at e.0) e.1
 
 entry_fits_at : (o : Order) (es : List (BasicValue × Val)) (at i : ℕ) (d : BasicValue × Val) → i < length es → EntriesFit o at (entries es) → PairFits o (at + length (entry_spellings o at (entries (take i es)))) (get_or es i d)
 entry_fits_at o [] at i d h f = absurd (omega arith)

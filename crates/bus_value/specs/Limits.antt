@@ -21,25 +21,25 @@ abbrev pub most_parts : ℕ
 most_parts = 33
 
 -- a text's length is a number of four bytes
-abbrev pub HasRoom : BasicValue → Type 0
-HasRoom (Byte n) = 0 < 1
-HasRoom (Bool b) = 0 < 1
-HasRoom (I16 n) = 0 < 1
-HasRoom (U16 n) = 0 < 1
-HasRoom (I32 n) = 0 < 1
-HasRoom (U32 n) = 0 < 1
-HasRoom (I64 n) = 0 < 1
-HasRoom (U64 n) = 0 < 1
-HasRoom (Double bytes) = 0 < 1
-HasRoom (Str text) = length text < 2 ^ 32
-HasRoom (Path text) = length text < 2 ^ 32
-HasRoom (Sig types) = 0 < 1
-HasRoom (Handle n) = 0 < 1
+abbrev pub HasShortLength : BasicValue → Type 0
+HasShortLength (Byte n) = 0 < 1
+HasShortLength (Bool b) = 0 < 1
+HasShortLength (I16 n) = 0 < 1
+HasShortLength (U16 n) = 0 < 1
+HasShortLength (I32 n) = 0 < 1
+HasShortLength (U32 n) = 0 < 1
+HasShortLength (I64 n) = 0 < 1
+HasShortLength (U64 n) = 0 < 1
+HasShortLength (Double bytes) = 0 < 1
+HasShortLength (Str text) = length text < 2 ^ 32
+HasShortLength (Path text) = length text < 2 ^ 32
+HasShortLength (Sig types) = 0 < 1
+HasShortLength (Handle n) = 0 < 1
 
 abbrev mutual
   -- a value's texts, arrays and signatures are within the limits, where it stands at an offset
   pub Fits : Order → ℕ → Val → Type 0
-  Fits o at (basic a) = HasRoom a
+  Fits o at (basic a) = HasShortLength a
   Fits o at (array t vs) = (length (spellings o (first_element at (boundary t)) vs) ≤ 2 ^ 26) × AllFit o (first_element at (boundary t)) vs
   Fits o at (struct vs) = AllFit o (at + pad_size at 8) vs
   Fits o at (dict b t es) = (length (entry_spellings o (first_element at 8) es) ≤ 2 ^ 26) × EntriesFit o (first_element at 8) es
@@ -52,4 +52,4 @@ abbrev mutual
   pub EntriesFit : Order → ℕ → Entries → Type 0
   EntriesFit o at no_entries = Unit {0}
   EntriesFit o at (entry a v es) =
-      (HasRoom a × Fits o (value_at o at a) v) × EntriesFit o (at + length (pair_bytes o at a (spelling o (value_at o at a) v))) es
+      (HasShortLength a × Fits o (value_at o at a) v) × EntriesFit o (at + length (pair_bytes o at a (spelling o (value_at o at a) v))) es

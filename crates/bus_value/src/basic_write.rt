@@ -4,7 +4,7 @@ ghost use Rattle.std.specs.Prelude.{◌≡◌, ◌+◌, ◌++◌, ◌<◌, ◌^�
 ghost use Rattle.std.specs.Io.{StartsWith};
 ghost use Rattle.bus_value.specs.Alignment.{alignment, IsAlignment};
 ghost use Rattle.bus_value.specs.Spelling.{text_bytes, signature_bytes, basic_bytes, basic_spelling};
-ghost use Rattle.bus_value.specs.Limits.{HasRoom};
+ghost use Rattle.bus_value.specs.Limits.{HasShortLength};
 ghost use Rattle.bus_value.specs.BasicValues.{kind_of};
 
 use crate::basic_value::BasicValue;
@@ -58,7 +58,7 @@ fn push_bytes(
     order: Order,
     value: &BasicValue,
 ) -> Result<(), NoMemory>
-    requires { HasRoom value.now }
+    requires { HasShortLength value.now }
     ensures value { OnOk result (out.new.items ≡ out.old.items ++ basic_bytes order value.now) }
     ensures kept { OnErr result (StartsWith out.new.items out.old.items) }
 {
@@ -92,7 +92,7 @@ pub fn push_basic(
     order: Order,
     value: &BasicValue,
 ) -> Result<(), NoMemory>
-    requires { HasRoom value.now }
+    requires { HasShortLength value.now }
     ensures value { OnOk result (out.new.items ≡ out.old.items ++ basic_spelling order (start + length out.old.items) value.now) }
     ensures kept { OnErr result (StartsWith out.new.items out.old.items) }
 {

@@ -7,7 +7,7 @@ ghost use Rattle.login_model.specs.Limits.{devices_limit};
 ghost use Rattle.login_model.specs.Policy.{no_such_device, device_absent, device_present, device_not_on_seat, device_taken, device_not_taken, too_many_taken, too_many_devices, not_live, device_wrong, handle_wrong, on_session, take_rules, taken_rules, handle_rules, first_broken};
 ghost use Rattle.login_model.specs.declared.hardware.DevKind.TheVariants.{Evdev};
 
-use crate::arguments::broken_if;
+use crate::fits::broken_if;
 use crate::owners::{no_such_handle, not_in_control, not_yours};
 use crate::places::{no_seat, no_such_session, session_closing};
 use crate::session_calls::{NO_SESSION, first_broken};

@@ -1,8 +1,8 @@
 //! What the policy says to an event: the first rule that it breaks, by the facts and the setup.
 #![tactic(auto)]
 
-mod arguments;
 mod devices;
+mod fits;
 mod keys;
 mod locks;
 mod operations;

@@ -4,7 +4,7 @@ ghost use Rattle.std.specs.Prelude.{◌≡◌, ◌∷◌, [], ◌++◌, nat_le, 
 ghost use Rattle.login_model.specs.Policy.{cannot_delay, delay_not_offered, first_broken, inhibit_rules, inhibited, key_inhibited, lock_in_progress, meets, shutdown_action, sleep_action, too_many_locks, word_rules};
 ghost use Rattle.login_model.specs.Where.{locks};
 
-use crate::arguments::broken_if;
+use crate::fits::broken_if;
 use crate::session_calls::first_broken;
 use crate::standing::{needed, standing};
 use login_base::ConnId;

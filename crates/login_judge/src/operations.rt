@@ -8,7 +8,7 @@ ghost use Rattle.login_model.specs.Policy.{first_broken, for_others, has_others,
 ghost use Rattle.login_model.specs.Power.{is_blocked};
 ghost use Rattle.login_judge.specs.inner.Needed.{needs_by, said};
 
-use crate::arguments::broken_if;
+use crate::fits::broken_if;
 use crate::locks::inhibited;
 use crate::seated::OfAnother;
 use crate::session_calls::first_broken;

@@ -6,7 +6,7 @@ ghost use Rattle.login_model.specs.declared.setup.UserRow.{UserRow as UserRowVal
 ghost use Rattle.login_model.specs.Policy.{session_uid, is_root, is_user_of, no_such_user, not_root, not_owner, controlled_by_other, controlled, not_in_control, control_rule, nobody, is_missing, no_leader, no_such_handle, is_other, not_yours, clock_backwards};
 ghost use Rattle.login_model.specs.Where.{is_connected};
 
-use crate::arguments::{broken_if, is_leader};
+use crate::fits::{broken_if, is_leader};
 use crate::standing::is_own;
 use login_base::{ConnId, HandleNo, Millis, SessId, Word};
 use login_model::{Key, Look, Rule, Setup, UserRow};

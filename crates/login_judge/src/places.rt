@@ -6,7 +6,7 @@ ghost use Rattle.login_model.specs.Where.{sessions, connections, is_user, is_sea
 ghost use Rattle.login_model.specs.Policy.{no_such_session, absent_user, no_such_seat, no_such_seat_of, session_closing, no_seat, session_not_on_seat, vt_busy, vt_busy_on, too_many_links, too_many_sessions};
 ghost use Rattle.login_model.specs.Limits.{links_limit};
 
-use crate::arguments::{broken_if, is_seat0};
+use crate::fits::{broken_if, is_seat0};
 use login_base::{SeatName, SessId, Uid, Word};
 use login_model::{Key, Limit, Look, MOST_LINKS, Rule, Setup};
 use login_table::{is_on_seat, seat_of_session, session_on};

@@ -4,7 +4,7 @@ ghost use Rattle.std.specs.Prelude.{◌≡◌, ◌∷◌, []};
 ghost use Rattle.login_model.specs.Objects.{named_object};
 ghost use Rattle.login_model.specs.Policy.{absent_object, first_broken, get_all_rules, get_rules, no_owner, on_object, set_rules, unknown_property};
 
-use crate::arguments::broken_if;
+use crate::fits::broken_if;
 use crate::places::{absent_user, no_such_seat, no_such_session};
 use crate::session_calls::first_broken;
 use login_base::Word;

@@ -3,7 +3,7 @@
 ghost use Rattle.std.specs.Prelude.{◌≡◌, ◌∷◌, []};
 ghost use Rattle.login_model.specs.Policy.{no_leader, own_or_refused, own_or_challenge, session_uid, on_session, only_session, activate_rules, activate_on_rules, lock_rules, kill_rules, terminate_rules, hint_rules, control_rules, uncontrol_rules, first_broken};
 
-use crate::arguments::{bad_arguments, is_signal, is_whom};
+use crate::fits::{bad_arguments, is_signal, is_whom};
 use crate::owners::{control_rule, no_leader, not_in_control, not_owner, session_uid};
 use crate::places::{no_seat, no_such_seat, no_such_session, session_closing, session_not_on_seat};
 use crate::standing::judge_own;

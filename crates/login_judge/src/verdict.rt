@@ -4,8 +4,8 @@ ghost use Rattle.std.specs.Prelude.{◌≡◌, true, ◌∷◌, []};
 ghost use Rattle.login_base.specs.SessionId.{session_of};
 ghost use Rattle.login_model.specs.Policy.{call_rules, hardware_rules, first_broken, verdict, bad_arguments, is_signal, absent_user, no_such_user, no_such_seat, no_such_handle, not_yours, meant_user, linger_action, action_refused, action_challenge, own_or_refused, own_or_challenge};
 
-use crate::arguments::{bad_arguments, fits_creation, is_seat0, is_signal, is_vt};
 use crate::devices::{judge_add, judge_handle, judge_input, judge_remove, judge_take, judge_taken};
+use crate::fits::{bad_arguments, fits_creation, is_seat0, is_signal, is_vt};
 use crate::keys::judge_key;
 use crate::locks::judge_inhibit;
 use crate::operations::{judge_power, no_job};

@@ -22,10 +22,10 @@ abbrev pub open_outcome : Talk → ℕ → List ℕ → Outcome
 open_outcome talk taken line = if nat_lt most_bytes (length (without_cr line)) then ended LineTooLong else talking talk taken
 
 -- an answered line was not one too many
-abbrev pub HasRoom : Turn → ℕ → Type 0
-HasRoom (Answer reply stage) lines = lines < most_lines
-HasRoom Begin lines = ⊤
-HasRoom (End ending) lines = ⊤
+abbrev pub HasLinesLeft : Turn → ℕ → Type 0
+HasLinesLeft (Answer reply stage) lines = lines < most_lines
+HasLinesLeft Begin lines = ⊤
+HasLinesLeft (End ending) lines = ⊤
 
 -- what is left of the text is one line
 abbrev pub IsOpenIn : List ℕ → Outcome → Type 0

@@ -3,5 +3,5 @@ use Rattle.std.specs.Prelude.{◌<◌, ◌^◌}
 use Rattle.bus_message.specs.declared.header.Header.{Header}
 
 -- both lengths are numbers of four bytes
-abbrev pub HasRoom : Header → Type 0
-HasRoom h = (h.fields < 2 ^ 32) × (h.body < 2 ^ 32)
+abbrev pub HasShortLengths : Header → Type 0
+HasShortLengths h = (h.fields < 2 ^ 32) × (h.body < 2 ^ 32)

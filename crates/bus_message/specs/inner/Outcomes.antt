@@ -31,7 +31,7 @@ pub record IsCutFrom (text : List ℕ) (pieces : Pieces) : Type 0 where
   pub rest : LeavesOpen pieces.fault (drop pieces.taken text)
 
 -- an answer that gives what a cutting is, and keeps the rest
-pub record Gives (c : Cutting) (new : Stream) (answer : Cut) : Type 0 where
+pub record AnswersCut (c : Cutting) (new : Stream) (answer : Cut) : Type 0 where
   pub messages : answer.messages ≡ c.messages
   pub malformed : answer.malformed ≡ c.malformed
   pub kept_as : new ≡ kept c
