@@ -13,8 +13,9 @@ use Rattle.desk.specs.declared.view.Stage.TheVariants.{Idle, Holding}
 use Rattle.desk.specs.declared.view.View.{View}
 use Rattle.desk.specs.History.{entries, of_pass, of_who}
 use Rattle.desk.specs.Passes.{Closes}
-use Rattle.desk.specs.Rule.{FirstView, InStage, JoinedPass, LiveView, Placement, StandsFor, TurnRule, home, out}
-use Rattle.desk.specs.Views.{live_count}
+use Rattle.desk.specs.Standing.{StandsFor}
+use Rattle.desk.specs.inner.Rule.{FirstView, InStage, JoinedPass, LiveView, Placement, TurnRule, home, out}
+use Rattle.desk.specs.inner.Seats.{live_count}
 use Rattle.desk.proofs.Lists.{at_some, same_at, starts_nil}
 use Rattle.desk.proofs.Stepping.{value_or}
 use Rattle.desk.proofs.Views.{live_cases, live_two}

@@ -11,8 +11,9 @@ use Rattle.desk.specs.declared.view.Joined.{Joined}
 use Rattle.desk.specs.declared.view.Stage.TheVariants.{Idle, Holding}
 use Rattle.desk.specs.declared.view.View.{View}
 use Rattle.desk.specs.History.{of_pass}
-use Rattle.desk.specs.Rule.{Covered, FirstView, InStage, JoinedPass, Knows, LiveView, Members, TurnRule}
-use Rattle.desk.specs.Views.{after_join, joined_of, live_count, live_seats, spent_view, ticket_count}
+use Rattle.desk.specs.inner.Rule.{Covered, FirstView, InStage, JoinedPass, Knows, LiveView, Members, TurnRule}
+use Rattle.desk.specs.Views.{after_join, joined_of, spent_view}
+use Rattle.desk.specs.inner.Seats.{live_count, live_seats, ticket_count}
 use Rattle.desk.proofs.Lists.{at_below, at_end, same_at, starts_nil}
 use Rattle.desk.proofs.Stepping.{still}
 use Rattle.desk.proofs.Views.{live_set, live_two, not_live, seats, tickets_set}

@@ -9,8 +9,8 @@ use Rattle.desk.specs.declared.view.Joined.{Joined}
 use Rattle.desk.specs.declared.view.Numbered.{Numbered}
 use Rattle.desk.specs.declared.view.View.{View}
 use Rattle.desk.specs.History.{AtMostOne, entries, numbered, of_pass, of_who}
-use Rattle.desk.specs.Rule.{Covered, FirstView, JoinedPass, Members}
-use Rattle.desk.specs.Views.{live_count, live_seats}
+use Rattle.desk.specs.inner.Rule.{Covered, FirstView, JoinedPass, Members}
+use Rattle.desk.specs.inner.Seats.{live_count, live_seats}
 use Rattle.desk.proofs.Histories.{each_own, entries_grown, of_pass_grown, of_pass_same, of_who_grown, of_who_same}
 use Rattle.desk.proofs.Lists.{at_below, each_longer, same_at}
 use Rattle.desk.proofs.Views.{live_set, not_live}

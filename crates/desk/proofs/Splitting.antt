@@ -13,8 +13,9 @@ use Rattle.desk.specs.declared.view.Stage.TheVariants.{Spent, Idle, Waiting, Hol
 use Rattle.desk.specs.declared.view.View.{View}
 use Rattle.desk.specs.History.{entries, of_pass, of_who}
 use Rattle.desk.specs.Passes.{OneSettled}
-use Rattle.desk.specs.Rule.{FirstView, InStage, JoinedPass, Knows, LiveView, Members, Placement, TurnRule, home, out}
-use Rattle.desk.specs.Views.{Settled, after_split, first_view, live_count, live_seats, split_view}
+use Rattle.desk.specs.inner.Rule.{FirstView, InStage, JoinedPass, Knows, LiveView, Members, Placement, TurnRule, home, out}
+use Rattle.desk.specs.Views.{Settled, after_split, first_view, split_view}
+use Rattle.desk.specs.inner.Seats.{live_count, live_seats}
 use Rattle.desk.proofs.Histories.{of_pass_append, of_pass_none, of_who_none}
 use Rattle.desk.proofs.Lists.{at_end, front_nil}
 use Rattle.desk.proofs.Members.{covered_stays}

@@ -16,9 +16,10 @@ use Rattle.desk.specs.declared.view.Stage.{Stage}
 use Rattle.desk.specs.declared.view.Stage.TheVariants.{Spent, Idle, Waiting, Holding}
 use Rattle.desk.specs.declared.view.View.{View}
 use Rattle.desk.specs.History.{AreBelow, AtMostOne, HasJoined, entries, numbered, of_pass, of_who}
-use Rattle.desk.specs.Rule.{Covered, FirstView, InStage, Knows, LiveView, Members, Placement, Queued, TurnRule, home, out}
+use Rattle.desk.specs.inner.Rule.{Covered, FirstView, InStage, Knows, LiveView, Members, Placement, Queued, TurnRule, home, out}
 use Rattle.desk.specs.inner.Steps.{CatchUpTells, DrawTells, LookTells, PublishTells, SeatState, Served, new_entries}
-use Rattle.desk.specs.Views.{at_stage, first_view, live_count, ticket_count, tickets, with_own, with_seen}
+use Rattle.desk.specs.Views.{at_stage, first_view, with_own, with_seen}
+use Rattle.desk.specs.inner.Seats.{live_count, ticket_count, tickets}
 use Rattle.desk.proofs.Histories.{are_of_grown, drop_entries, entries_grown, of_pass_grown, of_pass_same}
 use Rattle.desk.proofs.Lists.{append_nil, at_below, first_of, longer_starts, same_at}
 use Rattle.desk.proofs.Members.{covered_stays, members_grow, members_stay, of_who_else, of_who_mine}

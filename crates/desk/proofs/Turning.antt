@@ -11,7 +11,8 @@ use Rattle.desk.specs.declared.view.Stage.TheVariants.{Idle, Waiting, Holding}
 use Rattle.desk.specs.declared.view.View.{View}
 use Rattle.desk.specs.History.{Appends, AtMostOne, StartsWith, entries, numbered, of_pass, of_who}
 use Rattle.desk.specs.Passes.{EndsTurn, JoinsPass, Waited}
-use Rattle.desk.specs.Rule.{StandsFor, TurnRule}
+use Rattle.desk.specs.Standing.{StandsFor}
+use Rattle.desk.specs.inner.Rule.{TurnRule}
 use Rattle.desk.specs.inner.Steps.{CatchUpTells, HoldsTurn, PublishTells, SeatState, Served, new_entries}
 use Rattle.desk.specs.Views.{Settled, after_join, joined_of, at_stage, with_own, with_seen}
 use Rattle.desk.proofs.Histories.{drop_entries, entries_grown, of_pass_append, of_pass_grown, of_who_grown}

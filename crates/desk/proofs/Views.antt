@@ -6,7 +6,7 @@ use Rattle.atomic_table.proofs.Lists.{at_set}
 use Rattle.desk.specs.declared.view.Stage.{Stage}
 use Rattle.desk.specs.declared.view.Stage.TheVariants.{Spent, Idle, Waiting, Holding}
 use Rattle.desk.specs.declared.view.View.{View}
-use Rattle.desk.specs.Views.{live_count, live_seats, ticket_count, tickets}
+use Rattle.desk.specs.inner.Seats.{live_count, live_seats, ticket_count, tickets}
 use Rattle.desk.proofs.Lists.{same_at}
 
 pub at_most_one : (st : Stage) → ticket_count st ≤ 1

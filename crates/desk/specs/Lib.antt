@@ -1,7 +1,7 @@
 pub mod Counting
 pub mod History
 pub mod Passes
-pub mod Rule
 pub mod SameEntries
+pub mod Standing
 pub mod Views
 pub mod inner

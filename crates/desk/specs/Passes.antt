@@ -8,7 +8,7 @@ use Rattle.desk.specs.declared.view.Numbered.{Numbered}
 use Rattle.desk.specs.declared.view.Stage.TheVariants.{Idle, Holding}
 use Rattle.desk.specs.declared.view.View.{View}
 use Rattle.desk.specs.History.{AtMostOne, HasMade, StartsWith, entries, of_pass, of_who}
-use Rattle.desk.specs.Rule.{StandsFor}
+use Rattle.desk.specs.Standing.{StandsFor}
 use Rattle.desk.specs.Views.{Settled, after_join, at_stage, spent_view, with_own, with_seen}
 
 -- how many passes are split from the first at most

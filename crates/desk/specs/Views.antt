@@ -3,35 +3,11 @@ use Rattle.std.specs.Prelude.{◌≡◌, ℕ, ◌+◌, ◌-◌, ◌==◌, if◌t
 use Rattle.desk.specs.declared.view.Joined.{Joined}
 use Rattle.desk.specs.declared.view.Numbered.{Numbered}
 use Rattle.desk.specs.declared.view.Stage.{Stage}
-use Rattle.desk.specs.declared.view.Stage.TheVariants.{Spent, Idle, Waiting, Holding}
+use Rattle.desk.specs.declared.view.Stage.TheVariants.{Spent, Idle}
 use Rattle.desk.specs.declared.view.View.{View}
 use Rattle.desk.specs.History.{AreBelow, HasJoined, numbered, of_pass}
 
--- 1 where the seat has a ticket
-abbrev pub ticket_count : Stage → ℕ
-ticket_count Spent = 0
-ticket_count Idle = 0
-ticket_count (Waiting t) = 1
-ticket_count (Holding t) = 1
-
--- 1 where the seat is not spent
-abbrev pub live_count : Stage → ℕ
-live_count Spent = 0
-live_count Idle = 1
-live_count (Waiting t) = 1
-live_count (Holding t) = 1
-
 module _ {S E : Type 0} where
-  -- how many seats have a ticket
-  abbrev pub tickets : List (View S E) → ℕ
-  tickets [] = 0
-  tickets (v ∷ vs) = ticket_count v.stage + tickets vs
-
-  -- how many seats are not spent
-  abbrev pub live_seats : List (View S E) → ℕ
-  live_seats [] = 0
-  live_seats (v ∷ vs) = live_count v.stage + live_seats vs
-
   -- the first pass as the desk is opened
   abbrev pub first_view : S → View S E
   first_view s = record { setup = Some s; number = 0; who = 0; seen = []; mine = []; inherited = []; stage = Idle; given = 0; made = 0; out = 0; joined = [] }

@@ -1,4 +1,6 @@
--- What serves private functions: the steps of a turn.
+-- What serves private functions: the rule of turns, and the steps of a turn.
 pub mod Appended
-pub mod Steps
 pub mod Passes
+pub mod Rule
+pub mod Seats
+pub mod Steps

@@ -3,12 +3,12 @@
 ghost use Rattle.std.specs.Prelude.{◌≡◌, ◌<◌, ℕ, List};
 ghost use Rattle.desk.specs.History.{Appends, StartsWith, of_who};
 
-use crate::kept::Kept;
+use crate::journaled::Journaled;
 use login_base::ConnId;
 
 /// An act on a value. It appends at most one entry, which is of the connection that it is made for,
 /// and it leaves the setup as it is.
-pub trait Act<V: Kept> {
+pub trait Act<V: Journaled> {
     type Answer;
 
     // Of the act before, the connection, the setup, the journals before and after, the act after and the answer.

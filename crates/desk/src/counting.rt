@@ -5,7 +5,7 @@ ghost use Rattle.desk.specs.Counting.{CountsTo, CountedBy, counter_of};
 
 use crate::act::Act;
 use crate::desk::Desk;
-use crate::kept::Kept;
+use crate::journaled::Journaled;
 use crate::pass::Pass;
 use login_base::{ConnId, NoMemory};
 use std::alloc::Global;
@@ -60,7 +60,7 @@ impl Counter {
     }
 }
 
-impl Kept for Counter {
+impl Journaled for Counter {
     ghost use Rattle.desk.specs.Counting.{counter_of};
 
     type Setup = usize;

@@ -8,7 +8,7 @@ ghost use Rattle.desk.specs.inner.Steps.{HoldsTurn};
 ghost use Rattle.desk.specs.Views.{first_view, after_split, split_view};
 
 use crate::act::Act;
-use crate::kept::Kept;
+use crate::journaled::Journaled;
 use crate::pass::Pass;
 use crate::rule::{Place, Turns};
 use crate::steps::{CatchUp, Connection, Draw, JoinInto, Look, Publish, SplitFor};
@@ -27,13 +27,13 @@ const SERVING: usize = 1;
 
 /// A value that threads take turns at, each by its pass. Contracts see which desk it is.
 #[derive(Drop)]
-pub struct Desk<V: Kept> {
+pub struct Desk<V: Journaled> {
     table: Table<Option<V>, View<V::Setup, V::Entry>, Snapshot<V>, Turns, Global>,
     /// Where threads sleep until they may draw a ticket, so that one that drew it is served at once.
     queue: Mutex<()>,
 }
 
-impl<V: Kept> Model for Desk<V> {
+impl<V: Journaled> Model for Desk<V> {
     ghost use Rattle.std.specs.Prelude.{◌≡◌};
     ghost use Rattle.atomic_table.specs.Seated.{TableId};
 
@@ -44,7 +44,7 @@ impl<V: Kept> Model for Desk<V> {
     ghost invariant = { λ d. (d.table.shared.table_id.words ≡ 2) × (d.table.shared.table_id.slots ≡ 1) };
 }
 
-impl<V: Kept> Desk<V> {
+impl<V: Journaled> Desk<V> {
     /// A desk for a value whose journal is empty, and its first pass.
     pub fn open(alloc: Global, value: V) -> Result<(Desk<V>, Pass<V::Setup, V::Entry>), NoMemory>
         requires { V.journal value ≡ [] }

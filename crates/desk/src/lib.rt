@@ -12,7 +12,7 @@
 mod act;
 mod counting;
 mod desk;
-mod kept;
+mod journaled;
 mod law;
 mod pass;
 mod rule;
@@ -22,7 +22,7 @@ mod view;
 pub use act::Act;
 pub use counting::{CountOn, CountUp, Counted, Counter, HowMany, count_apart, count_to};
 pub use desk::Desk;
-pub use kept::Kept;
+pub use journaled::Journaled;
 pub use law::same_entries;
 pub use pass::Pass;
 pub use view::{Joined, Numbered, Stage, View};

@@ -1,6 +1,6 @@
 // The rule of the desk's table.
 
-use crate::kept::Kept;
+use crate::journaled::Journaled;
 use crate::view::View;
 use atomic_table::{Seat, Shared, TableRule};
 use std::snapshot::Snapshot;
@@ -8,8 +8,8 @@ use std::snapshot::Snapshot;
 /// Seats take turns at the value in the order of their tickets.
 pub struct Turns;
 
-impl<V: Kept> TableRule<Option<V>, View<V::Setup, V::Entry>, Snapshot<V>> for Turns {
-    ghost use Rattle.desk.specs.Rule.{TurnRule};
+impl<V: Journaled> TableRule<Option<V>, View<V::Setup, V::Entry>, Snapshot<V>> for Turns {
+    ghost use Rattle.desk.specs.inner.Rule.{TurnRule};
     ghost use Rattle.desk.specs.Views.{first_view};
 
     ghost holds = { λ key. TurnRule V.setup V.journal V.who (V.setup key.value) };
@@ -17,4 +17,4 @@ impl<V: Kept> TableRule<Option<V>, View<V::Setup, V::Entry>, Snapshot<V>> for Tu
     ghost first = { λ key. first_view (V.setup key.value) };
 }
 
-pub(crate) type Place<V> = Seat<Option<V>, View<<V as Kept>::Setup, <V as Kept>::Entry>>;
+pub(crate) type Place<V> = Seat<Option<V>, View<<V as Journaled>::Setup, <V as Journaled>::Entry>>;

@@ -4,7 +4,7 @@ ghost use Rattle.std.specs.Prelude.{ℕ};
 ghost use Rattle.desk.specs.inner.Steps.{CatchUpTells, DrawTells, LookTells, PublishTells};
 ghost use Rattle.desk.specs.Views.{after_split, split_view, after_join, spent_view};
 
-use crate::kept::Kept;
+use crate::journaled::Journaled;
 use crate::view::View;
 use atomic_table::{Join, Play, Split};
 use std::marker::{Brand, PhantomData};
@@ -12,28 +12,28 @@ use std::marker::{Brand, PhantomData};
 /// A ticket is drawn.
 pub struct Draw;
 
-impl<V: Kept> Play<Option<V>, View<V::Setup, V::Entry>> for Draw {
+impl<V: Journaled> Play<Option<V>, View<V::Setup, V::Entry>> for Draw {
     ghost then = { DrawTells };
 }
 
 /// The serving word is looked at while a ticket is out.
 pub struct Look;
 
-impl<V: Kept> Play<Option<V>, View<V::Setup, V::Entry>> for Look {
+impl<V: Journaled> Play<Option<V>, View<V::Setup, V::Entry>> for Look {
     ghost then = { LookTells V.who V.setup V.journal };
 }
 
 /// The turn is given up, with one entry or none.
 pub struct Publish;
 
-impl<V: Kept> Play<Option<V>, View<V::Setup, V::Entry>> for Publish {
+impl<V: Journaled> Play<Option<V>, View<V::Setup, V::Entry>> for Publish {
     ghost then = { PublishTells V.journal };
 }
 
 /// The serving word is looked at after a join.
 pub struct CatchUp;
 
-impl<V: Kept> Play<Option<V>, View<V::Setup, V::Entry>> for CatchUp {
+impl<V: Journaled> Play<Option<V>, View<V::Setup, V::Entry>> for CatchUp {
     ghost then = { CatchUpTells };
 }
 

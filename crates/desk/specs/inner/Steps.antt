@@ -5,7 +5,7 @@ use Rattle.desk.specs.declared.view.Numbered.{Numbered}
 use Rattle.desk.specs.declared.view.Stage.TheVariants.{Idle, Waiting, Holding}
 use Rattle.desk.specs.declared.view.View.{View}
 use Rattle.desk.specs.History.{AreBelow, HasJoined, StartsWith, of_pass, of_who}
-use Rattle.desk.specs.Rule.{StandsFor}
+use Rattle.desk.specs.Standing.{StandsFor}
 use Rattle.desk.specs.Views.{at_stage, with_own, with_seen}
 
 -- a seat's view, and the slots that it holds

@@ -6,4 +6,4 @@ use Rattle.desk.proofs.desk.Desk.close.Goals as goal
 
 pub returns-clause-joined : goal.returns-clause-joined
 returns-clause-joined g c =
-    subst (λ (v : View _ _). EachJoined v (λ x. HasMade g.V.Kept.who v.seen x.number x.who x.mine)) (let same : c.into_seat.result.me.0 ≡ c.args.pass.view = search rules in same) c.shut.ensures.each
+    subst (λ (v : View _ _). EachJoined v (λ x. HasMade g.V.Journaled.who v.seen x.number x.who x.mine)) (let same : c.into_seat.result.me.0 ≡ c.args.pass.view = search rules in same) c.shut.ensures.each

@@ -12,4 +12,4 @@ load-requires g c = let i = c.loop.invariant in (search rules, search rules, loo
 
 pub returns-then-load-ticket-clause-turn : goal.returns-then-load-ticket-clause-turn
 returns-then-load-ticket-clause-turn g c = let i = c.loop.invariant in
-    holds_after g.V.Kept.who g.V.Kept.setup g.V.Kept.journal i.0 c.loop.seat.me c.load.new.seat.me i.4 ((c.load.ensures.2 i.0 (ap (λ (v : View _ _). v.stage) i.3)).0 (c.if-load-ticket.true ∙ i.2))
+    holds_after g.V.Journaled.who g.V.Journaled.setup g.V.Journaled.journal i.0 c.loop.seat.me c.load.new.seat.me i.4 ((c.load.ensures.2 i.0 (ap (λ (v : View _ _). v.stage) i.3)).0 (c.if-load-ticket.true ∙ i.2))

@@ -4,7 +4,7 @@ ghost use Rattle.std.specs.Prelude.{ℕ, List};
 
 /// A value that stands for a setup and a journal. Each entry is of one connection; number 0 is the
 /// machine itself.
-pub trait Kept: Drop {
+pub trait Journaled: Drop {
     type Setup;
 
     type Entry;

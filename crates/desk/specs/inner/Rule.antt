@@ -11,7 +11,8 @@ use Rattle.desk.specs.declared.view.Stage.{Stage}
 use Rattle.desk.specs.declared.view.Stage.TheVariants.{Spent, Idle, Waiting, Holding}
 use Rattle.desk.specs.declared.view.View.{View}
 use Rattle.desk.specs.History.{AreBelow, AreOf, StartsWith, entries, of_pass, of_who}
-use Rattle.desk.specs.Views.{live_count, live_seats, tickets}
+use Rattle.desk.specs.Standing.{StandsFor}
+use Rattle.desk.specs.inner.Seats.{live_count, live_seats, tickets}
 
 module _ {S E : Type 0} (who_of : E → ℕ) where
   -- what a seat that is not spent knows; `owner` gives the number of the pass that a connection belongs to
@@ -75,13 +76,9 @@ module _ {S E : Type 0} (who_of : E → ℕ) (key : S) (history : List (Numbered
   Knows v = InStage v v.stage
 
 module _ {T S E : Type 0} (setup : T → S) (journal : T → List E) where
-  -- the value stands for this setup and the entries of this history
-  abbrev pub StandsFor : T → S → List (Numbered E) → Type 0
-  StandsFor x key history = (setup x ≡ key) × (journal x ≡ entries history)
-
   -- where the value is
   pub data Placement (key : S) (history : List (Numbered E)) (serving : ℕ) (homes : List (maybe.Option (Option T))) (views : List (View S E)) : Type 0 where
-    home : (x : T) → homes ≡ some (Some x) ∷ [] → StandsFor x key history → Placement key history serving homes views
+    home : (x : T) → homes ≡ some (Some x) ∷ [] → StandsFor setup journal x key history → Placement key history serving homes views
     out : (j : ℕ) (v : View S E) → homes ≡ none ∷ [] → get_elem? views j ≡ some v → v.stage ≡ Holding serving → Placement key history serving homes views
 
   pub record TurnRule (who_of : E → ℕ) (key : S) (s : State (Option T) (View S E)) : Type 0 where
