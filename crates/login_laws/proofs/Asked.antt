@@ -217,7 +217,8 @@ asks-pass U _ t k v a h = a
 pub direct-adds : (U : Setup) (e : Event) (t : Trail) → verdict U t e ≡ Granted → Adds (Lets U t e) t (direct U e t)
 direct-adds U e t v =
     let r = letting U t e in
-    direct-carried r (letting-clocked U t e) (letting-comes U t e) (Adds (Lets U t e) t) U e t (λ u p. p) (λ w q. request-carried r (letting-switched U t e) w t)
+    direct-carried r (letting-clocked U t e) (letting-comes U t e) (Adds (Lets U t e) t) U e t
+    (λ d kind seat q. adds-put (Lets U t e) (key.Dev d) (fact.Device kind seat) t (not-op U t e (key.Dev d) (fact.Device kind seat) (λ z. (let y : key.Dev d ≡ key.Op = z in cc)))) (λ u p. p) (λ w q. request-carried r (letting-switched U t e) w t)
     (λ k q. ask-adds U e k (is_blocked t k) t (q, asks-pass U e t k v q)) (λ q. done-adds U t e t)
 
 pub granted-adds : (U : Setup) (e : Event) (t : Trail) → verdict U t e ≡ Granted → Adds (Lets U t e) t (settle U (direct U e t))

@@ -90,7 +90,7 @@ done-begun U t a = end-begun U (value t key.Op) t a
 
 pub direct-begun : (U : Setup) (e : Event) (t : Trail) → AreBegun U t → AreBegun U (direct U e t)
 direct-begun U e t a =
-    direct-carried (begun U) (begun-clocked U) (begun-comes U) (AreBegun U) U e t (λ u p. p a) (λ v q. request-carried (begun U) (begun-switched U) v t a)
+    direct-carried (begun U) (begun-clocked U) (begun-comes U) (AreBegun U) U e t (λ d kind seat q a. begun-put U (key.Dev d) (fact.Device kind seat) t tt a) (λ u p. p a) (λ v q. request-carried (begun U) (begun-switched U) v t a)
     (λ k q. ask-begun U k (is_blocked t k) t a) (λ q. done-begun U t a)
 
 -- ---- what is settled

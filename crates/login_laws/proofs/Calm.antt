@@ -121,5 +121,5 @@ CalmOr t e u = Calm t u ⊎ ((v : ℕ) × (asked_vt t e ≡ Some v) × (u ≡ re
 
 pub direct-calm : (U : Setup) (e : Event) (t : Trail) → CalmOr t e (direct U e t)
 direct-calm U e t =
-    direct-carried calm calm-clocked calm-comes (CalmOr t e) U e t (λ u p. inl p) (λ v q. inr (v, q, refl))
+    direct-carried calm calm-clocked calm-comes (CalmOr t e) U e t (λ d kind seat q. calm-at (key.Dev d) (fact.Device kind seat) t refl refl (λ s g. refl)) (λ u p. inl p) (λ v q. inr (v, q, refl))
     (λ k q. inl (ask_operation-carried calm calm-operated k (is_blocked t k) t)) (λ q. inl (job_done-carried calm calm-operated t))

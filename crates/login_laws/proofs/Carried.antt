@@ -17,7 +17,7 @@ use Rattle.login_model.specs.Names.{session_lt}
 use Rattle.login_model.specs.Start.{seat0}
 use Rattle.login_model.specs.Trail.{Trail, put, tell_all, value}
 use Rattle.login_model.specs.Fresh.{next_handle, next_lock, next_session}
-use Rattle.login_model.specs.Where.{active_on, current_vt, is_seat, is_set, is_active, is_open, now, open_sessions, seat_of_session, session_on, sessions_of, sessions_on}
+use Rattle.login_model.specs.Where.{active_on, current_vt, is_device_fact, is_seat, is_set, is_active, is_open, now, open_sessions, seat_of_session, session_on, sessions_of, sessions_on}
 use Rattle.login_model.specs.Devices.{is_awaiting, is_live, taken_devices}
 use Rattle.login_model.specs.Policy.{meant_user, uid_of}
 use Rattle.login_model.specs.Procedure.{each, force, force_device, force_handle, forget, front, if_some, is_kept, kill, know, leave, leave_seat, no, oust, release, renew, resume, resume_device, resume_handle, revive, revoke, set_phase, shut, take_seat, tell_controller, tell_new_user, untake, vacate, yes}
@@ -68,13 +68,14 @@ use Rattle.login_model.specs.declared.mark.Notice.{Notice}
 pub other : (k j : Key) (x : Fact) (t : Trail) → same_key k j ≡ false → value (put k x t) j ≡ value t j
 other k j x t e = value-put k j x t ∙ ap (λ (b : Bool). cond b x (value t j)) e
 
--- whether a setting is about no connection, session or lock, no clock and no operation, and begins or ends no switch
+-- whether a setting is about no connection, session or lock, no clock and no operation, brings no device, and begins or ends no switch
 abbrev pub is_plain : Key → Fact → Bool
 is_plain (key.Conn c) x = false
 is_plain (key.Sess s) x = false
 is_plain key.Vt x = false
 is_plain key.Pending x = false
 is_plain (key.Awaited s d) x = not (is_set x)
+is_plain (key.Dev d) x = not (is_device_fact x)
 is_plain key.Op x = false
 is_plain key.Now x = false
 is_plain (key.Lock l) x = false
@@ -114,6 +115,10 @@ pub record Operated (r : Carried) : Type 0 where
 pub record Comes (r : Carried) : Type 0 where
   pub sess : (s : SessId) (x : Fact) (t : Trail) → r.R t (put (key.Sess s) x t)
   pub conn : (c : ConnId) (x : Fact) (t : Trail) → r.R t (put (key.Conn c) x t)
+
+-- and over the device that an event adds
+abbrev pub Arrives : Carried → Trail → Event → Type 0
+Arrives r t e = (d : DevNo) (kind : DevKind) (seat : List ℕ) → e ≡ Happens (Add d kind seat) → r.R t (put (key.Dev d) (fact.Device kind seat) t)
 
 pub cond-carried : (r : Carried) (b : Bool) (t u v : Trail) → r.R t u → r.R t v → r.R t (cond b u v)
 cond-carried r true t u v p q = p
@@ -376,11 +381,11 @@ appear_seat-carried r Drm seat t =
     cond-carried r (is_seat t seat) t t (tell_all (notice.SeatNew seat) u) (r.refl t) (r.trans t u (tell_all (notice.SeatNew seat) u) (r.put (key.Seat seat) fact.Present t refl) (r.say All (notice.SeatNew seat) u)))
 appear_seat-carried r Evdev seat t = r.refl t
 
-pub add_device-carried : (r : Carried) (d : DevNo) (kind : DevKind) (seat : List ℕ) (t : Trail) → r.R t (add_device d kind seat t)
+pub add_device-carried : (r : Carried) (d : DevNo) (kind : DevKind) (seat : List ℕ) (t : Trail) → Arrives r t (Happens (Add d kind seat)) → r.R t (add_device d kind seat t)
 unfolding add_device
-add_device-carried r d kind seat t =
+add_device-carried r d kind seat t k =
     let u = put (key.Dev d) (fact.Device kind seat) t in
-    r.trans t u (appear_seat kind seat u) (r.put (key.Dev d) (fact.Device kind seat) t refl) (appear_seat-carried r kind seat u)
+    r.trans t u (appear_seat kind seat u) (k d kind seat refl) (appear_seat-carried r kind seat u)
 
 pub lose_seat-carried : (r : Carried) (x : Fact) (t : Trail) → r.R t (lose_seat x t)
 lose_seat-carried r (fact.Device Drm seat) t =
@@ -542,17 +547,17 @@ press-carried r Q does.Ignore t carry ops = carry t (r.refl t)
 press-carried r Q does.Lock t carry ops = carry (each lock_session (open_sessions t) t) (each-carried r lock_session (λ s u. tell_all-carried r (notice.Lock s) u) (open_sessions t) t)
 press-carried r Q (does.Operation k) t carry ops = ops k refl
 
-pub happen-carried : (r : Carried) (Q : Trail → Type 0) (U : Setup) (x : Hardware) (t : Trail) → ((u : Trail) → r.R t u → Q u)
+pub happen-carried : (r : Carried) (Q : Trail → Type 0) (U : Setup) (x : Hardware) (t : Trail) → Arrives r t (Happens x) → ((u : Trail) → r.R t u → Q u)
     → ((v : ℕ) → asked_vt t (Happens x) ≡ Some v → Q (request v t)) → ((p : HardKey) (k : OpKind) → x ≡ HardKeyPressed p → key_action U t p ≡ does.Operation k → Q (ask_operation k (is_blocked t k) t)) → (x ≡ JobDone → Q (job_done t)) → Q (happen U x t)
 unfolding asked_vt
-happen-carried r Q U (VtKey vt) t carry asks ops done = asks vt refl
-happen-carried r Q U (Exit id) t carry asks ops done = carry (if_some (exit U) (session_of id) t) (if_some-carried r (exit U) (exit-carried r U) (session_of id) t)
-happen-carried r Q U (Add d kind seat) t carry asks ops done = carry (add_device d kind seat t) (add_device-carried r d kind seat t)
-happen-carried r Q U (Remove d) t carry asks ops done = carry (remove_device d t) (remove_device-carried r d t)
-happen-carried r Q U (HardKeyPressed p) t carry asks ops done = press-carried r Q (key_action U t p) t carry (λ k e. ops p k refl e)
-happen-carried r Q U (Dock on) t carry asks ops done = carry (put key.Docked (fact.Flag on) t) (r.put key.Docked (fact.Flag on) t refl)
-happen-carried r Q U JobDone t carry asks ops done = done refl
-happen-carried r Q U _ t carry asks ops done = carry t (r.refl t)
+happen-carried r Q U (VtKey vt) t new carry asks ops done = asks vt refl
+happen-carried r Q U (Exit id) t new carry asks ops done = carry (if_some (exit U) (session_of id) t) (if_some-carried r (exit U) (exit-carried r U) (session_of id) t)
+happen-carried r Q U (Add d kind seat) t new carry asks ops done = carry (add_device d kind seat t) (add_device-carried r d kind seat t new)
+happen-carried r Q U (Remove d) t new carry asks ops done = carry (remove_device d t) (remove_device-carried r d t)
+happen-carried r Q U (HardKeyPressed p) t new carry asks ops done = press-carried r Q (key_action U t p) t carry (λ k e. ops p k refl e)
+happen-carried r Q U (Dock on) t new carry asks ops done = carry (put key.Docked (fact.Flag on) t) (r.put key.Docked (fact.Flag on) t refl)
+happen-carried r Q U JobDone t new carry asks ops done = done refl
+happen-carried r Q U _ t new carry asks ops done = carry t (r.refl t)
 
 -- a session is created
 pub create-carried : (r : Carried) → Comes r → (c : ConnId) (x : Creation) (s : SessId) (h : HandleNo) (t : Trail) → r.R t (create c x s h t)
@@ -569,19 +574,19 @@ create-carried r k c x s h t =
     (appear_on-carried r (seat_of x.seat) s e)
 
 -- What a granted event does by itself: what is carried, or a terminal asked for, an operation asked for, or one that is over.
-pub direct-carried : (r : Carried) → Clocked r → Comes r → (Q : Trail → Type 0) (U : Setup) (e : Event) (t : Trail) → ((u : Trail) → r.R t u → Q u)
+pub direct-carried : (r : Carried) → Clocked r → Comes r → (Q : Trail → Type 0) (U : Setup) (e : Event) (t : Trail) → Arrives r t e → ((u : Trail) → r.R t u → Q u)
     → ((v : ℕ) → asked_vt t e ≡ Some v → Q (request v t)) → ((k : OpKind) → AsksFor U t e k → Q (ask_operation k (is_blocked t k) t)) → (e ≡ Happens JobDone → Q (job_done t)) → Q (direct U e t)
 unfolding direct disconnect asked_vt
-direct-carried r w k Q U (Connect c u) t carry asks ops done = carry (put (key.Conn c) (fact.Connected u) t) (k.conn c (fact.Connected u) t)
-direct-carried r w k Q U (Disconnect c) t carry asks ops done =
+direct-carried r w k Q U (Connect c u) t new carry asks ops done = carry (put (key.Conn c) (fact.Connected u) t) (k.conn c (fact.Connected u) t)
+direct-carried r w k Q U (Disconnect c) t new carry asks ops done =
     (let u = unlock c (end_sessions c (each release (controlled_by t c) t)) in
     carry (put (key.Conn c) fact.Absent u) (r.trans t u (put (key.Conn c) fact.Absent u) (ends-carried r (λ l v. w.lock l fact.Absent v) c t) (k.conn c fact.Absent u)))
-direct-carried r w k Q U (Calls q) t carry asks ops done =
+direct-carried r w k Q U (Calls q) t new carry asks ops done =
     direct_call-carried r w Q U q.who q.call t carry asks (λ y e. carry (create q.who y (next_session t) (next_handle t) t) (create-carried r k q.who y (next_session t) (next_handle t) t)) ops
-direct-carried r w k Q U (Happens x) t carry asks ops done =
-    happen-carried r Q U x t carry asks (λ p o e a. ops o (let P : Hardware → Type 0 = λ y. AsksFor U t (Happens y) o in subst P (sym e) a)) (λ e. done (ap Happens e))
-direct-carried r w k Q U (Tick m) t carry asks ops done = carry (tick U m t) (tick-carried r w U m t)
-direct-carried r w k Q U Stop t carry asks ops done = carry t (r.refl t)
+direct-carried r w k Q U (Happens x) t new carry asks ops done =
+    happen-carried r Q U x t new carry asks (λ p o e a. ops o (let P : Hardware → Type 0 = λ y. AsksFor U t (Happens y) o in subst P (sym e) a)) (λ e. done (ap Happens e))
+direct-carried r w k Q U (Tick m) t new carry asks ops done = carry (tick U m t) (tick-carried r w U m t)
+direct-carried r w k Q U Stop t new carry asks ops done = carry t (r.refl t)
 
 -- ---- what all carry over operations too
 
@@ -621,5 +626,5 @@ pub call-carried : (r : Carried) → Clocked r → Switched r → Operated r →
     → ((y : Creation) → x ≡ call.Create y → r.R t (create c y (next_session t) (next_handle t) t)) → r.R t (direct_call U c x t)
 call-carried r k w o U c x t new = direct_call-carried r k (r.R t) U c x t (λ u p. p) (λ v e. request-carried r w v t) new (λ k e. ask_operation-carried r o k (is_blocked t k) t)
 
-pub hardware-carried : (r : Carried) → Switched r → Operated r → (U : Setup) (x : Hardware) (t : Trail) → r.R t (happen U x t)
-hardware-carried r w o U x t = happen-carried r (r.R t) U x t (λ u p. p) (λ v e. request-carried r w v t) (λ p k e q. ask_operation-carried r o k (is_blocked t k) t) (λ e. job_done-carried r o t)
+pub hardware-carried : (r : Carried) → Switched r → Operated r → (U : Setup) (x : Hardware) (t : Trail) → Arrives r t (Happens x) → r.R t (happen U x t)
+hardware-carried r w o U x t new = happen-carried r (r.R t) U x t new (λ u p. p) (λ v e. request-carried r w v t) (λ p k e q. ask_operation-carried r o k (is_blocked t k) t) (λ e. job_done-carried r o t)

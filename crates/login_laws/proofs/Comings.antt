@@ -28,7 +28,7 @@ use Rattle.login_model.proofs.MadeWith.{texts_in}
 use Rattle.login_laws.proofs.Carried.{know-carried, appear_on-carried, call-carried, ends-carried, hardware-carried, tick-carried, settle-carried}
 use Rattle.login_laws.proofs.Counts.{connections-list, count-same, count-more, count-gone}
 use Rattle.login_model.proofs.FactLaws.{same-conn}
-use Rattle.login_laws.proofs.Tame.{Later, Tame, tame, tame-clocked, tame-operated, tame-switched, other}
+use Rattle.login_laws.proofs.Tame.{Later, Tame, tame, tame-arrives, tame-clocked, tame-operated, tame-switched, other}
 use Rattle.login_model.proofs.Values.{value-put, same-refl}
 
 -- a session comes, of these texts; no connection comes or goes, and no other session comes
@@ -92,7 +92,7 @@ event-tame U (Disconnect c) t n = absurd n
 event-tame U (Calls r) t n =
     (let u = direct_call U r.who r.call t in
     tame.trans t u (settle U u) (call-carried tame tame-clocked tame-switched tame-operated U r.who r.call t (λ y e. absurd (n (new-at r.call y e)))) (settle-carried tame tame-switched tame-operated U u))
-event-tame U (Happens x) t n = (let u = direct U (Happens x) t in tame.trans t u (settle U u) (hardware-carried tame tame-switched tame-operated U x t) (settle-carried tame tame-switched tame-operated U u))
+event-tame U (Happens x) t n = (let u = direct U (Happens x) t in tame.trans t u (settle U u) (hardware-carried tame tame-switched tame-operated U x t (tame-arrives t (Happens x))) (settle-carried tame tame-switched tame-operated U u))
 event-tame U (Tick m) t n = (let u = direct U (Tick m) t in tame.trans t u (settle U u) (tick-carried tame tame-clocked U m t) (settle-carried tame tame-switched tame-operated U u))
 event-tame U Stop t n = settle-carried tame tame-switched tame-operated U t
 

@@ -23,7 +23,6 @@ use Rattle.login_model.specs.Names.{lock_lt}
 use Rattle.login_model.specs.Power.{is_delayed, is_over, settle_operation, start}
 use Rattle.login_model.specs.Trail.{put}
 use Rattle.login_model.specs.Where.{is_lock, is_lock_fact, locks, moment_or_zero}
-use Rattle.login_model.specs.declared.lock.Lock.{Lock}
 use Rattle.login_model.specs.declared.lock.LockMode.TheVariants.{Delay}
 use Rattle.login_model.specs.declared.operation.OpKind.{OpKind}
 use Rattle.login_model.specs.declared.operation.Operation.{Operation}

@@ -7,6 +7,7 @@ use Rattle.login_model.specs.Fresh.{is_open_fact, is_open_phase}
 use Rattle.login_model.specs.Same.{same_key}
 use Rattle.login_model.specs.Where.{is_session_fact, is_gone_phase}
 use Rattle.login_model.specs.Procedure.{in_phase}
+use Rattle.login_model.specs.declared.event.Event.{Event}
 use Rattle.login_model.specs.declared.fact.Key.{Key}
 use Rattle.login_model.specs.declared.fact.Key.TheVariants as key
 use Rattle.login_model.specs.declared.fact.Fact.{Fact}
@@ -19,7 +20,7 @@ use Rattle.login_model.specs.declared.session.Phase.TheVariants.{Open, Closing, 
 use Rattle.login_model.proofs.MadeWith.{texts_in}
 use Rattle.login_model.specs.Procedure.{yes}
 pub use Rattle.login_laws.proofs.Carried.{other}
-use Rattle.login_laws.proofs.Carried.{Carried, Clocked, Operated, Switched, is_plain, Unlocks}
+use Rattle.login_laws.proofs.Carried.{Arrives, Carried, Clocked, Operated, Switched, is_plain, Unlocks}
 use Rattle.login_model.proofs.Keys.{same-session}
 use Rattle.login_model.proofs.Values.{Facts, value-put, values-say}
 
@@ -161,6 +162,9 @@ tame-clocked = record {
   now = λ m t. tame-other key.Now (fact.Moment m) t (λ c. refl) (λ r. refl);
   lock = λ l x t. tame-other (key.Lock l) x t (λ c. refl) (λ r. refl);
 }
+
+pub tame-arrives : (t : Trail) (e : Event) → Arrives tame t e
+tame-arrives t e d kind seat q = tame-other (key.Dev d) (fact.Device kind seat) t (λ c. refl) (λ s. refl)
 
 pub tame-unlocks : Unlocks tame
 tame-unlocks l t = tame-clocked.lock l fact.Absent t

@@ -106,7 +106,7 @@ request-sets C v t =
 
 direct-sets : (C : Fact → Type 0) (U : Setup) (e : Event) (t : Trail) → Sets C t (direct U e t)
 direct-sets C U e t =
-    direct-carried (setting C) (setting-clocked C) (setting-comes C) (Sets C t) U e t (λ u p. p) (λ v a. request-sets C v t)
+    direct-carried (setting C) (setting-clocked C) (setting-comes C) (Sets C t) U e t (λ d kind seat a. adds-put (SetsAs C) (key.Dev d) (fact.Device kind seat) t tt) (λ u p. p) (λ v a. request-sets C v t)
     (λ k a. ask_operation-carried (setting C) (setting-operated C) k (is_blocked t k) t) (λ a. job_done-carried (setting C) (setting-operated C) t)
 
 -- ---- a switch that completes sets it once

@@ -76,13 +76,17 @@ abbrev pub touches : Trail → Event → ConnId → Bool
 touches t (Calls q) c = q.who.0 == c.0 || has_session t c (taken_from q.call)
 touches t _ c = false
 
--- whether an event concerns a connection: one that it touches, or that has seat0's active session; five at most
+-- whether an event concerns a connection: one that it touches, or that has seat0's active session
 abbrev pub concerns : Trail → Event → ConnId → Bool
 concerns t e c = touches t e c || has_session t c (active_on t seat0)
 
+-- what an event raises a share by beside four for each device that is taken
+abbrev pub share_rise_beside : ℕ
+share_rise_beside = 12
+
 -- the most by which an event raises a share
 abbrev pub most_share_rise : Trail → ℕ
-most_share_rise t = 4 * taken_count t + 12
+most_share_rise t = 4 * taken_count t + share_rise_beside
 
 -- An event in place behind a legal journal that is no disconnect
 pub record SharesMove (U : Setup) : Type 0 where
