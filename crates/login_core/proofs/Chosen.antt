@@ -6,8 +6,8 @@ use Rattle.login_model.specs.Trail.{Trail}
 use Rattle.login_model.proofs.Keys.{test, both}
 use Rattle.login_model.proofs.InOrder.{Enumerates, rest, rest-next, rest-none, rest-all}
 use Rattle.login_table.specs.Listed.{first}
-use Rattle.login_core.specs.inner.Chosen.{IsNextSuch, is_chosen}
-use Rattle.login_core.proofs.Going.{Tour, left, KeepsAbove}
+use Rattle.login_core.specs.inner.Chosen.{is_chosen}
+use Rattle.login_core.proofs.Going.{Tour, KeepsAbove}
 
 -- so far none was passed over: of those above a name that are not above another, the test says that they fail it
 pub record Passed {A : Type 0} (lt : A → A → Bool) (told : A → Bool) (says : A → Bool → Type 0) (above from : Option A) : Type 0 where
@@ -81,11 +81,6 @@ next-found lt there meets xs n o h =
     next-first lt (is_chosen there meets) xs w o h
     ∙ ap first (rest-all lt (is_chosen there meets) xs w ∙ filter-chosen there meets xs)
     ∙ sym (find-first meets (filter there xs))
-
-pub chosen-all : {A : Type 0} (k : Tour A) (meets : Trail → A → Bool) (t : Trail) → left (chosen k meets) t None ≡ filter (meets t) (filter (k.there t) (k.list t))
-chosen-all k meets t =
-    rest-all k.lt (is_chosen (k.there t) (meets t)) (k.list t) (whole-chosen k.lt (k.there t) (meets t) (k.list t) (k.whole t))
-    ∙ filter-chosen (k.there t) (meets t) (k.list t)
 
 -- f leaves those above a name alone, and what the test says of them
 pub chosen-above : {A : Type 0} (k : Tour A) (meets : Trail → A → Bool) (f : A → Trail → Trail) → KeepsAbove k f

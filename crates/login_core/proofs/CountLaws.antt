@@ -67,17 +67,17 @@ kind-list K t =
       gives = λ a i. filter-gives p a xs i;
     }
 
-no-name : {A : Type 0} {a : A} → None ≡ Some a → ⊥
+pub no-name : {A : Type 0} {a : A} → None ≡ Some a → ⊥
 no-name e = cc
 
-one-name : {A : Type 0} {a b : A} → Some a ≡ Some b → a ≡ b
+pub one-name : {A : Type 0} {a b : A} → Some a ≡ Some b → a ≡ b
 one-name {A} {a} {b} e = cc
 
 -- what is under a key that is not the one set
-other-value : (k j : Key) (x : Fact) (t : Trail) → same_key j k ≡ false → value (Set j x ∷ t) k ≡ value t k
+pub other-value : (k j : Key) (x : Fact) (t : Trail) → same_key j k ≡ false → value (Set j x ∷ t) k ≡ value t k
 other-value k j x t e = value-set k j x t ∙ ap (λ (b : Bool). cond b x (value t k)) e
 
-own-value : (k j : Key) (x : Fact) (t : Trail) → j ≡ k → value (Set j x ∷ t) k ≡ x
+pub own-value : (k j : Key) (x : Fact) (t : Trail) → j ≡ k → value (Set j x ∷ t) k ≡ x
 own-value k j x t e = value-set k j x t ∙ ap (λ (b : Bool). cond b x (value t k)) (ap (same_key j) (sym e) ∙ same_key-refl j)
 
 none-set : {A : Type 0} (K : Kind A) (k : Key) (x : Fact) (t : Trail) → K.name_in k ≡ None → (a : A) → is_there K.key_of K.is_fact (Set k x ∷ t) a ≡ is_there K.key_of K.is_fact t a

@@ -1,5 +1,5 @@
 -- A draft with one mark more.
-use Rattle.std.proofs.Common.{◌≡◌, ℕ, ◌+◌, ◌≤◌, ◌∙◌, [], ◌∷◌, ◌++◌, List, false, sym, ap, subst, length, add-one, arith}
+use Rattle.std.proofs.Common.{◌≡◌, ℕ, ◌+◌, ◌≤◌, ◌∙◌, [], ◌∷◌, ◌++◌, List, false, refl, sym, ap, subst, length, add-one, arith}
 use Rattle.login_base.specs.Room.{Room}
 use Rattle.login_model.specs.Same.{same_fact}
 use Rattle.login_model.specs.Trail.{Trail, value, put, after}
@@ -12,6 +12,7 @@ use Rattle.login_model.specs.declared.mark.Whom.{Whom}
 use Rattle.login_model.specs.declared.mark.Notice.{Notice}
 use Rattle.login_model.specs.declared.mark.Entry.{Entry}
 use Rattle.device_model.specs.declared.ears.Ear.{Ear}
+use Rattle.login_core.specs.declared.board.Reach.{Reach}
 use Rattle.login_core.specs.declared.board.seating.Seating.{Seating}
 use Rattle.login_core.specs.inner.Facts.{Tables, StandFor}
 use Rattle.login_core.specs.inner.Seating.{AreSeated}
@@ -22,13 +23,13 @@ use Rattle.login_table.proofs.Appending.{put-made}
 use Rattle.login_core.proofs.Standing.{so_far-more, so_far-start, so_far-closed}
 
 -- what a draft of these parts is seen as
-abbrev pub seen : List Entry → List Mark → Tables → ℕ → DraftState
-seen es ms f reach = record { before = trail_of es; trail = so_far es ms; reach = reach; ears = f.ears; rings = f.rings }
+abbrev pub seen : List Entry → List Mark → Tables → Reach → DraftState
+seen es ms f reach = record { before = trail_of es; trail = so_far es ms; reach = reach.entry; far = reach.all; ears = f.ears; rings = f.rings }
 
 pub more : (es : List Entry) (ms ns : List Mark) (x : Mark) → ns ≡ ms ++ x ∷ [] → so_far es ns ≡ x ∷ so_far es ms
 more es ms ns x e = ap (so_far es) e ∙ so_far-more es ms x
 
-pub seen-more : (es : List Entry) (ms ns : List Mark) (f g : Tables) (reach : ℕ) (x : Mark) (d : DraftState) → seen es ms f reach ≡ d → ns ≡ ms ++ x ∷ [] → g.ears ≡ f.ears → g.rings ≡ f.rings
+pub seen-more : (es : List Entry) (ms ns : List Mark) (f g : Tables) (reach : Reach) (x : Mark) (d : DraftState) → seen es ms f reach ≡ d → ns ≡ ms ++ x ∷ [] → g.ears ≡ f.ears → g.rings ≡ f.rings
     → seen es ns g reach ≡ with_trail d (x ∷ d.trail)
 seen-more es ms ns f g reach x d v e p q =
     let s = seen es ms f reach in
@@ -46,13 +47,13 @@ pub said-room : (w : Whom) (n : Notice) (d : DraftState) → Fits (tell w n) d �
 said-room w n d room = let f : length (Say w n ∷ d.trail) ≡ length d.trail + 1 = sym (add-one (length d.trail)) in omega arith
 
 -- there is room for one mark more
-pub room-inside : (es : List Entry) (ms : List Mark) (f : Tables) (reach : ℕ) (d : DraftState) → seen es ms f reach ≡ d → length d.trail + 1 ≤ d.reach → length (so_far es ms) + 1 ≤ reach
+pub room-inside : (es : List Entry) (ms : List Mark) (f : Tables) (reach : Reach) (d : DraftState) → seen es ms f reach ≡ d → length d.trail + 1 ≤ d.reach → length (so_far es ms) + 1 ≤ reach.entry
 room-inside es ms f reach d v h =
     let n = ap (λ (w : DraftState). length w.trail) v in
     let r = ap (λ (w : DraftState). w.reach) v in
     omega arith
 
-pub draft-more : (es : List Entry) (marks new : Room Mark) (facts tables : Tables) (seating seats : Seating) (made reach : ℕ) (x : Mark) → IsDraft (so_far es marks.items) marks facts seating made reach → length (so_far es marks.items) + 1 ≤ reach
+pub draft-more : (es : List Entry) (marks new : Room Mark) (facts tables : Tables) (seating seats : Seating) (made : ℕ) (reach : Reach) (x : Mark) → IsDraft (so_far es marks.items) marks facts seating made reach → length (so_far es marks.items) + 1 ≤ reach.entry
     → new.items ≡ marks.items ++ x ∷ [] → marks.spare ≤ new.spare + 1 → facts.spare ≤ tables.spare + 1 → StandFor tables (x ∷ so_far es marks.items)
     → AreSeated seats (x ∷ so_far es marks.items) → IsDraft (so_far es new.items) new tables seats (made + 1) reach
 draft-more es marks new facts tables seating seats made reach x d room e m f s p =
@@ -61,6 +62,7 @@ draft-more es marks new facts tables seating seats made reach x d room e m f s p
     let counted = d.counted in
     let marks_fit = d.marks_fit in
     let facts_fit = d.facts_fit in
+    let far = d.far_enough in
     record {
       stands = subst (StandFor tables) (sym u) s;
       seated = subst (AreSeated seats) (sym u) p;
@@ -68,6 +70,7 @@ draft-more es marks new facts tables seating seats made reach x d room e m f s p
       marks_fit = omega arith;
       facts_fit = omega arith;
       within = omega arith;
+      far_enough = d.far_enough;
       numbered = d.numbered;
     }
 
@@ -98,10 +101,44 @@ pub record ClosesBehind (before old new : List Entry) (e : Entry) (marks blank :
 pub closed-trail : (before old new : List Entry) (e : Entry) (marks blank : Room Mark) → ClosesBehind before old new e marks blank → so_far new blank.items ≡ so_far before marks.items
 closed-trail before old new e marks blank b = closed old new e marks.items blank.items b.entry b.blank_is b.marks_are ∙ sym (so_far-same before old marks.items b.behind)
 
-pub draft-closed : (before old new : List Entry) (e : Entry) (marks blank : Room Mark) (facts : Tables) (seating : Seating) (made reach : ℕ) → IsDraft (so_far before marks.items) marks facts seating made reach → ClosesBehind before old new e marks blank
-    → reach ≤ made + blank.spare → IsDraft (so_far new blank.items) blank facts seating made reach
-draft-closed before old new e marks blank facts seating made reach d b fit =
+pub draft-closed : (before old new : List Entry) (e : Entry) (marks blank : Room Mark) (facts : Tables) (seating : Seating) (made : ℕ) (reach : Reach) → IsDraft (so_far before marks.items) marks facts seating made reach
+    → ClosesBehind before old new e marks blank → IsDraft (so_far new blank.items) blank facts seating made (record reach { entry = made })
+draft-closed before old new e marks blank facts seating made reach d b =
     let t = closed-trail before old new e marks blank b in
+    let n = ap length t in
+    let counted = d.counted in
+    let within = d.within in
+    let far = d.far_enough in
+    record {
+      stands = subst (StandFor facts) (sym t) d.stands;
+      seated = subst (AreSeated seating) (sym t) d.seated;
+      counted = omega arith;
+      marks_fit = omega arith;
+      facts_fit = d.facts_fit;
+      within = omega arith;
+      far_enough = omega arith;
+      numbered = d.numbered;
+    }
+
+-- ---- an empty list of the entry under way is another
+
+-- no marks were made
+pub none-made : (es : List Entry) (ms : List Mark) (f : Tables) (reach : Reach) (d : DraftState) → seen es ms f reach ≡ d → d.trail ≡ d.before → ms ≡ []
+none-made es ms f reach d v e =
+    let t : so_far es ms ≡ trail_of es = ap (λ (w : DraftState). w.trail) v ∙ e ∙ sym (ap (λ (w : DraftState). w.before) v) in
+    let n = ap length t in
+    let l = so_far-length es ms in
+    none ms (omega arith)
+  where
+    none : (xs : List Mark) → length xs ≡ 0 → xs ≡ []
+    none [] z = refl
+    none (x ∷ xs) z = absurd (omega arith)
+
+-- a list that is no narrower than the entry's marks may want
+pub draft-changed : (es : List Entry) (marks new : Room Mark) (facts : Tables) (seating : Seating) (made : ℕ) (reach : Reach) (entry : ℕ) → IsDraft (so_far es marks.items) marks facts seating made reach → new.items ≡ marks.items
+    → made ≤ entry → entry ≤ made + new.spare → entry ≤ reach.all → IsDraft (so_far es new.items) new facts seating made (record reach { entry = entry })
+draft-changed es marks new facts seating made reach entry d e within fit far =
+    let t = ap (so_far es) e in
     let n = ap length t in
     let counted = d.counted in
     record {
@@ -110,6 +147,7 @@ draft-closed before old new e marks blank facts seating made reach d b fit =
       counted = omega arith;
       marks_fit = fit;
       facts_fit = d.facts_fit;
-      within = d.within;
+      within = within;
+      far_enough = far;
       numbered = d.numbered;
     }

@@ -21,6 +21,7 @@ use Rattle.login_core.specs.inner.Draft.{DraftState}
 use Rattle.login_core.specs.inner.Ears.{AreEnough, ListenLive, ListenOn, heard_with, is_evdev, of_evdev, settled}
 use Rattle.login_core.specs.inner.Facts.{Tables, StandFor}
 use Rattle.login_core.specs.inner.UnderWay.{so_far}
+use Rattle.login_core.specs.declared.board.Reach.{Reach}
 use Rattle.login_core.proofs.Drafting.{seen}
 use Rattle.login_table.specs.declared.home.Home.TheVariants.{Devices, Takes}
 use Rattle.login_core.proofs.HomeLaws.{stand-at}
@@ -45,7 +46,7 @@ all-live : (f : Tables) (t : Trail) → StandFor f t → (handles : List HandleN
 all-live f t s [] all = tt
 all-live f t s (h ∷ hs) all = (sym (live-there f t s h) ∙ all.0, all-live f t s hs all.1)
 
-pub enough-there : (es : List Entry) (ms : List Mark) (f : Tables) (reach n : ℕ) (d : DraftState) → seen es ms f reach ≡ d → StandFor f (so_far es ms) → AreEnough n d.trail → AreEnough n f.takes
+pub enough-there : (es : List Entry) (ms : List Mark) (f : Tables) (reach : Reach) (n : ℕ) (d : DraftState) → seen es ms f reach ≡ d → StandFor f (so_far es ms) → AreEnough n d.trail → AreEnough n f.takes
 enough-there es ms f reach n d v s enough handles distinct all =
     let P : Trail → Type 0 = AreEnough n in
     subst P (sym (ap (λ (w : DraftState). w.trail) v)) enough handles distinct (all-live f (so_far es ms) s handles all)
@@ -57,7 +58,7 @@ on-there es ms f s live h n i =
     let t = trail_of es in
     live-there f (after t ms) s h ∙ ap is_set (unturned h t ms n) ∙ live h i
 
-pub listen-there : (es : List Entry) (ms : List Mark) (f : Tables) (reach : ℕ) (d : DraftState) → seen es ms f reach ≡ d → StandFor f (so_far es ms) → ListenLive d.ears d.before → ListenOn f.ears ms f.takes
+pub listen-there : (es : List Entry) (ms : List Mark) (f : Tables) (reach : Reach) (d : DraftState) → seen es ms f reach ≡ d → StandFor f (so_far es ms) → ListenLive d.ears d.before → ListenOn f.ears ms f.takes
 listen-there es ms f reach d v s live =
     let P : DraftState → Type 0 = λ w. ListenLive w.ears w.before in
     on-there es ms f s (subst P (sym v) live)
@@ -70,7 +71,7 @@ settled-there : (f : Tables) (t : Trail) → StandFor f t → (h : HandleNo) (e 
 settled-there f t s h e v ms o =
     ap (λ (z : Option Heard). cond (is_turned h ms) z (heard_with h e v o)) (evdev-there f t s (begins f.takes h) ∙ ap (of_evdev t) (begins-there f t s h))
 
-hear-seen : (es : List Entry) (ms : List Mark) (f : Tables) (reach : ℕ) (ears : List Ear) (e : Event) (v : Verdict) → StandFor f (so_far es ms)
+hear-seen : (es : List Entry) (ms : List Mark) (f : Tables) (reach : Reach) (ears : List Ear) (e : Event) (v : Verdict) → StandFor f (so_far es ms)
     → ((h : HandleNo) → heard_of ears h ≡ settled h e v ms f.takes f.devices (heard_of f.ears h)) → HearBehind ears e v (seen es ms f reach)
 unfolding so_far
 hear-seen es ms f reach ears e v s heard ns same h =
@@ -79,7 +80,7 @@ hear-seen es ms f reach ears e v s heard ns same h =
     ∙ settled-there f t s h e v ms (heard_of f.ears h)
     ∙ ap (λ (xs : List Mark). settled h e v xs t t (heard_of f.ears h)) (sym (one-marks (trail_of es) ns ms same))
 
-pub hear-there : (es : List Entry) (ms : List Mark) (f : Tables) (reach : ℕ) (d : DraftState) (ears : List Ear) (e : Event) (v : Verdict) → seen es ms f reach ≡ d → StandFor f (so_far es ms)
+pub hear-there : (es : List Entry) (ms : List Mark) (f : Tables) (reach : Reach) (d : DraftState) (ears : List Ear) (e : Event) (v : Verdict) → seen es ms f reach ≡ d → StandFor f (so_far es ms)
     → ((h : HandleNo) → heard_of ears h ≡ settled h e v ms f.takes f.devices (heard_of f.ears h)) → HearBehind ears e v d
 hear-there es ms f reach d ears e v seen_as s heard =
     let P : DraftState → Type 0 = HearBehind ears e v in

@@ -55,12 +55,7 @@ trail-closed U journal e v a ms s = sym (so_far-none (journal ++ entry_of e v a 
 
 -- the draft goes on behind the journal after any marks, whoever listens
 pub begun-marked : (f : Trail → Trail) (m : Board) (d : DraftState) → d ≡ with_ears d.ears d.rings (marked_by f m.draft) → IsBegun m → IsBegun (record m { draft = d })
-begun-marked f m d e b =
-    let before : d.before ≡ m.draft.before = ap (λ (x : DraftState). x.before) e in
-    let reach : d.reach ≡ m.draft.reach = ap (λ (x : DraftState). x.reach) e in
-    let length_is = ap length before in
-    let fit = b.blanks_fit in
-    record { before = before ∙ b.before; blanks_fit = omega arith }
+begun-marked f m d e b = record { before = ap (λ (x : DraftState). x.before) e ∙ b.before; idle_empty = b.idle_empty }
 
 pub length-closed : (journal : List Entry) (e : Entry) → length (journal ++ e ∷ []) ≡ length journal + 1
 length-closed journal e = length-append journal (e ∷ [])

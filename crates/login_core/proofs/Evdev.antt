@@ -1,5 +1,5 @@
 -- Handles of input devices listen as long as they are live, and a read that is granted is of one of them.
-use Rattle.std.proofs.Common.{◌≡◌, ◌==◌, ◌&&◌, Bool, true, false, cond, Option, Some, None, List, [], ◌∷◌, ◌++◌, refl, ap, sym, ◌∙◌, subst}
+use Rattle.std.proofs.Common.{◌≡◌, ◌==◌, Bool, true, false, cond, Option, Some, None, List, [], ◌∷◌, ◌++◌, refl, ap, sym, ◌∙◌, subst}
 use Rattle.std.specs.Option.{option_map}
 use Rattle.login_base.specs.declared.ids.ConnId.{ConnId}
 use Rattle.login_base.specs.declared.ids.DevNo.{DevNo}
@@ -11,7 +11,7 @@ use Rattle.login_model.specs.Legal.{IsLegal, stepped, trail_of}
 use Rattle.login_model.specs.Policy.{call_rules, handle_wrong, verdict}
 use Rattle.login_model.specs.Reading.{last_few}
 use Rattle.login_model.specs.Same.{same_device}
-use Rattle.login_model.specs.Trail.{Trail, after, value}
+use Rattle.login_model.specs.Trail.{Trail, value}
 use Rattle.login_model.specs.Where.{is_device, is_device_fact}
 use Rattle.login_model.specs.declared.answer.Answer.{Answer}
 use Rattle.login_model.specs.declared.answer.Input.{Input}

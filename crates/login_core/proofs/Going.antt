@@ -1,5 +1,5 @@
 -- Going over the names of a kind in order while marks are made.
-use Rattle.std.proofs.Common.{◌≡◌, ◌+◌, ◌<◌, Bool, true, Option, Some, None, List, [], ◌∷◌, length, refl, ap, sym, ◌∙◌, arith, add-one}
+use Rattle.std.proofs.Common.{◌≡◌, ◌+◌, ◌<◌, Bool, true, Option, Some, None, List, ◌∷◌, length, ap, sym, ◌∙◌, arith, add-one}
 use Rattle.login_model.specs.Trail.{Trail}
 use Rattle.login_model.specs.Names.{IsNext}
 use Rattle.login_model.specs.Procedure.{each}

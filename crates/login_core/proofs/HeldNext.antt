@@ -11,11 +11,10 @@ use Rattle.login_model.specs.declared.fact.Fact.{Fact}
 use Rattle.login_model.specs.declared.fact.Fact.TheVariants as fact
 use Rattle.login_model.specs.declared.fact.Owner.TheVariants as owner
 use Rattle.login_model.specs.Direct.{fifo_in, is_fifo_of, is_lock_of}
-use Rattle.login_model.specs.Fresh.{is_open_fact}
 use Rattle.login_model.specs.Names.{IsNext, is_above, lock_lt, session_lt}
 use Rattle.login_model.specs.Policy.{controls, is_controller_fact}
 use Rattle.login_model.specs.Trail.{Trail, value}
-use Rattle.login_model.specs.Where.{is_lock, is_lock_fact, is_open, is_session, is_session_fact}
+use Rattle.login_model.specs.Where.{is_lock, is_lock_fact, is_open, is_session}
 use Rattle.login_model.proofs.InOrder.{Ascending, IsIn}
 use Rattle.login_model.proofs.Keys.{both, same-number, test}
 use Rattle.login_model.proofs.Values.{same-refl}
@@ -26,7 +25,7 @@ use Rattle.login_core.specs.declared.board.holding.Thing.TheVariants.{Session, L
 use Rattle.login_core.specs.declared.board.holding.Holding.{Holding}
 use Rattle.login_core.specs.inner.Chosen.{is_chosen}
 use Rattle.login_core.specs.inner.Ending.{is_kept_open_by}
-use Rattle.login_core.specs.inner.Holding.{AreSuch, IsHeld, IsNextThing, IsSuch, control_in, owned_fifo_in, fifo_rank, first_standing, held_lock_in, holding_lt, is_standing, is_such, lock_number, lock_of, lock_rank, number, number_of, rank, session_of, session_rank}
+use Rattle.login_core.specs.inner.Holding.{AreSuch, IsNextThing, IsSuch, control_in, owned_fifo_in, fifo_rank, first_standing, held_lock_in, holding_lt, is_standing, is_such, lock_number, lock_of, lock_rank, number, number_of, rank, session_of, session_rank}
 use Rattle.login_core.proofs.HeldOrder.{asym, holding-one, holding_order}
 
 none-thing : {x : Thing} → None ≡ Some x → ⊥

@@ -1,5 +1,5 @@
 -- The order of what connections have, and rows that ascend in it.
-use Rattle.std.proofs.Common.{◌≡◌, ℕ, zero, suc, ◌==◌, ◌&&◌, ◌||◌, nat_lt, nat_le, not, ◌<◌, ◌≤◌, ◌+◌, ◌-◌, Bool, true, false, cond, Option, Some, None, List, [], ◌∷◌, ◌++◌, length, get_or, take, drop, filter, refl, ap, sym, ◌∙◌, subst, arith, inl, inr}
+use Rattle.std.proofs.Common.{◌≡◌, ℕ, zero, suc, ◌==◌, ◌&&◌, ◌||◌, nat_lt, not, ◌<◌, ◌≤◌, ◌-◌, Bool, true, false, cond, Option, Some, None, List, [], ◌∷◌, ◌++◌, length, get_or, take, drop, filter, refl, ap, sym, ◌∙◌, subst, arith, inl, inr}
 use Rattle.std.specs.List.Sorted.{IsPartitionedBy, IsPartitionPoint}
 use Rattle.std.proofs.lemmas.Bool.Decides.{nat_tests}
 use Rattle.login_base.specs.declared.ids.SessId.{SessId}
@@ -7,7 +7,7 @@ use Rattle.login_base.specs.declared.ids.ConnId.{ConnId}
 use Rattle.login_base.specs.declared.ids.HandleNo.{HandleNo}
 use Rattle.login_base.specs.declared.ids.LockNo.{LockNo}
 use Rattle.login_model.specs.Kind.{IsOrder}
-use Rattle.login_model.specs.Names.{is_above, seat_lt, insert}
+use Rattle.login_model.specs.Names.{seat_lt, insert}
 use Rattle.login_model.proofs.InOrder.{Ascending, IsIn}
 use Rattle.login_model.proofs.Keys.{test}
 use Rattle.login_model.proofs.NameLaws.{seat_order}

@@ -13,8 +13,8 @@ use Rattle.login_model.specs.Where.{connections, is_connected}
 use Rattle.login_model.specs.declared.call.Call.{Call}
 use Rattle.login_model.specs.declared.call.Call.TheVariants as call
 use Rattle.login_model.specs.declared.call.Creation.{Creation}
-use Rattle.login_model.specs.declared.count.Count.{Count}
-use Rattle.login_model.specs.declared.count.Count.TheVariants.{Entries, Marks}
+use Rattle.login_model.specs.declared.fullness.Fullness.{Fullness}
+use Rattle.login_model.specs.declared.fullness.Fullness.TheVariants.{Entries, Marks}
 use Rattle.login_model.specs.declared.event.Event.{Event}
 use Rattle.login_model.specs.declared.event.Request.{Request}
 use Rattle.login_model.specs.declared.event.Event.TheVariants.{Connect, Disconnect, Call as Calls, Hardware as Happens, Tick, Stop}
@@ -47,14 +47,14 @@ small-by U before e h = record {
   marks = under 4000000 Marks (marks_needed (trail_of before) (mark_count before)) None (rest 200000 Entries (entries_needed U before e) (over 4000000 Marks (marks_needed (trail_of before) (mark_count before)) None) h);
 }
   where
-    under : (limit : ℕ) (what : ℕ → Count) (n : ℕ) (o : Option Count) → over limit what n o ≡ None → n ≤ limit
+    under : (limit : ℕ) (what : ℕ → Fullness) (n : ℕ) (o : Option Fullness) → over limit what n o ≡ None → n ≤ limit
     under limit what n o h = by (nat_lt limit n) refl h
       where
         by : (b : Bool) → nat_lt limit n ≡ b → cond b (Some (what n)) o ≡ None → n ≤ limit
         by true e k = absurd (some-none (what n) k)
         by false e k = grind arith
 
-    rest : (limit : ℕ) (what : ℕ → Count) (n : ℕ) (o : Option Count) → over limit what n o ≡ None → o ≡ None
+    rest : (limit : ℕ) (what : ℕ → Fullness) (n : ℕ) (o : Option Fullness) → over limit what n o ≡ None → o ≡ None
     rest limit what n o h = by (nat_lt limit n) h
       where
         by : (b : Bool) → cond b (Some (what n)) o ≡ None → o ≡ None
@@ -107,7 +107,7 @@ pub record Creates (x : Call) : Type 0 where
   pub creation : Creation
   pub is : x ≡ call.Create creation
 
-which : (x : Call) → Creates x ⊎ (IsNew x → ⊥)
+pub which : (x : Call) → Creates x ⊎ (IsNew x → ⊥)
 which (call.Create y) = inl (record { creation = y; is = refl })
 which _ = inr (λ z. z)
 

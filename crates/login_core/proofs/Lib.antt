@@ -1,7 +1,16 @@
 pub mod Counting
+pub mod SumLaws
+pub mod DuesLaws
+pub mod DuesMoved
 pub mod CountLaws
 pub mod PairLaws
 pub mod CountedLaws
+pub mod OwedSums
+pub mod TakenLaws
+pub mod OwedTold
+pub mod OwedLaws
+pub mod OwedShares
+pub mod ConcernLaws
 pub mod TallyLaws
 pub mod HeldOrder
 pub mod HeldRows
@@ -26,7 +35,7 @@ pub mod Controlled
 pub mod LockRows
 pub mod Locks
 pub mod Released
-pub mod Blanks
+pub mod EndLists
 pub mod TextsKept
 pub mod Among
 pub mod Departing
@@ -41,6 +50,7 @@ pub mod Turned
 pub mod Filling
 pub mod TextsClose
 pub mod GrantedLaws
+pub mod EndRooms
 pub mod Entries
 pub mod Evdev
 pub mod Judged

@@ -1,5 +1,5 @@
--- The locks of a connection, and what is left of them.
-use Rattle.std.proofs.Common.{◌≡◌, filter, Bool, true, None, ap}
+-- The locks of a connection, as they are dropped.
+use Rattle.std.proofs.Common.{◌≡◌, filter, Bool, true, ap}
 use Rattle.login_base.specs.declared.ids.LockNo.{LockNo}
 use Rattle.login_base.specs.declared.ids.ConnId.{ConnId}
 use Rattle.login_model.specs.declared.fact.Key.TheVariants.{Lock}
@@ -10,9 +10,9 @@ use Rattle.login_model.specs.Where.{is_lock, is_lock_fact, locks}
 use Rattle.login_model.specs.Direct.{is_lock_of, locks_of}
 use Rattle.login_model.proofs.InOrder.{locks-enumerated}
 use Rattle.switch_core.proofs.Frames.{put-other}
-use Rattle.login_core.proofs.Going.{Tour, left, KeepsAbove}
+use Rattle.login_core.proofs.Going.{Tour, KeepsAbove}
 use Rattle.login_core.specs.inner.Chosen.{is_chosen}
-use Rattle.login_core.proofs.Chosen.{chosen, chosen-all, chosen-above, filter-chosen}
+use Rattle.login_core.proofs.Chosen.{chosen, chosen-above, filter-chosen}
 use Rattle.login_core.proofs.Sessions.{apart}
 
 -- the locks that stand
@@ -30,10 +30,6 @@ holds_lock c t l = is_lock_of c (value t (Lock l))
 -- those of a connection
 abbrev pub locks_held : ConnId → Tour LockNo
 locks_held c = chosen all_locks (holds_lock c)
-
-pub locks-all : (c : ConnId) (t : Trail) → left (locks_held c) t None ≡ locks_of t c
-unfolding locks locks_of
-locks-all c t = chosen-all all_locks (holds_lock c) t
 
 -- a lock that is gone leaves those above alone
 abbrev pub drop_lock : LockNo → Trail → Trail

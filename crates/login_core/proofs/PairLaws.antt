@@ -1,5 +1,5 @@
 -- Pairs of a session and a device that it has taken.
-use Rattle.std.proofs.Common.{◌≡◌, ◌+◌, ◌==◌, ◌&&◌, ◌||◌, Bool, true, false, Some, None, List, [], ◌∷◌, length, refl, ap, sym, ◌∙◌, subst, arith, ◌⊎◌, inl, inr}
+use Rattle.std.proofs.Common.{◌≡◌, ◌≤◌, ◌+◌, ◌==◌, ◌&&◌, ◌||◌, Bool, true, false, Some, None, List, [], ◌∷◌, length, refl, ap, sym, ◌∙◌, subst, arith, ◌⊎◌, inl, inr}
 use Rattle.std.proofs.lemmas.Bool.Decides.{nat_tests}
 use Rattle.login_base.specs.declared.ids.SessId.{SessId}
 use Rattle.login_base.specs.declared.ids.DevNo.{DevNo}
@@ -8,15 +8,16 @@ use Rattle.login_model.specs.declared.fact.Key.TheVariants.{Taken}
 use Rattle.login_model.specs.Devices.{is_handle_fact, is_taken, taken_devices}
 use Rattle.login_model.specs.Full.{taken_by, taken_count}
 use Rattle.login_model.specs.Kind.{AreKeys, IsOrder}
-use Rattle.login_model.specs.Names.{device_lt, session_lt}
+use Rattle.login_model.specs.Names.{device_lt, names, session_lt}
 use Rattle.login_model.specs.Trail.{Trail}
 use Rattle.login_model.specs.Where.{sessions}
 use Rattle.login_model.proofs.InOrder.{Ascending, IsIn}
 use Rattle.login_model.proofs.NameLaws.{device_order, session_order}
 use Rattle.login_laws.proofs.Counts.{Lists, count-same, sessions-ascending, taken-list}
+use Rattle.login_laws.proofs.Counting.{length-less}
 use Rattle.login_laws.proofs.Loops.{in-sessions}
 use Rattle.login_table.specs.KeyOrder.{pair_lt}
-use Rattle.login_table.proofs.Listing.{Kind, all, kind}
+use Rattle.login_table.proofs.Listing.{Kind, all, filter-length, kind, names-length}
 use Rattle.login_core.specs.inner.Counts.{HoldersAreThere, Pair, is_pair_below, is_pair_taken, pair_in, taken_pairs}
 use Rattle.login_core.proofs.CountLaws.{kind-list}
 
@@ -172,3 +173,14 @@ pub pairs-taken : (t : Trail) → HoldersAreThere t → length (taken_pairs t) �
 pairs-taken t h =
     let e = ap length (count-same is_pair_below (is_pair_taken t) (is_pair_taken t) (all pair_kind t) (pairs t (sessions t)) (kind-list pair_kind t) (pairs-list t h) (λ p. refl)) in
     pairs-all t ∙ e ∙ pairs-length t (sessions t)
+
+-- sessions of an ascending list have taken no more devices than there are marks
+pub taken-few : (t : Trail) (ss : List SessId) → Ascending session_lt ss → taken_by t ss ≤ length t
+unfolding taken_pairs
+taken-few t ss a =
+    let all_of = kind-list pair_kind t in
+    let less = length-less is_pair_below pair_order (pairs t ss) (taken_pairs t) (pairs-ascending t ss a) all_of.ascending (λ p i. all_of.has p (pairs-give t ss p i).1) in
+    let same = pairs-length t ss in
+    let few = filter-length (is_pair_taken t) (names is_pair_below pair_in t) in
+    let most = names-length is_pair_below pair_in t in
+    omega arith

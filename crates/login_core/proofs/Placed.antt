@@ -14,13 +14,12 @@ use Rattle.login_core.specs.declared.room.counts.Counts.{Counts}
 use Rattle.login_core.specs.declared.board.holding.Holding.{Holding}
 use Rattle.login_core.specs.inner.Counts.{Follow, counts_of}
 use Rattle.login_core.specs.inner.Holding.{AreHeld, noted}
-use Rattle.login_core.specs.inner.Facts.{Tables, StandFor, table, opens, gives, inhibits}
+use Rattle.login_core.specs.inner.Facts.{Tables, TablesStand, table, opens, gives, inhibits}
 use Rattle.login_table.specs.Home.{home}
 use Rattle.login_core.proofs.CountedLaws.{counted-set}
 use Rattle.login_core.proofs.Counting.{sessions-set, handles-set, locks-set}
 use Rattle.login_core.proofs.HeldRows.{held-set}
 use Rattle.login_core.proofs.HomeLaws.{at-home}
-use Rattle.login_core.proofs.Standing.{opened, closed}
 
 -- what a setting makes of the counts, of the numbers and of what connections have
 pub record Moves (f g : Tables) (k : Key) (x : Fact) (t : Trail) : Type 0 where
@@ -37,21 +36,21 @@ pub record Places (f g : Tables) (k : Key) (x : Fact) (h : Home) : Type 0 where
   pub stays : (i : Home) → (i ≡ h) ⊎ (table g i ≡ table f i)
 
 -- of the table that it is put into
-in-home : (f g : Tables) (k : Key) (x : Fact) (h : Home) (t : Trail) (j : Key) → Places f g k x h → home j ≡ h → StandFor f t → value (table g (home j)) j ≡ value (Set k x ∷ t) j
+in-home : (f g : Tables) (k : Key) (x : Fact) (h : Home) (t : Trail) (j : Key) → Places f g k x h → home j ≡ h → TablesStand f t → value (table g (home j)) j ≡ value (Set k x ∷ t) j
 in-home f g k x h t j p e s =
     ap (λ (i : Home). value (table g i) j) e
     ∙ p.set j
     ∙ value-set j k x (table f h)
-    ∙ ap (λ (y : Fact). cond (same_key k j) x y) (at-home f t j h (opened f t s) e)
+    ∙ ap (λ (y : Fact). cond (same_key k j) x y) (at-home f t j h s e)
     ∙ sym (value-set j k x t)
 
 -- of another
-elsewhere : (f g : Tables) (k : Key) (x : Fact) (h : Home) (t : Trail) (j : Key) → Places f g k x h → table g (home j) ≡ table f (home j) → same_key k j ≡ false → StandFor f t
+elsewhere : (f g : Tables) (k : Key) (x : Fact) (h : Home) (t : Trail) (j : Key) → Places f g k x h → table g (home j) ≡ table f (home j) → same_key k j ≡ false → TablesStand f t
     → value (table g (home j)) j ≡ value (Set k x ∷ t) j
 elsewhere f g k x h t j p e n s =
-    ap (λ (u : Trail). value u j) e ∙ (opened f t s).facts j ∙ sym (value-set j k x t ∙ ap (λ (b : Bool). cond b x (value t j)) n)
+    ap (λ (u : Trail). value u j) e ∙ s.facts j ∙ sym (value-set j k x t ∙ ap (λ (b : Bool). cond b x (value t j)) n)
 
-placed : (f g : Tables) (k : Key) (x : Fact) (h : Home) (t : Trail) (j : Key) → Places f g k x h → StandFor f t → value (table g (home j)) j ≡ value (Set k x ∷ t) j
+placed : (f g : Tables) (k : Key) (x : Fact) (h : Home) (t : Trail) (j : Key) → Places f g k x h → TablesStand f t → value (table g (home j)) j ≡ value (Set k x ∷ t) j
 placed f g k x h t j p s =
     elim (p.stays (home j)) [
       | inl e ↦ in-home f g k x h t j p e s
@@ -61,17 +60,16 @@ placed f g k x h t j p s =
       ]
     ]
 
-pub stands-placed : (f g : Tables) (k : Key) (x : Fact) (h : Home) (t : Trail) → Places f g k x h → Moves f g k x t → StandFor f t → StandFor g (Set k x ∷ t)
-stands-placed f g k x h t p m stands =
-    let s = opened f t stands in
-    closed g (Set k x ∷ t) (record {
-      facts = λ j. placed f g k x h t j p stands;
+pub stands-placed : (f g : Tables) (k : Key) (x : Fact) (h : Home) (t : Trail) → Places f g k x h → Moves f g k x t → TablesStand f t → TablesStand g (Set k x ∷ t)
+stands-placed f g k x h t p m s =
+    record {
+      facts = λ j. placed f g k x h t j p s;
       counts = counted-set f.counts g.counts k x t s.counts m.counts;
       session = m.session ∙ ap (λ (n : ℕ). n + opens k x) s.session ∙ sym (sessions-set k x t);
       handle = m.handle ∙ ap (λ (n : ℕ). n + gives k x) s.handle ∙ sym (handles-set k x t);
       lock = m.lock ∙ ap (λ (n : ℕ). n + inhibits k x) s.lock ∙ sym (locks-set k x t);
       held = subst (λ (xs : List Holding). AreHeld xs (Set k x ∷ t)) (sym m.held) (held-set k x t f.held s.held);
-    })
+    }
 
 -- ---- one table after the other
 

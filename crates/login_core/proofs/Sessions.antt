@@ -1,5 +1,5 @@
--- The sessions that meet a test, and what is left of them.
-use Rattle.std.proofs.Common.{◌≡◌, ◌==◌, nat_lt, ℕ, ℤ, Bool, true, false, None, filter, refl, ap, arith}
+-- The sessions that meet a test, where something is done with each.
+use Rattle.std.proofs.Common.{◌≡◌, ◌==◌, nat_lt, ℕ, ℤ, Bool, true, false, refl, ap, arith}
 use Rattle.std.proofs.lemmas.Bool.Decides.{nat_tests}
 use Rattle.login_base.specs.declared.ids.SessId.{SessId}
 use Rattle.login_base.specs.declared.ids.ConnId.{ConnId}
@@ -14,13 +14,13 @@ use Rattle.login_model.specs.declared.mark.Notice.TheVariants.{Lock, Unlock}
 use Rattle.login_model.specs.Fresh.{is_open_fact}
 use Rattle.login_model.specs.Trail.{Trail, value, put, tell_all}
 use Rattle.login_model.specs.Names.{names, session_lt, session_in}
-use Rattle.login_model.specs.Where.{is_session, is_session_fact, is_open, is_session_of, sessions, open_sessions}
+use Rattle.login_model.specs.Where.{is_session, is_session_fact, is_open, is_session_of}
 use Rattle.login_model.specs.Policy.{controls}
-use Rattle.login_model.specs.Direct.{controlled_by, lock_session, unlock_session}
+use Rattle.login_model.specs.Direct.{lock_session, unlock_session}
 use Rattle.login_model.proofs.InOrder.{sessions-enumerated}
 use Rattle.switch_core.proofs.Frames.{Keeps, keeps-say, put-other}
-use Rattle.login_core.proofs.Going.{Tour, left, KeepsAbove}
-use Rattle.login_core.proofs.Chosen.{chosen, chosen-all, chosen-above}
+use Rattle.login_core.proofs.Going.{Tour, KeepsAbove}
+use Rattle.login_core.proofs.Chosen.{chosen, chosen-above}
 
 -- the sessions that are not gone
 abbrev pub all_sessions : Tour SessId
@@ -34,10 +34,6 @@ all_sessions = record {
 -- those of them that meet a test
 abbrev pub sessions_that : (Trail → SessId → Bool) → Tour SessId
 sessions_that meets = chosen all_sessions meets
-
-pub sessions-all : (meets : Trail → SessId → Bool) (t : Trail) → left (sessions_that meets) t None ≡ filter (meets t) (sessions t)
-unfolding sessions
-sessions-all meets t = chosen-all all_sessions meets t
 
 -- f of a session leaves the facts of the sessions above alone
 abbrev pub LeavesAbove : (SessId → Trail → Trail) → Type 0
@@ -63,11 +59,6 @@ leaves-sessions touched f n k s r t l = (k s t).facts (Sess r) (n r)
 pub apart : (a b : ℕ) → nat_lt a b ≡ true → (a == b) ≡ false
 apart a b h = grind (arith, nat_tests)
 
--- the open sessions
-pub open-all : (t : Trail) → left (sessions_that is_open) t None ≡ open_sessions t
-unfolding open_sessions
-open-all t = sessions-all is_open t
-
 -- the sessions of a user
 abbrev pub is_of : ℕ → Trail → SessId → Bool
 is_of uid t s = is_session_of uid (value t (Sess s))
@@ -75,10 +66,6 @@ is_of uid t s = is_session_of uid (value t (Sess s))
 -- the sessions that a connection controls
 abbrev pub is_controlled_by : ConnId → Trail → SessId → Bool
 is_controlled_by c t s = controls t c s
-
-pub controlled-all : (c : ConnId) (t : Trail) → left (sessions_that (is_controlled_by c)) t None ≡ controlled_by t c
-unfolding controlled_by
-controlled-all c t = sessions-all (is_controlled_by c) t
 
 -- a notice leaves all facts alone
 nothing : Key → Bool

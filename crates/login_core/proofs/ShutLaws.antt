@@ -1,5 +1,5 @@
 -- What a session that is shut leaves alone.
-use Rattle.std.proofs.Common.{◌≡◌, ℕ, ◌==◌, ◌&&◌, Bool, true, false, cond, Option, Some, None, List, [], ◌∷◌, refl, ap, sym, ◌∙◌, subst, inl, inr, arith}
+use Rattle.std.proofs.Common.{◌≡◌, ℕ, ◌==◌, ◌&&◌, Bool, true, false, cond, filter, Option, Some, None, List, [], ◌∷◌, refl, ap, sym, ◌∙◌, subst, inl, inr, arith}
 use Rattle.std.specs.Str.{bytes_eq}
 use Rattle.login_base.specs.declared.ids.SessId.{SessId}
 use Rattle.login_base.specs.declared.ids.ConnId.{ConnId}
@@ -16,8 +16,8 @@ use Rattle.login_model.specs.Same.{same_key}
 use Rattle.login_model.specs.Start.{seat0}
 use Rattle.login_model.specs.Trail.{Trail, value, put}
 use Rattle.login_model.specs.Fresh.{is_open_fact}
-use Rattle.login_model.specs.Names.{session_lt}
-use Rattle.login_model.specs.Where.{is_connected_fact, is_session_fact, is_active, is_open, sessions, open_sessions, is_session_of, seat_in_fact, is_this_seat, is_on_seat, seat_of_session}
+use Rattle.login_model.specs.Names.{names, session_in, session_lt}
+use Rattle.login_model.specs.Where.{is_connected_fact, is_active, is_open, is_session, sessions, open_sessions, is_session_of, seat_in_fact, is_this_seat, is_on_seat, seat_of_session}
 use Rattle.login_model.specs.Devices.{taken_devices}
 use Rattle.login_model.specs.Procedure.{each, if_some, no, kill, untake, release, in_phase, set_phase, vacate, leave_seat, shut}
 use Rattle.login_model.specs.Direct.{is_fifo_of, fifo_in, kept_open_by}
@@ -29,12 +29,13 @@ use Rattle.login_laws.proofs.Tame.{tame}
 use Rattle.login_laws.specs.Sound.{Fifos}
 use Rattle.login_core.specs.declared.room.copies.Copies.{Copies}
 use Rattle.login_core.specs.Spares.{AreClosing}
-use Rattle.login_core.specs.inner.Ending.{StaysAbove, sessions_such, is_kept_open_by}
+use Rattle.login_core.specs.inner.Chosen.{is_chosen}
+use Rattle.login_core.specs.inner.Ending.{is_kept_open_by}
 use Rattle.switch_core.proofs.Frames.{Keeps, Covers, keeps-all, keeps-then, keeps-say, keeps-put, keeps-if, keeps-each}
 use Rattle.login_core.proofs.Going.{KeepsAbove}
 use Rattle.login_core.proofs.Chosen.{filter-chosen}
 use Rattle.login_core.proofs.Released as released
-use Rattle.login_core.proofs.Sessions.{sessions_that}
+use Rattle.login_core.proofs.Sessions.{by_fact-above, is_of, sessions-above, sessions_that}
 use Rattle.login_core.proofs.TextsEnd.{OthersStay, copies-taken}
 use Rattle.login_core.proofs.TextsKept.{closing-later}
 
@@ -111,7 +112,7 @@ keeps-closed s o t =
     keeps-then T t v (if_some (leave_seat s) o w) (keeps-release s t)
     (keeps-then T v w (if_some (leave_seat s) o w) (keeps-put T (key.Sess s) (in_phase Closing (value v (key.Sess s))) v (covers-session s)) (keeps-leave T (covers-active s) s o w))
 
-pub keeps-shut : (s : SessId) (t : Trail) → Keeps (of_shut s) t (shut s t)
+keeps-shut : (s : SessId) (t : Trail) → Keeps (of_shut s) t (shut s t)
 unfolding shut
 keeps-shut s t =
     let o = cond (is_active t s) (seat_of_session t s) None in
@@ -127,26 +128,26 @@ above-other s r l = grind arith
 shut-above : (s r : SessId) (t : Trail) → session_lt s r ≡ true → value (shut s t) (key.Sess r) ≡ value t (key.Sess r)
 shut-above s r t l = shut-other s r t (above-other s r l)
 
--- a session that is shut leaves those above it alone
-pub shut-keeps-above : (meets : Trail → SessId → Bool) → StaysAbove meets → KeepsAbove (sessions_that meets) shut
-shut-keeps-above meets stays s r t l = ap (λ (b : Bool). b && meets (shut s t) r) (ap is_session_fact (shut-above s r t l)) ∙ ap (λ (b : Bool). is_session_fact (value t (key.Sess r)) && b) (stays s r t l)
+-- a session that is shut leaves those above it among the sessions of a user, of a seat and of a connection
+pub user-above : (uid : ℕ) → KeepsAbove (sessions_that (is_of uid)) shut
+user-above uid = by_fact-above (is_session_of uid) shut shut-above
 
-pub user-stays : (n : ℕ) → StaysAbove (λ t s. is_session_of n (value t (key.Sess s)))
-user-stays n s r t l = ap (is_session_of n) (shut-above s r t l)
+pub seat-above : (seat : List ℕ) → KeepsAbove (sessions_that (λ t. is_on_seat t seat)) shut
+seat-above seat = by_fact-above (λ f. is_this_seat seat (seat_in_fact f)) shut shut-above
 
-pub seat-stays : (seat : List ℕ) → StaysAbove (λ t s. is_on_seat t seat s)
-seat-stays seat s r t l = ap (λ (f : Fact). is_this_seat seat (seat_in_fact f)) (shut-above s r t l)
-
-pub fifo-stays : (c : ConnId) → StaysAbove (is_kept_open_by c)
-fifo-stays c s r t l =
-    let u = shut s t in
+pub fifo-above : (c : ConnId) → KeepsAbove (sessions_that (is_kept_open_by c)) shut
+fifo-above c =
+    sessions-above (is_kept_open_by c) shut shut-above
+    (λ s r t l. let u = shut s t in
     ap (λ (f : Fact). is_open_fact f && is_fifo_of c (value u (key.Owner (fifo_in f)))) (shut-above s r t l)
-    ∙ ap (λ (g : Fact). is_open t r && is_fifo_of c g) ((keeps-shut s t).facts (key.Owner (fifo_in (value t (key.Sess r)))) refl)
+    ∙ ap (λ (g : Fact). is_open t r && is_fifo_of c g) ((keeps-shut s t).facts (key.Owner (fifo_in (value t (key.Sess r)))) refl))
 
--- the sessions that a connection keeps open
-pub kept-list : (c : ConnId) (t : Trail) → sessions_such (is_kept_open_by c) t ≡ kept_open_by t c
-unfolding kept_open_by open_sessions
-kept-list c t = filter-chosen (is_open t) (λ s. is_fifo_of c (value t (key.Owner (fifo_in (value t (key.Sess s)))))) (sessions t)
+-- the sessions that are there and that a connection keeps open
+pub kept-chosen : (t : Trail) (c : ConnId) → filter (is_chosen (is_session t) (is_kept_open_by c t)) (names session_lt session_in t) ≡ kept_open_by t c
+unfolding kept_open_by open_sessions sessions
+kept-chosen t c =
+    filter-chosen (is_session t) (is_kept_open_by c t) (names session_lt session_in t)
+    ∙ filter-chosen (is_open t) (λ s. is_fifo_of c (value t (key.Owner (fifo_in (value t (key.Sess s)))))) (sessions t)
 
 -- nothing but active sessions
 abbrev pub of_active : Key → Bool

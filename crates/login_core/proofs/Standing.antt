@@ -1,5 +1,5 @@
 -- The tables stand for one more mark.
-use Rattle.std.proofs.Common.{◌≡◌, List, [], ◌∷◌, ◌++◌, length, refl, ap, sym, subst, ◌∙◌}
+use Rattle.std.proofs.Common.{◌≡◌, ℕ, List, [], ◌∷◌, ◌++◌, length, refl, ap, sym, subst, ◌∙◌}
 use Rattle.login_model.specs.declared.fact.Key.{Key}
 use Rattle.login_model.specs.declared.mark.Mark.{Mark}
 use Rattle.login_model.specs.declared.mark.Mark.TheVariants.{Say}
@@ -8,11 +8,21 @@ use Rattle.login_model.specs.declared.mark.Notice.{Notice}
 use Rattle.login_model.specs.declared.mark.Entry.{Entry}
 use Rattle.login_model.specs.Trail.{Trail, value, after}
 use Rattle.login_model.specs.Legal.{after_all, trail_of}
+use Rattle.login_table.specs.Home.{home}
+use Rattle.login_table.specs.declared.home.Home.{Home}
+use Rattle.login_table.specs.declared.home.Home.TheVariants.{Users, Sessions, Seats, Devices, Controls, Takes, Locks, Power}
 use Rattle.login_table.proofs.Appending.{after-more}
-use Rattle.login_core.specs.inner.Facts.{Tables, TablesStand, StandFor}
+use Rattle.login_core.specs.declared.board.holding.Holding.{Holding}
+use Rattle.login_core.specs.declared.room.counts.Counts.{Counts}
+use Rattle.login_core.specs.inner.Counts.{AreCounted}
+use Rattle.login_core.specs.inner.Holding.{AreHeld}
+use Rattle.login_core.specs.declared.board.owing.Owing.{Owing}
+use Rattle.login_core.specs.inner.Dues.{AreOwed}
+use Rattle.login_core.specs.inner.Facts.{Tables, TablesStand, StandFor, table}
 use Rattle.login_core.specs.inner.UnderWay.{so_far}
 use Rattle.login_core.proofs.CountedLaws.{counted-say}
 use Rattle.login_core.proofs.Counting.{sessions-say, handles-say, locks-say}
+use Rattle.login_core.proofs.DuesLaws.{owing-say}
 use Rattle.login_core.proofs.HeldRows.{held-say}
 
 value-say : (k : Key) (w : Whom) (n : Notice) (t : Trail) → value (Say w n ∷ t) k ≡ value t k
@@ -21,11 +31,42 @@ value-say k w n t = refl
 
 pub opened : (f : Tables) (t : Trail) → StandFor f t → TablesStand f t
 unfolding StandFor
-opened f t s = s
+opened f t s = s.0
 
-pub closed : (f : Tables) (t : Trail) → TablesStand f t → StandFor f t
+pub owing-of : (f : Tables) (t : Trail) → StandFor f t → AreOwed f.owing t
 unfolding StandFor
-closed f t s = s
+owing-of f t s = s.1
+
+pub closed : (f : Tables) (t : Trail) → TablesStand f t → AreOwed f.owing t → StandFor f t
+unfolding StandFor
+closed f t s o = (s, o)
+
+-- beside what connections owe, and how many more settings go in
+pub tables-same : (f : Tables) (owing : Owing) (spare : ℕ) (t : Trail) → TablesStand f t → TablesStand (record f { owing = owing; spare = spare }) t
+tables-same f owing spare t s = record { facts = s.facts; counts = s.counts; session = s.session; handle = s.handle; lock = s.lock; held = s.held }
+
+table-same : (f g : Tables) → g.users ≡ f.users → g.sessions ≡ f.sessions → g.seats ≡ f.seats → g.devices ≡ f.devices → g.controls ≡ f.controls → g.takes ≡ f.takes → g.locks ≡ f.locks → g.power ≡ f.power
+    → (h : Home) → table g h ≡ table f h
+table-same f g a b c d e i j k Users = a
+table-same f g a b c d e i j k Sessions = b
+table-same f g a b c d e i j k Seats = c
+table-same f g a b c d e i j k Devices = d
+table-same f g a b c d e i j k Controls = e
+table-same f g a b c d e i j k Takes = i
+table-same f g a b c d e i j k Locks = j
+table-same f g a b c d e i j k Power = k
+
+-- with more room
+pub tables-roomy : (f g : Tables) (t : Trail) → TablesStand f t → g.users ≡ f.users → g.sessions ≡ f.sessions → g.seats ≡ f.seats → g.devices ≡ f.devices → g.controls ≡ f.controls → g.takes ≡ f.takes → g.locks ≡ f.locks → g.power ≡ f.power
+    → g.counts ≡ f.counts → g.session ≡ f.session → g.handle ≡ f.handle → g.lock ≡ f.lock → g.held ≡ f.held → TablesStand g t
+tables-roomy f g t s a b c d e i j k counts session handle lock held = record {
+  facts = λ q. ap (λ (x : Trail). value x q) (table-same f g a b c d e i j k (home q)) ∙ s.facts q;
+  counts = (let P : Counts → Type 0 = λ n. AreCounted n t in subst P (sym counts) s.counts);
+  session = session ∙ s.session;
+  handle = handle ∙ s.handle;
+  lock = lock ∙ s.lock;
+  held = (let P : List Holding → Type 0 = λ xs. AreHeld xs t in subst P (sym held) s.held);
+}
 
 -- a notice changes no fact
 pub stand-say : (f : Tables) (t : Trail) (w : Whom) (n : Notice) → StandFor f t → StandFor f (Say w n ∷ t)
@@ -36,7 +77,7 @@ stand-say f t w n stands = let s = opened f t stands in closed f (Say w n ∷ t)
   handle = s.handle ∙ sym (handles-say w n t);
   lock = s.lock ∙ sym (locks-say w n t);
   held = held-say f.held w n t s.held;
-})
+}) (owing-say f.owing w n t (owing-of f t stands))
 
 -- the marks so far
 pub after_all-more : (t : Trail) (es : List Entry) (e : Entry) → after_all t (es ++ e ∷ []) ≡ after (after_all t es) e.marks

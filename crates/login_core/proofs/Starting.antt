@@ -1,5 +1,6 @@
 -- A core before the first event.
 use Rattle.std.proofs.Common.{◌≡◌, ◌≤◌, ◌+◌, ℕ, true, false, None, List, [], length, refl, ap, sym, subst, ◌∙◌, arith}
+use Rattle.login_base.specs.declared.ids.ConnId.{ConnId}
 use Rattle.login_model.specs.Full.{taken_by, taken_count}
 use Rattle.device_model.specs.Ears.{heard_of}
 use Rattle.device_model.specs.declared.ears.Ear.{Ear}
@@ -14,7 +15,8 @@ use Rattle.login_model.specs.declared.mark.Entry.{Entry}
 use Rattle.login_model.specs.declared.setup.Setup.{Setup}
 use Rattle.login_core.specs.inner.Board.{IsBegun}
 use Rattle.login_core.specs.inner.Ears.{AreEars, heard_evdev}
-use Rattle.login_core.specs.inner.Inside.{IsCore}
+use Rattle.login_core.specs.inner.Inside.{HaveEnds, IsCore}
+use Rattle.login_core.specs.inner.Ledger.{end_room}
 use Rattle.login_core.specs.Spares.{HaveTexts}
 use Rattle.login_core.specs.declared.board.Board.{Board}
 use Rattle.login_core.specs.declared.room.texts.Texts.{Texts}
@@ -33,6 +35,11 @@ false-true e = cc
 no-texts : (x : Texts) → HaveTexts x []
 unfolding value
 no-texts x = record { closing = record { each = λ s e. absurd (false-true e) }; gone = record { each = λ s e. absurd (false-true e) } }
+
+-- nobody is connected
+no-ends : (ends : ConnId → ℕ) → HaveEnds ends []
+unfolding value
+no-ends ends = λ c i. absurd (false-true i)
 
 no-taken : taken_count [] ≡ 0
 unfolding sessions taken_by names
@@ -55,6 +62,7 @@ core-new U m x u j k q g n =
     let e = no-need in
     let l = ap length j in
     let Q : Trail → Type 0 = HaveTexts x in
+    let E : Trail → Type 0 = HaveEnds (end_room m.journal) in
     record {
       set_up = u;
       legal = subst P (sym j) tt;
@@ -63,6 +71,8 @@ core-new U m x u j k q g n =
       stop_is = ap (stop_from 1) (sym j);
       entries = omega arith;
       reach = omega arith;
+      within = omega arith;
+      ends = subst E (sym t) (no-ends (end_room m.journal));
       ears = no-ears m.journal.items m.draft.ears m.draft.rings j q;
       kept_texts = subst Q (sym t) (no-texts x);
       few_entries = omega arith;

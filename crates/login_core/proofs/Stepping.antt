@@ -1,5 +1,5 @@
 -- What a step keeps.
-use Rattle.std.proofs.Common.{◌≡◌, ◌≤◌, ◌<◌, ◌+◌, ◌-◌, ℕ, Bool, true, false, cond, Option, Some, None, List, [], ◌∷◌, ◌++◌, length, refl, ap, sym, subst, ◌∙◌, arith}
+use Rattle.std.proofs.Common.{◌≡◌, ◌≤◌, ◌<◌, ◌+◌, ◌-◌, ℕ, Bool, false, cond, Option, Some, None, List, [], ◌∷◌, ◌++◌, length, refl, ap, sym, subst, ◌∙◌, arith}
 use Rattle.login_base.specs.declared.ids.ConnId.{ConnId}
 use Rattle.login_base.specs.declared.ids.HandleNo.{HandleNo}
 use Rattle.device_model.specs.Ears.{heard_of}
@@ -22,27 +22,32 @@ use Rattle.login_model.specs.declared.mark.Mark.{Mark}
 use Rattle.login_model.specs.declared.rule.Verdict.{Verdict}
 use Rattle.login_model.specs.declared.setup.Setup.{Setup}
 use Rattle.login_laws.proofs.Comings.{disconnect-connections}
-use Rattle.login_laws.proofs.RoomLaws.{room}
+use Rattle.login_laws.proofs.EventMarks.{other}
+use Rattle.login_laws.proofs.RoomLaws.{room, stop-stays}
+use Rattle.login_laws.proofs.SharesLaws.{ends-have-shares}
 use Rattle.login_core.specs.Fullness.{always_fits}
 use Rattle.login_core.specs.inner.Board.{IsBegun}
 use Rattle.login_core.specs.inner.Ears.{AreEars, heard_evdev, settled}
 use Rattle.login_core.specs.Rings.{ring_count}
-use Rattle.login_core.specs.inner.Inside.{IsCore, stop_need}
+use Rattle.login_core.specs.inner.Ends.{BeginsReach, CanWelcome, EndsFollow}
+use Rattle.login_core.specs.inner.Inside.{HaveEnds, IsCore, stop_need}
+use Rattle.login_core.specs.inner.Ledger.{end_room, next_room}
 use Rattle.login_core.specs.Spares.{AreReady, HaveTexts}
 use Rattle.login_core.specs.inner.UnderWay.{entry_of}
-use Rattle.login_core.specs.State.{CoreState, IsReady, IsRoomFor}
+use Rattle.login_core.specs.State.{CoreState, IsReady, IsRoomFor, NextIsWide}
 use Rattle.login_core.specs.inner.State.{answer_next, stop_next}
 use Rattle.login_core.specs.declared.board.Board.{Board}
 use Rattle.login_core.specs.declared.room.ready.Ready.{Ready}
 use Rattle.login_core.specs.declared.room.texts.Texts.{Texts}
-use Rattle.login_core.proofs.Entries.{Steps, legal-closed, legal-entry, length-closed, marks-counted, so_far-is, stop-closed, trail-closed}
+use Rattle.login_core.proofs.Entries.{Steps, legal-closed, length-closed, marks-counted, stop-closed, trail-closed}
 use Rattle.login_core.proofs.Evdev.{evdev-goes-on}
-use Rattle.login_core.proofs.Keeping.{StaysWithin, Made, kept-disconnect, kept-other, kept-stop, small}
+use Rattle.login_core.proofs.Keeping.{StaysWithin, Made, disconnect-granted, kept-disconnect, kept-other, kept-stop, small, stop-granted}
+use Rattle.login_core.proofs.EndRooms.{AreWide, call-ends, connect-ends, disconnect-ends, end-least, hardware-ends, stop-ends, tick-ends}
 use Rattle.login_core.proofs.Listeners.{disconnect-takes, other-takes, stop-takes}
 
 -- what a core of these parts is seen as
 abbrev pub seen : Setup → Board → Texts → Ready → CoreState
-seen U m x a = record { setup = U; journal = m.journal.items; entries = m.journal.entries; reach = m.draft.reach; rings = ring_count m.draft.ears m.draft.rings; texts = x; ready = a }
+seen U m x a = record { setup = U; journal = m.journal.items; entries = m.journal.entries; far = m.draft.far; reach = m.draft.reach; ends = m.journal.ends; next_end = next_room m.journal; rings = ring_count m.draft.ears m.draft.rings; texts = x; ready = a }
 
 -- what is so where an event is stepped
 pub record Stepping (U : Setup) (m : Board) (x : Texts) (a : Ready) (stop : Option ℕ) (e : Event) (v : Verdict) : Type 0 where
@@ -65,7 +70,7 @@ stop-before es _ n = refl
 no-stop : (U : Setup) (m : Board) (x : Texts) (stop : Option ℕ) (e : Event) → IsCore U m x stop → IsPlaced m.journal.items e → (IsDisconnect e → ⊥) → stop ≡ None
 no-stop U m x stop e k p n = k.stop_is ∙ stop-before m.journal.items e n ∙ p.1
 
-made : (U : Setup) (m : Board) (x : Texts) (a : Ready) (e : Event) (last : ℕ) → always_fits e ≡ false → m.journal.entries ≡ last + 1 → IsRoomFor (seen U m x a) e → Made U (last + 1) m.draft.reach (length m.journal.items) (trail_of m.journal.items) e
+made : (U : Setup) (m : Board) (x : Texts) (a : Ready) (e : Event) (last : ℕ) → always_fits e ≡ false → m.journal.entries ≡ last + 1 → IsRoomFor (seen U m x a) e → Made U (last + 1) m.draft.far (length m.journal.items) (trail_of m.journal.items) e
 made U m x a e last f l r =
     let t = trail_of m.journal.items in
     let s = small U m.journal.items e f r.small in
@@ -76,12 +81,12 @@ made U m x a e last f l r =
     let made = r.entries in
     record {
       entries_made = omega arith;
-      reach_made = r.reach;
+      reach_made = r.far;
       few_entries = omega arith;
       few_marks = omega arith;
     }
 
-kept-core : (U : Setup) (m : Board) (x : Texts) (stop : Option ℕ) (last : ℕ) → m.journal.entries ≡ last + 1 → IsCore U m x stop → StaysWithin (last + 1) m.draft.reach (length m.journal.items) stop (trail_of m.journal.items)
+kept-core : (U : Setup) (m : Board) (x : Texts) (stop : Option ℕ) (last : ℕ) → m.journal.entries ≡ last + 1 → IsCore U m x stop → StaysWithin (last + 1) m.draft.far (length m.journal.items) stop (trail_of m.journal.items)
 kept-core U m x stop last l k =
     let a = k.entries in
     record { entries_kept = omega arith; reach_kept = k.reach; few_entries = k.few_entries; few_marks = k.few_marks }
@@ -105,17 +110,17 @@ has-entry U m x a stop Stop v s =
     omega arith
 
 other-step : (U : Setup) (m : Board) (x : Texts) (a : Ready) (stop : Option ℕ) (e : Event) (v : Verdict) (last : ℕ) → (IsDisconnect e → ⊥) → always_fits e ≡ false → is_stop e ≡ false → m.journal.entries ≡ last + 1
-    → IsRoomFor (seen U m x a) e → Stepping U m x a stop e v → StaysWithin last m.draft.reach (length m.journal.items + 1) (stop_next stop e (length m.journal.items + 1)) (stepped U v e (trail_of m.journal.items))
+    → IsRoomFor (seen U m x a) e → Stepping U m x a stop e v → StaysWithin last m.draft.far (length m.journal.items + 1) (stop_next stop e (length m.journal.items + 1)) (stepped U v e (trail_of m.journal.items))
 other-step U m x a stop e v last n f i l r s =
     let t = trail_of m.journal.items in
-    let P : Option ℕ → Type 0 = λ o. StaysWithin last m.draft.reach (length m.journal.items + 1) o (stepped U v e t) in
-    let k = kept-other U last m.draft.reach (length m.journal.items) t e v s.sound n s.verdict_is (made U m x a e last f l r) in
+    let P : Option ℕ → Type 0 = λ o. StaysWithin last m.draft.far (length m.journal.items + 1) o (stepped U v e t) in
+    let k = kept-other U last m.draft.far (length m.journal.items) t e v s.sound n s.verdict_is (made U m x a e last f l r) in
     let none = no-stop U m x stop e s.core s.placed n in
     subst P (sym (ap (λ (o : Option ℕ). stop_next o e (length m.journal.items + 1)) none ∙ ap (λ (b : Bool). cond b (Some (length m.journal.items + 1)) None) i)) k
 
 -- room is kept for all ends
 pub kept-step : (U : Setup) (m : Board) (x : Texts) (a : Ready) (stop : Option ℕ) (e : Event) (v : Verdict) (last : ℕ) → m.journal.entries ≡ last + 1 → Stepping U m x a stop e v
-    → StaysWithin last m.draft.reach (length m.journal.items + 1) (stop_next stop e (length m.journal.items + 1)) (stepped U v e (trail_of m.journal.items))
+    → StaysWithin last m.draft.far (length m.journal.items + 1) (stop_next stop e (length m.journal.items + 1)) (stepped U v e (trail_of m.journal.items))
 kept-step U m x a stop (Connect c u) v last l s = other-step U m x a stop (Connect c u) v last (λ z. z) refl refl l s.ready s
 kept-step U m x a stop (Calls r) v last l s = other-step U m x a stop (Calls r) v last (λ z. z) refl refl l s.ready s
 kept-step U m x a stop (Happens y) v last l s = other-step U m x a stop (Happens y) v last (λ z. z) refl refl l s.ready s
@@ -123,8 +128,8 @@ kept-step U m x a stop (Tick n) v last l s = other-step U m x a stop (Tick n) v 
 kept-step U m x a stop (Disconnect c) v last l s =
     let t = trail_of m.journal.items in
     let n = length m.journal.items in
-    let P : Option ℕ → Type 0 = λ o. StaysWithin last m.draft.reach (n + 1) o (stepped U v (Disconnect c) t) in
-    subst P (sym (still stop (n + 1))) (kept-disconnect U last m.draft.reach n stop t c v s.sound s.placed.0 s.verdict_is (kept-core U m x stop last l s.core))
+    let P : Option ℕ → Type 0 = λ o. StaysWithin last m.draft.far (n + 1) o (stepped U v (Disconnect c) t) in
+    subst P (sym (still stop (n + 1))) (kept-disconnect U last m.draft.far n stop t c v s.sound s.placed.0 s.verdict_is (kept-core U m x stop last l s.core))
   where
     still : (o : Option ℕ) (k : ℕ) → stop_next o (Disconnect c) k ≡ o
     still None k = refl
@@ -133,9 +138,9 @@ kept-step U m x a stop Stop v last l s =
     let t = trail_of m.journal.items in
     let n = length m.journal.items in
     let none = no-stop U m x stop Stop s.core s.placed (λ z. z) in
-    let P : Option ℕ → Type 0 = λ o. StaysWithin last m.draft.reach (n + 1) (stop_next o Stop (n + 1)) (stepped U v Stop t) in
-    let Q : Option ℕ → Type 0 = λ o. StaysWithin (last + 1) m.draft.reach n o t in
-    subst P (sym none) (kept-stop U last m.draft.reach n (n + 1) t v s.sound s.verdict_is (subst Q none (kept-core U m x stop last l s.core)))
+    let P : Option ℕ → Type 0 = λ o. StaysWithin last m.draft.far (n + 1) (stop_next o Stop (n + 1)) (stepped U v Stop t) in
+    let Q : Option ℕ → Type 0 = λ o. StaysWithin (last + 1) m.draft.far n o t in
+    subst P (sym none) (kept-stop U last m.draft.far n (n + 1) t v s.sound s.verdict_is (subst Q none (kept-core U m x stop last l s.core)))
 
 pub ready-texts : (c : CoreState) (e : Event) → IsReady c e → AreReady e c.texts
 ready-texts c (Connect b u) r = r.texts
@@ -145,13 +150,89 @@ ready-texts c (Tick n) r = r.texts
 ready-texts c (Disconnect b) r = tt
 ready-texts c Stop r = tt
 
--- the marks stay within the reach
-pub stays-within : (U : Setup) (m : Board) (x : Texts) (a : Ready) (stop : Option ℕ) (e : Event) (v : Verdict) → Stepping U m x a stop e v → length (stepped U v e (trail_of m.journal.items)) ≤ m.draft.reach
-stays-within U m x a stop e v s =
-    let has = has-entry U m x a stop e v s in
-    let k = kept-step U m x a stop e v (m.journal.entries - 1) (omega arith) s in
-    let r = k.reach_kept in
+-- ---- the marks stay within the reach
+
+other-within : (U : Setup) (m : Board) (x : Texts) (a : Ready) (stop : Option ℕ) (e : Event) (v : Verdict) (reach : ℕ) → (IsDisconnect e → ⊥) → IsRoomFor (seen U m x a) e → reach ≡ m.draft.reach → Stepping U m x a stop e v
+    → length (stepped U v e (trail_of m.journal.items)) ≤ reach
+other-within U m x a stop e v reach n r h s =
+    let t = trail_of m.journal.items in
+    let P : Verdict → Type 0 = λ w. length (stepped U w e t) ≤ reach in
+    let w = other U t e s.sound n in
+    let marks = w.marks in
+    let room = r.reach in
+    subst P (sym s.verdict_is) (omega arith)
+
+-- a connection's end has room in the list that was kept for it, and tables have room for it
+end-within : (U : Setup) (m : Board) (x : Texts) (a : Ready) (stop : Option ℕ) (c : ConnId) (v : Verdict) (reach : ℕ) → BeginsReach (Disconnect c) m reach → Stepping U m x a stop (Disconnect c) v
+    → length (stepped U v (Disconnect c) (trail_of m.journal.items)) ≤ reach
+end-within U m x a stop c v reach begun s =
+    let t = trail_of m.journal.items in
+    let granted = s.verdict_is ∙ disconnect-granted U t c in
+    let P : Verdict → Type 0 = λ w. length (stepped U w (Disconnect c) t) ≤ reach in
+    let has = has-entry U m x a stop (Disconnect c) v s in
+    let kept = (kept-step U m x a stop (Disconnect c) v (m.journal.entries - 1) (omega arith) s).reach_kept in
+    let Q : Verdict → Type 0 = λ w. length (stepped U w (Disconnect c) t) + need (stepped U w (Disconnect c) t) ≤ m.draft.far in
+    let far = subst Q granted kept in
+    let fits = (ends-have-shares U).fits t c s.sound in
+    let share = s.core.ends c s.placed.0 in
+    let len = ap length s.core.no_marks in
+    let n = length (stepped U Granted (Disconnect c) t) - length t in
+    let r = begun n (omega arith) (omega arith) in
+    subst P (sym granted) (omega arith)
+
+stop-within : (U : Setup) (m : Board) (x : Texts) (a : Ready) (stop : Option ℕ) (v : Verdict) (reach : ℕ) → reach ≡ m.draft.reach → Stepping U m x a stop Stop v → length (stepped U v Stop (trail_of m.journal.items)) ≤ reach
+stop-within U m x a stop v reach h s =
+    let t = trail_of m.journal.items in
+    let P : Verdict → Type 0 = λ w. length (stepped U w Stop t) ≤ reach in
+    let same = ap length (stop-stays U t s.sound) in
+    let within = s.core.within in
+    subst P (sym (s.verdict_is ∙ stop-granted U t)) (omega arith)
+
+pub stays-within : (U : Setup) (m : Board) (x : Texts) (a : Ready) (stop : Option ℕ) (e : Event) (v : Verdict) (reach : ℕ) → BeginsReach e m reach → Stepping U m x a stop e v → length (stepped U v e (trail_of m.journal.items)) ≤ reach
+stays-within U m x a stop (Connect c u) v reach h s = other-within U m x a stop (Connect c u) v reach (λ z. z) s.ready h s
+stays-within U m x a stop (Calls r) v reach h s = other-within U m x a stop (Calls r) v reach (λ z. z) s.ready h s
+stays-within U m x a stop (Happens y) v reach h s = other-within U m x a stop (Happens y) v reach (λ z. z) s.ready h s
+stays-within U m x a stop (Tick n) v reach h s = other-within U m x a stop (Tick n) v reach (λ z. z) s.ready h s
+stays-within U m x a stop (Disconnect c) v reach h s = end-within U m x a stop c v reach h s
+stays-within U m x a stop Stop v reach h s = stop-within U m x a stop v reach h s
+
+-- ---- each connection's end keeps its room
+
+-- the verdict that was made ready is the event's
+wide-by : (U : Setup) (m : Board) (e : Event) (v : Verdict) → v ≡ verdict U (trail_of m.journal.items) e → AreWide (end_room m.journal) (verdict U (trail_of m.journal.items) e) (trail_of m.journal.items) e → AreWide (end_room m.journal) v (trail_of m.journal.items) e
+wide-by U m e v is wide = subst (λ (w : Verdict). AreWide (end_room m.journal) w (trail_of m.journal.items) e) (sym is) wide
+
+pub ends-step : (U : Setup) (m : Board) (x : Texts) (a : Ready) (stop : Option ℕ) (e : Event) (v : Verdict) (new : ConnId → ℕ) → EndsFollow v e (next_room m.journal) (end_room m.journal) new → Stepping U m x a stop e v
+    → HaveEnds new (stepped U v e (trail_of m.journal.items))
+ends-step U m x a stop (Connect c u) v new f s = connect-ends U m.journal.items c u v (next_room m.journal) (end_room m.journal) new s.verdict_is s.core.legal s.placed (wide-by U m (Connect c u) v s.verdict_is s.ready.ends) (subst (λ (w : Verdict). NextIsWide w (trail_of m.journal.items) (Connect c u) (next_room m.journal)) (sym s.verdict_is) s.ready.next_end) f
+ends-step U m x a stop (Calls r) v new f s = call-ends U m.journal.items r v (next_room m.journal) (end_room m.journal) new s.verdict_is s.core.legal s.placed (wide-by U m (Calls r) v s.verdict_is s.ready.ends) f
+ends-step U m x a stop (Happens y) v new f s = hardware-ends U m.journal.items y v (next_room m.journal) (end_room m.journal) new s.verdict_is s.core.legal s.placed (wide-by U m (Happens y) v s.verdict_is s.ready.ends) f
+ends-step U m x a stop (Tick n) v new f s = tick-ends U m.journal.items n v (next_room m.journal) (end_room m.journal) new s.verdict_is s.core.legal s.placed (wide-by U m (Tick n) v s.verdict_is s.ready.ends) f
+ends-step U m x a stop (Disconnect c) v new f s =
+    let t = trail_of m.journal.items in
+    let P : Verdict → Type 0 = λ w. HaveEnds new (stepped U w (Disconnect c) t) in
+    subst P (sym (s.verdict_is ∙ disconnect-granted U t c)) (disconnect-ends U t c (next_room m.journal) (end_room m.journal) new s.sound s.core.ends f)
+ends-step U m x a stop Stop v new f s =
+    let t = trail_of m.journal.items in
+    let P : Verdict → Type 0 = λ w. HaveEnds new (stepped U w Stop t) in
+    subst P (sym (s.verdict_is ∙ stop-granted U t)) (stop-ends U t (next_room m.journal) (end_room m.journal) new s.sound s.core.ends (stop-follows v (next_room m.journal) (end_room m.journal) new f))
+  where
+    stop-follows : (v : Verdict) (next : ℕ) (old new : ConnId → ℕ) → EndsFollow v Stop next old new → EndsFollow Granted Stop next old new
+    stop-follows v next old new f = f
+
+-- the list that was made for who comes is there
+pub can-welcome : (U : Setup) (m : Board) (x : Texts) (a : Ready) (stop : Option ℕ) (e : Event) (v : Verdict) → Stepping U m x a stop e v → CanWelcome v e (next_room m.journal)
+can-welcome U m x a stop (Connect c u) Granted s = (
+    let r = subst (λ (w : Verdict). NextIsWide w (trail_of m.journal.items) (Connect c u) (next_room m.journal)) (sym s.verdict_is) s.ready.next_end in
+    let l = end-least Granted (trail_of m.journal.items) (Connect c u) c in
     omega arith
+    )
+can-welcome U m x a stop (Calls r) Granted s = tt
+can-welcome U m x a stop (Happens y) Granted s = tt
+can-welcome U m x a stop (Tick n) Granted s = tt
+can-welcome U m x a stop (Disconnect c) Granted s = tt
+can-welcome U m x a stop Stop Granted s = tt
+can-welcome U m x a stop e (Denied r) s = tt
 
 -- there are rings for all devices that are taken behind the event
 pub taken-step : (U : Setup) (m : Board) (x : Texts) (a : Ready) (stop : Option ℕ) (e : Event) (v : Verdict) → Stepping U m x a stop e v → taken_count (stepped U v e (trail_of m.journal.items)) ≤ ring_count m.draft.ears m.draft.rings
@@ -208,9 +289,9 @@ ears-closed U m n x a b stop e v ms s w j q =
 
 -- the board after the entry is closed is one of a core again
 pub core-closed : (U : Setup) (m n : Board) (x y : Texts) (a : Ready) (b : Answer) (stop next : Option ℕ) (e : Event) (v : Verdict) (ms : List Mark) → Stepping U m x a stop e v → Steps U m.journal.items e v b ms
-    → n.journal.items ≡ m.journal.items ++ entry_of e v b ms ∷ [] → n.draft.trail ≡ trail_of n.journal.items → IsBegun n → n.journal.entries + 1 ≡ m.journal.entries → n.draft.reach ≡ m.draft.reach
+    → n.journal.items ≡ m.journal.items ++ entry_of e v b ms ∷ [] → n.draft.trail ≡ trail_of n.journal.items → IsBegun n → n.journal.entries + 1 ≡ m.journal.entries → n.draft.far ≡ m.draft.far → length n.draft.trail ≤ n.draft.reach → EndsFollow v e (next_room m.journal) (end_room m.journal) (end_room n.journal)
     → next ≡ stop_next stop e (length m.journal.items + 1) → HaveTexts y (stepped U v e (trail_of m.journal.items)) → HearsOn m n e v ms (stepped U v e (trail_of m.journal.items)) → IsCore U n y next
-core-closed U m n x y a b stop next e v ms s w j k g l r o h q =
+core-closed U m n x y a b stop next e v ms s w j k g l r within follows o h q =
     let es = m.journal.items in
     let t = trail_of es in
     let d = entry_of e v b ms in
@@ -219,6 +300,7 @@ core-closed U m n x y a b stop next e v ms s w j k g l r o h q =
     let trail : trail_of n.journal.items ≡ stepped U v e t = ap trail_of j ∙ trail-closed U es e v b ms w in
     let kept = kept-step U m x a stop e v n.journal.entries (sym l) s in
     let Q : Trail → Type 0 = HaveTexts y in
+    let E : Trail → Type 0 = HaveEnds (end_room n.journal) in
     let c = ap (λ (u : Trail). length (connections u)) trail in
     let f = ap (λ (u : Trail). length u + need u) trail in
     let i = ap stop_need o in
@@ -234,6 +316,8 @@ core-closed U m n x y a b stop next e v ms s w j k g l r o h q =
       stop_is = o ∙ ap (λ (p : Option ℕ). stop_next p e (length es + 1)) s.core.stop_is ∙ sym (stop-closed es d) ∙ ap (stop_from 1) (sym j);
       entries = omega arith;
       reach = omega arith;
+      within = (let same = ap length k in omega arith);
+      ends = subst E (sym trail) (ends-step U m x a stop e v (end_room n.journal) follows s);
       ears = ears-closed U m n x a b stop e v ms s w j q;
       kept_texts = subst Q (sym trail) h;
       few_entries = omega arith;

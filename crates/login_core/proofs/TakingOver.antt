@@ -18,9 +18,10 @@ use Rattle.login_model.specs.declared.mark.Whom.{Whom}
 use Rattle.login_table.specs.Appended.{Appends, LeavesRoom, SetsPlain}
 use Rattle.switch_core.specs.Handles.{HandlesLeft, IsNumbered}
 use Rattle.device_model.specs.declared.ears.Ear.{Ear}
+use Rattle.login_core.specs.declared.board.Reach.{Reach}
 use Rattle.login_core.specs.declared.board.seating.Seating.{Seating}
 use Rattle.login_core.specs.inner.Draft.{DraftState, Fits, IsDraft, marked_by, with_ears, with_trail}
-use Rattle.login_core.specs.inner.Facts.{Tables, StandFor, StandForFew}
+use Rattle.login_core.specs.inner.Facts.{Tables, StandFor, StandsForFew}
 use Rattle.login_core.specs.inner.Seating.{AreSeated, CanSeat, Seats}
 use Rattle.login_core.specs.inner.TakingOver.{CanTakeOver, TakesOver}
 use Rattle.login_core.specs.inner.UnderWay.{so_far}
@@ -37,7 +38,7 @@ can-set f s m k x e c = subst (λ (n : Mark). CanTakeOver f s (n ∷ [])) e c
 pub can-note : (f : Tables) (s : Seating) (m : Mark) (k : Key) (x y : Fact) → CanTakeOver f s (m ∷ []) → ((t : Trail) → StandFor f t → y ≡ value t k) → CanSeat s k y x
 can-note f s m k x y c e = let few = c.few in seated-room s k x y c.trail c.seated (e c.trail c.stands) (omega arith)
 
-pub can-few : (f : Tables) (s : Seating) (m : Mark) → CanTakeOver f s (m ∷ []) → StandForFew f
+pub can-few : (f : Tables) (s : Seating) (m : Mark) → CanTakeOver f s (m ∷ []) → StandsForFew StandFor f
 can-few f s m c = let few = c.few in record { marks = c.trail; stand = c.stands; few = omega arith }
 
 -- the setting of a fact, which was read before and put in as a copy
@@ -116,44 +117,46 @@ can-next f g s u ms i m l e c a =
 -- ---- the draft goes on behind what was put at the end of its list
 
 -- a procedure has put its marks at the end of the list of a draft, for which there was room
-pub record HasMore (f : Trail → Trail) (es : List Entry) (marks new : Room Mark) (facts : Tables) (seating : Seating) (made reach : ℕ) (d : DraftState) : Type 0 where
+pub record HasMore (f : Trail → Trail) (es : List Entry) (marks new : Room Mark) (facts : Tables) (seating : Seating) (made : ℕ) (reach : Reach) (d : DraftState) : Type 0 where
   pub draft : IsDraft (so_far es marks.items) marks facts seating made reach
   pub view : seen es marks.items facts reach ≡ d
   pub room : Fits f d
   pub appends : Appends f (so_far es marks.items) marks.items new.items
   pub leaves : LeavesRoom f (so_far es marks.items) marks.spare new.spare
 
-fits-inside : (f : Trail → Trail) (es : List Entry) (ms : List Mark) (facts : Tables) (reach : ℕ) (d : DraftState) → seen es ms facts reach ≡ d → Fits f d → length (f (so_far es ms)) ≤ reach
+fits-inside : (f : Trail → Trail) (es : List Entry) (ms : List Mark) (facts : Tables) (reach : Reach) (d : DraftState) → seen es ms facts reach ≡ d → Fits f d → length (f (so_far es ms)) ≤ reach.entry
 fits-inside f es ms facts reach d v h =
     let n = ap (λ (w : DraftState). length (f w.trail)) v in
     let r = ap (λ (w : DraftState). w.reach) v in
     omega arith
 
 -- the next handle can be numbered behind them
-pub more-numbered : (f : Trail → Trail) (es : List Entry) (marks : Room Mark) (facts : Tables) (seating : Seating) (made reach : ℕ) (d : DraftState) (t : Trail) → IsDraft (so_far es marks.items) marks facts seating made reach → seen es marks.items facts reach ≡ d
+pub more-numbered : (f : Trail → Trail) (es : List Entry) (marks : Room Mark) (facts : Tables) (seating : Seating) (made : ℕ) (reach : Reach) (d : DraftState) (t : Trail) → IsDraft (so_far es marks.items) marks facts seating made reach → seen es marks.items facts reach ≡ d
     → t ≡ so_far es marks.items → Fits f d → IsNumbered (f t)
 more-numbered f es marks facts seating made reach d t draft v e h =
     let inside = fits-inside f es marks.items facts reach d v h in
     let same = ap (λ (u : Trail). length (f u)) e in
     let most = handles-bound (f t) in
+    let far = draft.far_enough in
     let numbered = draft.numbered in
     omega arith
 
 -- and so can one for each device that is taken
-pub more-handles : (es : List Entry) (marks : Room Mark) (facts : Tables) (seating : Seating) (made reach : ℕ) (t : Trail) → IsDraft (so_far es marks.items) marks facts seating made reach → t ≡ so_far es marks.items → HandlesLeft t
+pub more-handles : (es : List Entry) (marks : Room Mark) (facts : Tables) (seating : Seating) (made : ℕ) (reach : Reach) (t : Trail) → IsDraft (so_far es marks.items) marks facts seating made reach → t ≡ so_far es marks.items → HandlesLeft t
 more-handles es marks facts seating made reach t draft e =
     let left = handles-are-left t in
     let long = ap length e in
     let counted = draft.counted in
     let within = draft.within in
+    let far = draft.far_enough in
     let numbered = draft.numbered in
     omega arith
 
 -- each pause that is awaited is one of the active session's
-pub more-awaits : (es : List Entry) (ms : List Mark) (facts : Tables) (reach : ℕ) (d : DraftState) (t : Trail) → seen es ms facts reach ≡ d → t ≡ so_far es ms → Awaits d.trail → Awaits t
+pub more-awaits : (es : List Entry) (ms : List Mark) (facts : Tables) (reach : Reach) (d : DraftState) (t : Trail) → seen es ms facts reach ≡ d → t ≡ so_far es ms → Awaits d.trail → Awaits t
 more-awaits es ms facts reach d t v e a = subst Awaits (sym (e ∙ ap (λ (w : DraftState). w.trail) v)) a
 
-pub has-more : (f : Trail → Trail) (es : List Entry) (marks new : Room Mark) (facts : Tables) (seating : Seating) (made reach : ℕ) (d : DraftState) (t : Trail) → IsDraft (so_far es marks.items) marks facts seating made reach → seen es marks.items facts reach ≡ d
+pub has-more : (f : Trail → Trail) (es : List Entry) (marks new : Room Mark) (facts : Tables) (seating : Seating) (made : ℕ) (reach : Reach) (d : DraftState) (t : Trail) → IsDraft (so_far es marks.items) marks facts seating made reach → seen es marks.items facts reach ≡ d
     → Fits f d → t ≡ so_far es marks.items → Appends f t marks.items new.items → LeavesRoom f t marks.spare new.spare → HasMore f es marks new facts seating made reach d
 has-more f es marks new facts seating made reach d t draft v h e appends leaves = record {
   draft = draft;
@@ -188,7 +191,7 @@ lengths f t old new from a e =
     let m = ap length (more f t old new from a e) in
     omega arith
 
-pub more-can : (f : Trail → Trail) (es : List Entry) (marks new : Room Mark) (facts : Tables) (seating : Seating) (made reach : ℕ) (d : DraftState) (from : ℕ) → HasMore f es marks new facts seating made reach d → from ≡ length marks.items
+pub more-can : (f : Trail → Trail) (es : List Entry) (marks new : Room Mark) (facts : Tables) (seating : Seating) (made : ℕ) (reach : Reach) (d : DraftState) (from : ℕ) → HasMore f es marks new facts seating made reach d → from ≡ length marks.items
     → CanTakeOver facts seating (drop from new.items)
 more-can f es marks new facts seating made reach d from h e =
     let t = so_far es marks.items in
@@ -196,6 +199,7 @@ more-can f es marks new facts seating made reach d from h e =
     let n = counted f t marks.items new.items from h.appends e in
     let inside = fits-inside f es marks.items facts reach d h.view h.room in
     let made_is = draft.counted in
+    let far = draft.far_enough in
     let numbered = draft.numbered in
     let fit = draft.facts_fit in
     record {
@@ -207,7 +211,7 @@ more-can f es marks new facts seating made reach d from h e =
       plain = subst (AllByRecursion SetsPlain) (sym (more f t marks.items new.items from h.appends e)) h.appends.plain;
     }
 
-pub more-made : (f : Trail → Trail) (es : List Entry) (marks new : Room Mark) (facts : Tables) (seating : Seating) (made reach : ℕ) (d : DraftState) (from n : ℕ) → HasMore f es marks new facts seating made reach d → from ≡ length marks.items
+pub more-made : (f : Trail → Trail) (es : List Entry) (marks new : Room Mark) (facts : Tables) (seating : Seating) (made : ℕ) (reach : Reach) (d : DraftState) (from n : ℕ) → HasMore f es marks new facts seating made reach d → from ≡ length marks.items
     → n + from ≡ length new.items → made + n < 2 ^ 32
 more-made f es marks new facts seating made reach d from n h e s =
     let t = so_far es marks.items in
@@ -216,6 +220,7 @@ more-made f es marks new facts seating made reach d from n h e s =
     let l = lengths f t marks.items new.items from h.appends e in
     let inside = fits-inside f es marks.items facts reach d h.view h.room in
     let made_is = draft.counted in
+    let far = draft.far_enough in
     let numbered = draft.numbered in
     omega arith
 
@@ -224,7 +229,7 @@ so_far-behind : (f : Trail → Trail) (es : List Entry) (old new : List Mark) �
 unfolding so_far
 so_far-behind f es old new a = ap (after (trail_of es)) a.items ∙ after-append (trail_of es) old a.marks ∙ a.same
 
-pub more-draft : (f : Trail → Trail) (es : List Entry) (marks new : Room Mark) (facts tables : Tables) (seating seats : Seating) (made reach : ℕ) (d : DraftState) (from n : ℕ) → HasMore f es marks new facts seating made reach d → from ≡ length marks.items
+pub more-draft : (f : Trail → Trail) (es : List Entry) (marks new : Room Mark) (facts tables : Tables) (seating seats : Seating) (made : ℕ) (reach : Reach) (d : DraftState) (from n : ℕ) → HasMore f es marks new facts seating made reach d → from ≡ length marks.items
     → n + from ≡ length new.items → TakesOver facts seating (drop from new.items) tables seats → IsDraft (so_far es new.items) new tables seats (made + n) reach
 more-draft f es marks new facts tables seating seats made reach d from n h e s o =
     let t = so_far es marks.items in
@@ -237,6 +242,7 @@ more-draft f es marks new facts tables seating seats made reach d from n h e s o
     let made_is = draft.counted in
     let marks_fit = draft.marks_fit in
     let facts_fit = draft.facts_fit in
+    let far = draft.far_enough in
     let leaves = h.leaves in
     let spare = o.spare in
     record {
@@ -246,10 +252,11 @@ more-draft f es marks new facts tables seating seats made reach d from n h e s o
       marks_fit = omega arith;
       facts_fit = omega arith;
       within = omega arith;
+      far_enough = draft.far_enough;
       numbered = draft.numbered;
     }
 
-pub more-seen : (f : Trail → Trail) (es : List Entry) (marks new : Room Mark) (facts tables : Tables) (seating seats : Seating) (made reach : ℕ) (d : DraftState) (from : ℕ) → HasMore f es marks new facts seating made reach d
+pub more-seen : (f : Trail → Trail) (es : List Entry) (marks new : Room Mark) (facts tables : Tables) (seating seats : Seating) (made : ℕ) (reach : Reach) (d : DraftState) (from : ℕ) → HasMore f es marks new facts seating made reach d
     → TakesOver facts seating (drop from new.items) tables seats → seen es new.items tables reach ≡ marked_by f d
 more-seen f es marks new facts tables seating seats made reach d from h o =
     let s = seen es marks.items facts reach in

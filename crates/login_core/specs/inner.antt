@@ -2,6 +2,10 @@ pub mod Chosen
 pub mod Rounds
 pub mod Counts
 pub mod Holding
+pub mod Sums
+pub mod Owing
+pub mod Dues
+pub mod Concerning
 pub mod Ears
 pub mod Facts
 pub mod HandedOn
@@ -18,5 +22,6 @@ pub mod Places
 pub mod Calls
 pub mod Reads
 pub mod Inside
+pub mod Ends
 pub mod State
 pub mod Fullness

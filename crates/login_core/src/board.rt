@@ -1,16 +1,22 @@
 // The marks of the entry under way, with the facts that the marks leave; and the journal beside them.
 
 pub mod choosing;
+pub mod concerning;
+pub mod ends;
 pub mod facts;
 pub mod hearing;
 pub mod holding;
+pub mod owing;
 pub mod rounds;
 pub mod seating;
 pub mod setting;
+pub mod shares;
 pub mod so_far;
+pub mod sums;
 pub mod taking_over;
 
-ghost use Rattle.std.specs.Prelude.{◌≡◌, ◌+◌, ◌<◌, ◌≤◌, ◌^◌, [], IfOk, IsSome, List, OnOk, OnErr, Some, length};
+ghost use Rattle.std.specs.Prelude.{ℕ, ◌≡◌, ◌==◌, ◌+◌, ◌<◌, ◌≤◌, ◌^◌, [], false, IfOk, IsSome, List, OnOk, OnErr, Some, length};
+ghost use Rattle.login_base.specs.declared.ids.ConnId.{ConnId as AnyConnection};
 ghost use Rattle.login_base.specs.declared.ids.DevNo.{DevNo as AnyDevice};
 ghost use Rattle.login_base.specs.declared.ids.HandleNo.{HandleNo as AnyHandle};
 ghost use Rattle.login_model.specs.declared.answer.Input.{Input as AnyInput};
@@ -21,6 +27,7 @@ ghost use Rattle.login_core.specs.inner.Counts.{AreCounted};
 ghost use Rattle.device_model.specs.Ears.{heard_of};
 ghost use Rattle.login_core.specs.inner.Draft.{marked_by, reaching, tell, with_ears, with_rings, Fits};
 ghost use Rattle.login_core.specs.inner.Ears.{AreEnough, ListenLive, settled};
+ghost use Rattle.login_core.specs.inner.Ledger.{end_room, next_room};
 ghost use Rattle.login_core.specs.Rings.{ring_count};
 
 use crate::board::facts::Facts;
@@ -35,7 +42,17 @@ use login_model::{
 };
 use std::alloc::Global;
 use std::marker::Model;
+use std::mem;
 use std::snapshot::Snapshot;
+
+/// How many marks there may be in all.
+#[derive(Clone, Copy)]
+pub struct Reach {
+    /// With those of the entry under way: its list has room for them.
+    pub entry: u32,
+    /// With those of later entries too: tables have room for them.
+    pub all: u32,
+}
 
 /// The marks of the entry under way, and the facts that they leave with those before them. The journal is
 /// apart: only contracts see it here.
@@ -47,8 +64,7 @@ pub struct Draft {
     seating: Seating,
     /// How many marks there are in all.
     made: u32,
-    /// How many marks there may be in all.
-    reach: u32,
+    reach: Reach,
 }
 
 impl Model for Draft {
@@ -61,7 +77,8 @@ impl Model for Draft {
     ghost view = { λ d. record {
       before = trail_of d.journal.value.items;
       trail = so_far d.journal.value.items d.marks.items;
-      reach = d.reach;
+      reach = d.reach.entry;
+      far = d.reach.all;
       ears = d.facts.ears;
       rings = d.facts.rings;
     } };
@@ -75,6 +92,7 @@ impl Draft {
         ensures before { result.before ≡ [] }
         ensures trail { result.trail ≡ [] }
         ensures reach { result.reach ≡ 0 }
+        ensures far { result.far ≡ 0 }
         ensures ears { result.ears ≡ [] }
     {
         Draft {
@@ -83,15 +101,8 @@ impl Draft {
             facts: Facts::new(alloc),
             seating: Seating::new(),
             made: 0,
-            reach: 0,
+            reach: Reach { entry: 0, all: 0 },
         }
-    }
-
-    /// How many marks there may be in all.
-    pub fn reach(&self) -> u32
-        ensures { result ≡ self.now.reach }
-    {
-        self.reach
     }
 
     /// How many marks there are in all.
@@ -102,18 +113,62 @@ impl Draft {
         self.made
     }
 
-    /// Makes room for so many marks in all, each of which may be a setting.
-    pub fn reserve(&mut self, reach: u32) -> Result<(), NoMemory>
-        requires more { self.old.reach ≤ reach }
-        requires numbered { reach + 2 < 2 ^ 32 }
-        ensures made { OnOk result (self.new ≡ reaching reach self.old) }
+    /// How far tables have to reach so that there is room for so many marks in all: an eighth further than is asked
+    /// for, where they don't reach so far yet. They are gone over when they get room, so they get it for some entries
+    /// to come.
+    fn far_for(&self, far: u32) -> u32
+        requires { far + 2 < 2 ^ 31 }
+        ensures far { far ≤ result }
+        ensures keeps { self.now.far ≤ result }
+        ensures numbered { result + 2 < 2 ^ 32 }
+        ensures within { length self.now.trail ≤ self.now.reach }
+    {
+        if far <= self.reach.all {
+            self.reach.all
+        } else {
+            self.made + with_more((far - self.made) as usize) as u32
+        }
+    }
+
+    /// Makes room for so many more marks of the entry under way, and for so many in all, each of which may be a
+    /// setting.
+    pub fn reserve(&mut self, next: u32, far: u32) -> Result<(), NoMemory>
+        requires more { self.old.far ≤ far }
+        requires within { length self.old.trail + next ≤ far }
+        requires numbered { far + 2 < 2 ^ 32 }
+        ensures made { OnOk result (self.new ≡ reaching (length self.old.trail + next) far self.old) }
         ensures refused { OnErr result (self.new ≡ self.old) }
     {
-        let more = reach - self.made;
-        self.marks.reserve(more as usize)?;
-        self.facts.reserve(more as usize)?;
-        self.reach = reach;
+        self.marks.reserve(with_more(next as usize))?;
+        self.facts.reserve((far - self.made) as usize)?;
+        self.reach = Reach {
+            entry: self.made + next,
+            all: far,
+        };
         Ok(())
+    }
+
+    /// The marks of closed entries are put in memory of their size. The widest list that comes free so is that of the
+    /// entry under way, if its own is narrower.
+    fn trim(&mut self, journal: &mut Ledger) -> Result<(), NoMemory>
+        requires { self.old.trail ≡ self.old.before }
+        ensures same { self.new ≡ self.old }
+        ensures journal { journal.new ≡ journal.old }
+    {
+        journal.trim(&mut self.marks)
+    }
+
+    /// This list becomes that of the entry under way. The answer is the one before. It takes no memory.
+    fn change_list(&mut self, list: Reserved<Mark>) -> Reserved<Mark>
+        requires empty { list.items ≡ [] }
+        requires no_marks { self.old.trail ≡ self.old.before }
+        ensures room { (n : ℕ) → n ≤ list.spare → length self.old.trail + n ≤ self.old.far → length self.old.trail + n ≤ self.new.reach }
+        ensures rest { self.new ≡ reaching self.new.reach self.old.far self.old }
+        ensures empty { result.items ≡ [] }
+    {
+        let more = list.spare().min((self.reach.all - self.made) as usize);
+        self.reach.entry = self.made + more as u32;
+        mem::replace(&mut self.marks, list)
     }
 
     /// Makes rings for so many handles, with those that are in use.
@@ -267,14 +322,12 @@ impl Look for Draft {
     }
 }
 
-/// An eighth more than so many marks. All lists are gone over when room for more marks is made, so they get room
-/// for some entries to come.
-fn with_more(marks: u32) -> u32
-    requires { marks < 2 ^ 31 }
+/// An eighth more than so many marks, so that what grows by little each time seldom gets memory.
+pub fn with_more(marks: usize) -> usize
     ensures more { marks ≤ result }
-    ensures few { result ≤ marks + 2 ^ 28 }
+    ensures few { marks < 2 ^ 31 → result ≤ marks + 2 ^ 28 }
 {
-    marks + marks / 8
+    marks.saturating_add(marks / 8)
 }
 
 /// The journal, and the entry under way.
@@ -282,6 +335,9 @@ fn with_more(marks: u32) -> u32
 pub struct Board {
     pub journal: Ledger,
     pub draft: Draft,
+    /// The list of the entry under way waits here while the marks of a connection's end go to that end's own. At other
+    /// times it is one without memory.
+    idle: Reserved<Mark>,
     pub alloc: Global,
 }
 
@@ -294,11 +350,13 @@ impl Board {
         ensures journal { result.journal.items ≡ [] }
         ensures marks { result.draft.trail ≡ [] }
         ensures ears { result.draft.ears ≡ [] }
+        ensures ends { (c : AnyConnection) → end_room result.journal c ≡ 0 }
         ensures begun { IsBegun result }
     {
         Board {
             journal: Ledger::new(alloc),
             draft: Draft::new(alloc),
+            idle: Reserved::new(alloc),
             alloc,
         }
     }
@@ -309,10 +367,11 @@ impl Board {
         ensures entries { IfOk result (λ board. 1 ≤ board.journal.entries) }
         ensures marks { IfOk result (λ board. board.draft.trail ≡ []) }
         ensures ears { IfOk result (λ board. board.draft.ears ≡ []) }
+        ensures ends { IfOk result (λ board. (c : AnyConnection) → end_room board.journal c ≡ 0) }
         ensures begun { IfOk result (λ board. IsBegun board) }
     {
         let mut board = Board::new(alloc);
-        match board.reserve(1, 0) {
+        match board.reserve(1, 0, 0) {
             Ok(()) => Ok(board),
             Err(NoMemory) => {
                 drop(board);
@@ -321,28 +380,48 @@ impl Board {
         }
     }
 
-    /// Makes room for so many more entries, and for so many marks in all, each of which may be a
-    /// setting. What there is room for already stays.
-    pub fn reserve(&mut self, entries: u32, reach: u32) -> Result<(), NoMemory>
-        requires numbered { reach + 2 < 2 ^ 31 }
+    /// Makes room for so many more entries, for so many marks of the next one, and for so many marks in all, each of
+    /// which may be a setting. The entries and the marks in all for which there is room already stay.
+    pub fn reserve(&mut self, entries: u32, next: u32, far: u32) -> Result<(), NoMemory>
+        requires within { length self.old.draft.trail + next ≤ far }
+        requires numbered { far + 2 < 2 ^ 31 }
         requires begun { IsBegun self.old }
         requires no_marks { self.old.draft.trail ≡ self.old.draft.before }
         ensures entries { OnOk result (entries ≤ self.new.journal.entries) }
-        ensures reach { OnOk result (reach ≤ self.new.draft.reach) }
+        ensures reach { OnOk result (length self.new.draft.trail + next ≤ self.new.draft.reach) }
+        ensures far { OnOk result (far ≤ self.new.draft.far) }
         ensures keeps_entries { self.old.journal.entries ≤ self.new.journal.entries }
-        ensures keeps_reach { self.old.draft.reach ≤ self.new.draft.reach }
+        ensures keeps_far { self.old.draft.far ≤ self.new.draft.far }
+        ensures ends { (c : AnyConnection) → end_room self.new.journal c ≡ end_room self.old.journal c }
         ensures items { self.new.journal.items ≡ self.old.journal.items }
         ensures trail { self.new.draft.trail ≡ self.old.draft.trail }
+        ensures within { length self.new.draft.trail ≤ self.new.draft.reach }
         ensures ears { self.new.draft.ears ≡ self.old.draft.ears }
         ensures rings { self.new.draft.rings ≡ self.old.draft.rings }
         ensures begun { IsBegun self.new }
     {
-        if reach <= self.draft.reach() {
-            return self.journal.reserve(entries, 0);
-        }
-        let more = with_more(reach - self.draft.made());
-        self.journal.reserve(entries, more)?;
-        self.draft.reserve(self.draft.made() + more)
+        let far = self.draft.far_for(far);
+        self.journal.reserve_entries(entries)?;
+        self.draft.trim(&mut self.journal)?;
+        self.draft.reserve(next, far)
+    }
+
+    /// The list that is kept for the end of a connection becomes that of the entry under way. It takes no memory.
+    pub fn begin_end(&mut self, who: ConnId)
+        requires begun { IsBegun self.old }
+        requires no_marks { self.old.draft.trail ≡ self.old.draft.before }
+        ensures reach { (n : ℕ) → n ≤ end_room self.old.journal who → length self.old.draft.trail + n ≤ self.old.draft.far → length self.old.draft.trail + n ≤ self.new.draft.reach }
+        ensures draft { self.new.draft ≡ reaching self.new.draft.reach self.old.draft.far self.old.draft }
+        ensures next { next_room self.old.journal ≤ next_room self.new.journal }
+        ensures own { end_room self.new.journal who ≡ 0 }
+        ensures others { (c : AnyConnection) → (c.0 == who.0) ≡ false → end_room self.new.journal c ≡ end_room self.old.journal c }
+        ensures items { self.new.journal.items ≡ self.old.journal.items }
+        ensures entries { self.new.journal.entries ≡ self.old.journal.entries }
+        ensures begun { IsBegun self.new }
+    {
+        let list = self.journal.take_end(who);
+        let idle = self.draft.change_list(list);
+        drop(mem::replace(&mut self.idle, idle));
     }
 
     /// The marks of the entry under way become the journal's last entry. It takes no memory.
@@ -352,13 +431,18 @@ impl Board {
         ensures closes { Closes event verdict answer self.old self.new }
         ensures no_marks { self.new.draft.trail ≡ trail_of self.new.journal.items }
         ensures entries { self.new.journal.entries + 1 ≡ self.old.journal.entries }
-        ensures reach { self.new.draft.reach ≡ self.old.draft.reach }
+        ensures within { length self.new.draft.trail ≤ self.new.draft.reach }
+        ensures far { self.new.draft.far ≡ self.old.draft.far }
+        ensures ends { (c : AnyConnection) → end_room self.new.journal c ≡ end_room self.old.journal c }
+        ensures next { next_room self.new.journal ≡ next_room self.old.journal }
         ensures ears { self.new.draft.ears ≡ self.old.draft.ears }
         ensures rings { self.new.draft.rings ≡ self.old.draft.rings }
         ensures begun { IsBegun self.new }
     {
         let draft = &mut self.draft;
-        self.journal.close(event, verdict, answer, &mut draft.marks);
+        let marks = mem::replace(&mut draft.marks, self.idle.take());
+        self.journal.close(event, verdict, answer, marks);
         draft.journal = Snapshot::of(self.journal.journal());
+        draft.reach.entry = draft.made;
     }
 }

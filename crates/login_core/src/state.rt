@@ -25,7 +25,9 @@ use crate::room::ready::Ready;
 use crate::room::texts::Texts;
 use login_base::{ConnId, DevNo, HandleNo, LockNo, NoMemory, SeatName, SessId, Uid};
 use login_judge::judge;
-use login_model::{Answer, Count, Entry, Event, Fact, Inputs, Journal, Key, Look, Setup, Verdict};
+use login_model::{
+    Answer, Entry, Event, Fact, Fullness, Inputs, Journal, Key, Look, Setup, Verdict,
+};
 use std::alloc::Global;
 use std::marker::Model;
 use std::mem;
@@ -36,7 +38,7 @@ pub enum Refused {
     NoMemory,
     /// The journal is full: with the event and what all connections and the stop may still need, this
     /// count would pass its limit.
-    Full(Count),
+    Full(Fullness),
     /// The entry with this number is the stop. After it come only disconnects.
     Stopped(u32),
 }
@@ -115,6 +117,7 @@ impl Model for Core {
     ghost use Rattle.login_core.specs.State.{CoreState};
     ghost use Rattle.login_core.specs.Rings.{ring_count};
     ghost use Rattle.login_core.specs.inner.Inside.{IsCore};
+    ghost use Rattle.login_core.specs.inner.Ledger.{next_room};
 
     ghost Value = { CoreState };
 
@@ -122,7 +125,10 @@ impl Model for Core {
       setup = c.setup;
       journal = c.board.journal.items;
       entries = c.board.journal.entries;
+      far = c.board.draft.far;
       reach = c.board.draft.reach;
+      ends = c.board.journal.ends;
+      next_end = next_room c.board.journal;
       rings = ring_count c.board.draft.ears c.board.draft.rings;
       texts = c.texts;
       ready = c.ready;
@@ -160,9 +166,9 @@ impl Core {
     }
 
     /// Makes ready for an event: takes the memory of its entry, its marks, its answer, its texts and the
-    /// inputs of a device that it takes, and of all that connections may need when they end. A refusal
-    /// leaves setup and journal as they were, and one that is not for want of memory leaves what was made
-    /// ready before.
+    /// inputs of a device that it takes, and of all that connections may need when they end, of each what its
+    /// own end may make. A refusal leaves setup and journal as they were, and one that is not for want of
+    /// memory leaves what was made ready before.
     /// The stop is looked at first, then whether the journal is full; memory is asked for last, and none
     /// for a disconnect or the stop, whose room is kept.
     pub fn room(&mut self, event: &Event) -> Result<(), Refused>
@@ -207,7 +213,7 @@ impl Core {
     }
 
     /// Whether the journal is full for an event, and of what.
-    fn full(&self, event: &Event, verdict: Verdict) -> Option<Count>
+    fn full(&self, event: &Event, verdict: Verdict) -> Option<Fullness>
         requires { verdict ≡ policy_verdict self.now.setup (trail_of self.now.journal) event.now }
         ensures { result ≡ full self.now.setup self.now.journal event.now }
     {
@@ -275,8 +281,11 @@ impl Core {
         ensures same { IsSame self.old self.new }
     {
         let entries = self.entries_for(event, verdict);
+        let next = self.board.draft.counts().most_marks();
         let reach = self.reach_for();
-        self.board.reserve(entries as u32, reach as u32)?;
+        self.board
+            .reserve(entries as u32, next as u32, reach as u32)?;
+        self.board.make_ends(event, verdict)?;
         let taken = self.board.draft.counts().taken;
         self.board.draft.make_rings(taken as usize + 1)?;
         self.texts.prepare(self.board.alloc, event)?;
@@ -296,6 +305,7 @@ impl Core {
     {
         let verdict = verdict_for(&self.board.draft, &self.setup, &self.ready, &event);
         let answer = answer_for(&event, &mut self.ready.answer);
+        self.board.begin(&event);
         self.board
             .draft
             .perform(&self.setup, &event, verdict, &mut self.texts);
@@ -304,6 +314,7 @@ impl Core {
             .settle_ears(&event, verdict, &mut self.read);
         let number = (self.board.journal.journal().len() + 1) as u32;
         self.stop = stop_after(self.stop, &event, number);
+        self.board.welcome(&event, verdict);
         self.board.close_entry(event, verdict, answer);
         let journal = self.board.journal.journal();
         journal.entry(journal.len() - 1)

@@ -5,16 +5,19 @@ use Rattle.login_model.specs.declared.mark.Mark.{Mark}
 use Rattle.login_model.specs.Trail.{Trail}
 use Rattle.device_model.specs.declared.ears.Ear.{Ear}
 pub use Rattle.switch_core.specs.inner.Ahead.{tell}
+use Rattle.login_core.specs.declared.board.Reach.{Reach}
 use Rattle.login_core.specs.declared.board.seating.Seating.{Seating}
 use Rattle.login_core.specs.inner.Facts.{Tables, StandFor}
 use Rattle.login_core.specs.inner.Seating.{AreSeated}
 
 -- the marks before the entry under way, and those so far, both the newest first; how many marks there may be in
--- all; the handles that listen to devices, and how many rings are spare
+-- all, with those of this entry and with those of later ones too; the handles that listen to devices, and how many
+-- rings are spare
 pub record DraftState : Type 0 where
   pub before : Trail
   pub trail : Trail
   pub reach : ℕ
+  pub far : ℕ
   pub ears : List Ear
   pub rings : ℕ
 
@@ -30,9 +33,9 @@ marked_by f d = with_trail d (f d.trail)
 abbrev pub Fits : (Trail → Trail) → DraftState → Type 0
 Fits f d = length (f d.trail) ≤ d.reach
 
--- there may be so many marks
-abbrev pub reaching : ℕ → DraftState → DraftState
-reaching n d = record d { reach = n }
+-- there may be so many marks, with those of this entry and with those of later ones
+abbrev pub reaching : ℕ → ℕ → DraftState → DraftState
+reaching n far d = record d { reach = n; far = far }
 
 -- so many rings are spare
 abbrev pub with_rings : ℕ → DraftState → DraftState
@@ -42,13 +45,14 @@ with_rings n d = record d { rings = n }
 abbrev pub with_ears : List Ear → ℕ → DraftState → DraftState
 with_ears es n d = record d { ears = es; rings = n }
 
--- the facts, and where sessions sit, are as the marks so far leave them; these are counted; and there is room for as
--- many as there may be, which can be numbered
-pub record IsDraft (trail : Trail) (marks : Room Mark) (facts : Tables) (seating : Seating) (made reach : ℕ) : Type 0 where
+-- the facts, and where sessions sit, are as the marks so far leave them; these are counted; the list of the entry under
+-- way has room for as many as there may be with it, and tables for as many as there may be in all, which can be numbered
+pub record IsDraft (trail : Trail) (marks : Room Mark) (facts : Tables) (seating : Seating) (made : ℕ) (reach : Reach) : Type 0 where
   pub stands : StandFor facts trail
   pub seated : AreSeated seating trail
   pub counted : made ≡ length trail
-  pub marks_fit : reach ≤ made + marks.spare
-  pub facts_fit : reach ≤ made + facts.spare
-  pub within : made ≤ reach
-  pub numbered : reach + 2 < 2 ^ 32
+  pub marks_fit : reach.entry ≤ made + marks.spare
+  pub facts_fit : reach.all ≤ made + facts.spare
+  pub within : made ≤ reach.entry
+  pub far_enough : reach.entry ≤ reach.all
+  pub numbered : reach.all + 2 < 2 ^ 32

@@ -10,13 +10,15 @@ use Rattle.login_table.specs.declared.home.Home.{Home}
 use Rattle.login_table.specs.declared.home.Home.TheVariants.{Users, Sessions, Seats, Devices, Controls, Takes, Locks, Power}
 use Rattle.login_core.specs.declared.room.counts.Counts.{Counts}
 use Rattle.login_core.specs.declared.board.holding.Holding.{Holding}
+use Rattle.login_core.specs.declared.board.owing.Owing.{Owing}
 use Rattle.login_core.specs.inner.Counts.{AreCounted, counts_of}
+use Rattle.login_core.specs.inner.Dues.{AreOwed}
 use Rattle.login_core.specs.inner.Holding.{AreHeld}
 use Rattle.login_table.specs.Home.{home}
 
 -- what facts are seen as: what each table has, as settings; the handles that listen to devices, and how many rings
 -- are spare; how many there are of what needs room; the numbers of the next session, the next handle and the next
--- lock; what connections have; and how many more settings go in without memory
+-- lock; what connections have, and what they owe; and how many more settings go in without memory
 pub record Tables : Type 0 where
   pub users : Trail
   pub sessions : Trail
@@ -33,6 +35,7 @@ pub record Tables : Type 0 where
   pub handle : ℕ
   pub lock : ℕ
   pub held : List Holding
+  pub owing : Owing
   pub spare : ℕ
 
 -- the settings of one table
@@ -56,14 +59,14 @@ pub record TablesStand (f : Tables) (t : Trail) : Type 0 where
   pub lock : f.lock ≡ fresh_lock t
   pub held : AreHeld f.held t
 
--- the facts are those that the marks leave
+-- the facts are those that the marks leave, and so is what connections owe
 unfoldable pub StandFor : Tables → Trail → Type 0
-StandFor f t = TablesStand f t
+StandFor f t = TablesStand f t × AreOwed f.owing t
 
--- they are those that some marks leave, so few that one more can be numbered
-pub record StandForFew (f : Tables) : Type 0 where
+-- the tables stand so for some marks, so few that one more can be numbered
+pub record StandsForFew (Stands : Tables → Trail → Type 0) (f : Tables) : Type 0 where
   pub marks : Trail
-  pub stand : StandFor f marks
+  pub stand : Stands f marks
   pub few : length marks + 2 < 2 ^ 32
 
 -- how many sessions a setting opens

@@ -1,6 +1,6 @@
 // The facts, in their tables.
 
-ghost use Rattle.std.specs.Prelude.{◌≡◌, ◌+◌, ◌<◌, ◌≤◌, [], ◌∷◌, IsSome, List, OnOk, Some, length, nat_lt};
+ghost use Rattle.std.specs.Prelude.{◌≡◌, ◌+◌, ◌<◌, ◌≤◌, ◌^◌, [], ◌∷◌, IsSome, List, OnOk, Some, length, nat_lt};
 ghost use Rattle.login_model.specs.Trail.{Trail, value};
 ghost use Rattle.login_model.specs.Fresh.{next_session, next_handle, next_lock};
 ghost use Rattle.login_model.specs.Names.{IsNext, session_lt, user_lt, conn_lt, seat_lt, device_lt, lock_lt};
@@ -14,11 +14,14 @@ ghost use Rattle.login_base.specs.declared.ids.HandleNo.{HandleNo as AnyHandle};
 ghost use Rattle.login_model.specs.declared.answer.Input.{Input as AnyInput};
 ghost use Rattle.login_core.specs.inner.Ears.{AreEnough, ListenOn, settled};
 ghost use Rattle.login_core.specs.Rings.{ring_count};
-ghost use Rattle.login_core.specs.inner.Facts.{StandFor, StandForFew, table};
+ghost use Rattle.login_core.specs.inner.Facts.{StandFor, StandsForFew, TablesStand, table};
+ghost use Rattle.login_core.specs.inner.Owing.{owed};
+ghost use Rattle.login_core.specs.inner.Sums.{sum_in};
 ghost use Rattle.login_core.specs.inner.Holding.{AreSuch};
 
 use crate::board::hearing::settle;
 use crate::board::holding::{Holding, Holdings, holding_in};
+use crate::board::owing::{Dues, Owing, Touched, taker_in};
 use crate::room::counts::Counts;
 use controller::Controller;
 use device_model::DeviceModel;
@@ -35,8 +38,8 @@ use std::marker::Model;
 use users_linger::UsersLinger;
 
 /// The facts, how many there are of what needs room, the numbers of the next session, the next handle and the next
-/// lock, and what each connection has. They stand for the marks whose settings were put in. With the devices stands
-/// what handles hear of them.
+/// lock, what each connection has, and what its end makes. They stand for the marks whose settings were put in. With the
+/// devices stands what handles hear of them.
 #[derive(Drop)]
 pub struct Facts {
     users: UsersLinger,
@@ -52,11 +55,12 @@ pub struct Facts {
     handle: u32,
     lock: u32,
     holdings: Holdings,
+    owing: Owing,
     spare: usize,
 }
 
 impl Model for Facts {
-    ghost use Rattle.std.specs.Prelude.{◌≤◌};
+    ghost use Rattle.std.specs.Prelude.{◌≤◌, ◌*◌};
     ghost use Rattle.login_core.specs.inner.Facts.{Tables};
 
     ghost Value = { Tables };
@@ -77,10 +81,11 @@ impl Model for Facts {
       handle = f.handle;
       lock = f.lock;
       held = f.holdings.list;
+      owing = f.owing;
       spare = f.spare;
     } };
 
-    ghost invariant = { λ f. (f.spare ≤ f.users.spare) × (f.spare ≤ f.sessions.spare) × (f.spare ≤ f.seats.spare) × (f.spare ≤ f.devices.spare) × (f.spare ≤ f.controls.spare) × (f.spare ≤ f.takes.spare) × (f.spare ≤ f.locks.spare) × (f.spare ≤ f.power.spare) × (f.spare ≤ f.holdings.spare) };
+    ghost invariant = { λ f. (f.spare ≤ f.users.spare) × (f.spare ≤ f.sessions.spare) × (f.spare ≤ f.seats.spare) × (f.spare ≤ f.devices.spare) × (f.spare ≤ f.controls.spare) × (f.spare ≤ f.takes.spare) × (f.spare ≤ f.locks.spare) × (f.spare ≤ f.power.spare) × (f.spare ≤ f.holdings.spare) × (4 * f.spare ≤ f.owing.marks.spare) × (f.spare ≤ f.owing.taken.spare) };
 }
 
 #[tactic(auto, unfolding(crate::specs::inner::Facts::StandFor))]
@@ -104,12 +109,14 @@ impl Facts {
             handle: 1,
             lock: 1,
             holdings: Holdings::new(alloc),
+            owing: Owing::new(alloc),
             spare: 0,
         }
     }
 
     /// Makes room for so many more settings.
     pub fn reserve(&mut self, more: usize) -> Result<(), NoMemory>
+        requires { more < 2 ^ 32 }
         ensures ok { OnOk result (more ≤ self.new.spare) }
         ensures stands { (t : Trail) → StandFor self.old t → StandFor self.new t }
         ensures spare { self.old.spare ≤ self.new.spare }
@@ -128,6 +135,7 @@ impl Facts {
         self.locks.room(more)?;
         self.power.room(more)?;
         self.holdings.reserve(more)?;
+        self.owing.reserve(more)?;
         self.spare = more;
         Ok(())
     }
@@ -160,23 +168,31 @@ impl Facts {
         }
     }
 
-    /// The fact of the last setting of a key, or the fact at the start.
-    pub fn fact(&self, key: &Key) -> &Fact
-        ensures { (t : Trail) → StandFor self.now t → result.now ≡ value t key.now }
+    /// The fact under a key in its table.
+    pub fn read(&self, key: &Key) -> &Fact
+        ensures { (t : Trail) → TablesStand self.now t → result.now ≡ value t key.now }
     {
         self.fact_in(Home::of(key), key)
     }
 
-    /// Puts a setting in. It takes no memory.
-    pub fn set(&mut self, key: Key, fact: Fact)
+    /// The fact of the last setting of a key, or the fact at the start.
+    pub fn fact(&self, key: &Key) -> &Fact
+        ensures { (t : Trail) → StandFor self.now t → result.now ≡ value t key.now }
+    {
+        self.read(key)
+    }
+
+    /// Puts a setting in the tables.
+    fn put_in(&mut self, key: Key, fact: Fact)
         requires spare { 0 < self.old.spare }
-        requires few { StandForFew self.old }
-        ensures stands { (t : Trail) → StandFor self.old t → StandFor self.new (Set key fact ∷ t) }
+        requires few { StandsForFew TablesStand self.old }
+        ensures stands { (t : Trail) → TablesStand self.old t → TablesStand self.new (Set key fact ∷ t) }
         ensures spare { self.old.spare ≡ self.new.spare + 1 }
+        ensures owing { self.new.owing ≡ self.old.owing }
         ensures ears { self.new.ears ≡ self.old.ears }
         ensures rings { self.new.rings ≡ self.old.rings }
     {
-        let before = self.fact(&key);
+        let before = self.read(&key);
         let lost = Counts::of(&key, before);
         let lost_thing = holding_in(&key, before);
         let gained = Counts::of(&key, &fact);
@@ -196,6 +212,42 @@ impl Facts {
             Home::Locks => self.locks.set(key, fact),
             Home::Power => self.power.set(key, fact),
         }
+    }
+
+    /// Puts a setting in. It takes no memory.
+    pub fn set(&mut self, key: Key, fact: Fact)
+        requires spare { 0 < self.old.spare }
+        requires few { StandsForFew StandFor self.old }
+        ensures stands { (t : Trail) → StandFor self.old t → StandFor self.new (Set key fact ∷ t) }
+        ensures spare { self.old.spare ≡ self.new.spare + 1 }
+        ensures ears { self.new.ears ≡ self.old.ears }
+        ensures rings { self.new.rings ≡ self.old.rings }
+    {
+        let before = self.fact(&key);
+        let touched = Touched::by(&key, before, &fact);
+        let lost_taker = taker_in(&key, before);
+        let taker = taker_in(&key, &fact);
+        let lost = Dues::of(self, touched);
+        self.owing.lose(lost);
+        self.put_in(key, fact);
+        self.owing.shift(lost_taker, taker);
+        let gained = Dues::of(self, touched);
+        self.owing.gain(gained);
+    }
+
+    /// How many devices a session has taken.
+    pub fn taken_by(&self, session: SessId) -> u32
+        requires { sum_in self.now.owing.taken.items session.0 < 2 ^ 32 }
+        ensures { result ≡ sum_in self.now.owing.taken.items session.0 }
+    {
+        self.owing.taken.of(session.0) as u32
+    }
+
+    /// The marks that the end of a connection makes for its sessions and its locks.
+    pub fn owed(&self, who: ConnId) -> u64
+        ensures { (t : Trail) → StandFor self.now t → result ≡ owed t who }
+    {
+        self.owing.marks.of(who.0)
     }
 
     /// How many there are of what needs room.

@@ -12,9 +12,11 @@ ghost use Rattle.login_model.specs.declared.fact.Key.TheVariants.{Lock};
 ghost use Rattle.login_model.proofs.Keys.{both};
 ghost use Rattle.login_model.proofs.InOrder.{Enumerates, enumerated, locks-enumerated, sessions-enumerated, taken-enumerated};
 ghost use Rattle.login_laws.proofs.Grows.{Grows};
+ghost use Rattle.login_laws.specs.Sound.{Fifos};
 ghost use Rattle.login_table.specs.Listed.{is_there, listed};
 ghost use Rattle.login_core.specs.inner.Chosen.{is_chosen};
-ghost use Rattle.login_core.specs.inner.Rounds.{SparesAbove};
+ghost use Rattle.login_core.specs.inner.Ending.{is_kept_open_by};
+ghost use Rattle.login_core.specs.inner.Rounds.{SparesAbove, StaysSuited};
 ghost use Rattle.login_core.specs.inner.Draft.{marked_by, Fits};
 
 use crate::board::Draft;
@@ -32,8 +34,12 @@ pub trait Choice<N> {
     /// They and others, ascending.
     ghost among: { Self → Trail → List N };
 
+    /// What has to hold of the marks so far for the next to be told.
+    ghost suits: { Self → Trail → Type 0 } = { λ c t. Unit {0} };
+
     /// The next of them.
     fn next(&self, draft: &Draft, above: Option<N>) -> Option<N>
+        requires { suits self.now draft.now.trail }
         ensures { IsNext lt (is_in self.now draft.now.trail) above result };
 
     ghost whole: { (c : Self) (t : Trail) → Enumerates lt (is_in c t) (among c t) };
@@ -43,10 +49,16 @@ pub trait Choice<N> {
 pub trait Task<N> {
     ghost does: { Self → N → Trail → Trail };
 
+    /// Whether what it keeps agrees with the marks so far.
+    ghost agrees: { Self → Trail → Type 0 } = { λ x t. Unit {0} };
+
     /// Does it with one name.
-    fn run(&self, draft: &mut Draft, name: N)
-        requires room { Fits (does self.now name) draft.old }
-        ensures marked { draft.new ≡ marked_by (does self.now name) draft.old };
+    fn run(&mut self, draft: &mut Draft, name: N)
+        requires room { Fits (does self.old name) draft.old }
+        requires agrees { agrees self.old draft.old.trail }
+        ensures marked { draft.new ≡ marked_by (does self.old name) draft.old }
+        ensures same { does self.new ≡ does self.old }
+        ensures agrees { agrees self.new draft.new.trail };
 
     ghost adds: { (x : Self) (n : N) (t : Trail) → Grows t (does x n t) };
 }
@@ -125,6 +137,36 @@ impl Choice<SessId> for ControlledBy {
     }
 }
 
+/// The open sessions whose fifos a connection holds.
+#[derive(Drop)]
+pub struct KeptOpenBy(pub ConnId);
+
+impl Choice<SessId> for KeptOpenBy {
+    ghost lt = { session_lt };
+
+    ghost is_in = { λ c t s. is_chosen (is_session t) (is_kept_open_by c.0 t) s };
+
+    ghost among = { λ c t. names session_lt session_in t };
+
+    ghost suits = { λ c t. Fifos t };
+
+    ghost whole = { λ c t. (
+        let all = sessions-enumerated t in
+        record {
+          order = all.order;
+          ascending = all.ascending;
+          complete = λ s e. all.complete s (both (is_session t s) (is_kept_open_by c.0 t s) e).0;
+        }
+        ) };
+
+    fn next(&self, draft: &Draft, above: Option<SessId>) -> Option<SessId>
+        requires { Fifos draft.now.trail }
+        ensures { IsNext session_lt (is_chosen (is_session draft.now.trail) (is_kept_open_by self.now.0 draft.now.trail)) above result }
+    {
+        draft.next_kept_open(self.0, above)
+    }
+}
+
 /// The locks of a connection.
 #[derive(Drop)]
 pub struct HeldBy(pub ConnId);
@@ -180,11 +222,16 @@ impl<N: Listed, T: Test<N> + Drop> Choice<N> for ThatMeet<T> {
 }
 
 impl Draft {
-    /// A task is done with each name of a choice, in order. It leaves those above a name in the choice.
-    pub fn for_each<N: Copy, C: Choice<N>, X: Task<N>>(&mut self, choice: &C, task: &X)
-        requires spares { SparesAbove C.lt (C.is_in choice.now) (X.does task.now) }
-        requires room { Fits (λ t. each (X.does task.now) (filter (C.is_in choice.now t) (C.among choice.now t)) t) self.old }
-        ensures marked { self.new ≡ marked_by (λ t. each (X.does task.now) (filter (C.is_in choice.now t) (C.among choice.now t)) t) self.old }
+    /// A task is done with each name of a choice, in order. It leaves those above a name in the choice, and what the
+    /// choice rests on.
+    pub fn for_each<N: Copy, C: Choice<N>, X: Task<N>>(&mut self, choice: &C, task: &mut X)
+        requires spares { SparesAbove C.lt (C.is_in choice.now) (X.does task.old) }
+        requires stays { StaysSuited (C.suits choice.now) (X.does task.old) }
+        requires suits { C.suits choice.now self.old.trail }
+        requires agrees { X.agrees task.old self.old.trail }
+        requires room { Fits (λ t. each (X.does task.old) (filter (C.is_in choice.now t) (C.among choice.now t)) t) self.old }
+        ensures marked { self.new ≡ marked_by (λ t. each (X.does task.old) (filter (C.is_in choice.now t) (C.among choice.now t)) t) self.old }
+        ensures agrees { X.agrees task.new self.new.trail }
     {
         let mut above = None;
         while let Some(name) = choice.next(self, above) {
@@ -194,10 +241,12 @@ impl Draft {
     }
 
     /// A task is done with each name of a kind that is there and meets a test, in order.
-    pub fn for_each_that<N: Listed, T: Test<N> + Drop, X: Task<N>>(&mut self, test: T, task: &X)
-        requires spares { SparesAbove N.lt (λ t. is_chosen (is_there N.key_of N.is_fact t) (T.meets test t)) (X.does task.now) }
-        requires room { Fits (λ t. each (X.does task.now) (filter (T.meets test t) (listed N.lt N.name_in N.key_of N.is_fact N.first t)) t) self.old }
-        ensures marked { self.new ≡ marked_by (λ t. each (X.does task.now) (filter (T.meets test t) (listed N.lt N.name_in N.key_of N.is_fact N.first t)) t) self.old }
+    pub fn for_each_that<N: Listed, T: Test<N> + Drop, X: Task<N>>(&mut self, test: T, task: &mut X)
+        requires spares { SparesAbove N.lt (λ t. is_chosen (is_there N.key_of N.is_fact t) (T.meets test t)) (X.does task.old) }
+        requires agrees { X.agrees task.old self.old.trail }
+        requires room { Fits (λ t. each (X.does task.old) (filter (T.meets test t) (listed N.lt N.name_in N.key_of N.is_fact N.first t)) t) self.old }
+        ensures marked { self.new ≡ marked_by (λ t. each (X.does task.old) (filter (T.meets test t) (listed N.lt N.name_in N.key_of N.is_fact N.first t)) t) self.old }
+        ensures agrees { X.agrees task.new self.new.trail }
     {
         self.for_each(&ThatMeet(test), task);
     }

@@ -26,7 +26,7 @@ impl Task<SessId> for Release {
 
     ghost adds = { λ x s t. release-grows s t };
 
-    fn run(&self, draft: &mut Draft, session: SessId) {
+    fn run(&mut self, draft: &mut Draft, session: SessId) {
         draft.release(session);
     }
 }
@@ -40,7 +40,7 @@ impl Task<LockNo> for DropLock {
 
     ghost adds = { λ x l t. put-grows (Lock l) Absent t };
 
-    fn run(&self, draft: &mut Draft, lock: LockNo) {
+    fn run(&mut self, draft: &mut Draft, lock: LockNo) {
         draft.put_absent(Key::Lock(lock));
     }
 }
@@ -52,7 +52,7 @@ impl Draft {
         requires room { Fits (λ t. each release (controlled_by t who) t) self.old }
         ensures marked { self.new ≡ marked_by (λ t. each release (controlled_by t who) t) self.old }
     {
-        self.for_each(&ControlledBy(who), &Release);
+        self.for_each(&ControlledBy(who), &mut Release);
     }
 
     /// The locks of a connection are gone.
@@ -60,7 +60,7 @@ impl Draft {
         requires room { Fits (unlock who) self.old }
         ensures marked { self.new ≡ marked_by (unlock who) self.old }
     {
-        self.for_each(&HeldBy(who), &DropLock);
+        self.for_each(&HeldBy(who), &mut DropLock);
     }
 
     /// A connection ends: it gives back what it controls, the sessions that it keeps open are shut, and

@@ -44,7 +44,7 @@ impl Task<Uid> for Forget {
 
     ghost adds = { λ x u t. forget-grows u t };
 
-    fn run(&self, draft: &mut Draft, user: Uid) {
+    fn run(&mut self, draft: &mut Draft, user: Uid) {
         draft.forget(user);
     }
 }
@@ -142,7 +142,7 @@ impl Draft {
         requires room { Fits (λ t. each forget (overdue setup.now t moment) t) self.old }
         ensures marked { self.new ≡ marked_by (λ t. each forget (overdue setup.now t moment) t) self.old }
     {
-        self.for_each_that(Overdue { setup, moment }, &Forget);
+        self.for_each_that(Overdue { setup, moment }, &mut Forget);
     }
 
     /// The clock stands at a moment.

@@ -28,7 +28,7 @@ impl Task<SessId> for LockScreen {
 
     ghost adds = { λ x s t. tell_all-grows (Lock s) t };
 
-    fn run(&self, draft: &mut Draft, session: SessId) {
+    fn run(&mut self, draft: &mut Draft, session: SessId) {
         draft.lock_session(session);
     }
 }
@@ -42,7 +42,7 @@ impl Task<SessId> for UnlockScreen {
 
     ghost adds = { λ x s t. tell_all-grows (Unlock s) t };
 
-    fn run(&self, draft: &mut Draft, session: SessId) {
+    fn run(&mut self, draft: &mut Draft, session: SessId) {
         draft.unlock_session(session);
     }
 }
@@ -56,7 +56,7 @@ impl Task<SessId> for SignalAll {
 
     ghost adds = { λ x s t. put-grows (Sig s) (Signal All x.0) t };
 
-    fn run(&self, draft: &mut Draft, session: SessId) {
+    fn run(&mut self, draft: &mut Draft, session: SessId) {
         draft.put_signal(session, KillWhom::All, self.0);
     }
 }
@@ -69,7 +69,7 @@ impl Draft {
         requires room { Fits (λ t. each lock_session (open_sessions t) t) self.old }
         ensures marked { self.new ≡ marked_by (λ t. each lock_session (open_sessions t) t) self.old }
     {
-        self.for_each_that(IsOpen, &LockScreen);
+        self.for_each_that(IsOpen, &mut LockScreen);
     }
 
     /// The screens of all open sessions are to be unlocked.
@@ -78,7 +78,7 @@ impl Draft {
         requires room { Fits (λ t. each unlock_session (open_sessions t) t) self.old }
         ensures marked { self.new ≡ marked_by (λ t. each unlock_session (open_sessions t) t) self.old }
     {
-        self.for_each_that(IsOpen, &UnlockScreen);
+        self.for_each_that(IsOpen, &mut UnlockScreen);
     }
 
     /// A signal is sent to processes of a session.
@@ -99,7 +99,7 @@ impl Draft {
         requires room { Fits (λ t. each (λ (s : SessionId) (t : Trail). put (Key.Sig s) (Fact.Signal KillWhom.All signal) t) (sessions_of t user.0) t) self.old }
         ensures marked { self.new ≡ marked_by (λ t. each (λ (s : SessionId) (t : Trail). put (Key.Sig s) (Fact.Signal KillWhom.All signal) t) (sessions_of t user.0) t) self.old }
     {
-        self.for_each_that(OfUser(user), &SignalAll(signal));
+        self.for_each_that(OfUser(user), &mut SignalAll(signal));
     }
 
     /// A session says whether it is idle.

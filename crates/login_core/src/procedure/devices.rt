@@ -27,7 +27,7 @@ impl Task<SessId> for RevokeFrom {
 
     ghost adds = { λ x s t. revoke-grows s x.0 t };
 
-    fn run(&self, draft: &mut Draft, session: SessId) {
+    fn run(&mut self, draft: &mut Draft, session: SessId) {
         draft.revoke(session, self.0);
     }
 }
@@ -73,7 +73,7 @@ impl Draft {
         requires room { Fits (λ t. each (λ s u. revoke s device u) (takers t device) t) self.old }
         ensures marked { self.new ≡ marked_by (λ t. each (λ s u. revoke s device u) (takers t device) t) self.old }
     {
-        self.for_each(&TakersOf(device), &RevokeFrom(device));
+        self.for_each(&TakersOf(device), &mut RevokeFrom(device));
     }
 
     /// A device is absent, and so it is from sessions.

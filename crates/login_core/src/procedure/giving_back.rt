@@ -20,7 +20,7 @@ impl Task<DevNo> for Untake {
 
     ghost adds = { λ x d t. untake-grows x.0 d t };
 
-    fn run(&self, draft: &mut Draft, device: DevNo) {
+    fn run(&mut self, draft: &mut Draft, device: DevNo) {
         draft.untake(self.0, device);
     }
 }
@@ -34,7 +34,7 @@ impl Task<DevNo> for Revoke {
 
     ghost adds = { λ x d t. revoke-grows x.0 d t };
 
-    fn run(&self, draft: &mut Draft, device: DevNo) {
+    fn run(&mut self, draft: &mut Draft, device: DevNo) {
         draft.revoke(self.0, device);
     }
 }
@@ -47,7 +47,7 @@ impl Draft {
         requires room { Fits (release session) self.old }
         ensures marked { self.new ≡ marked_by (release session) self.old }
     {
-        self.for_each(&TakenBy(session), &Untake(session));
+        self.for_each(&TakenBy(session), &mut Untake(session));
         self.put_absent(Key::Ctl(session));
     }
 
@@ -67,7 +67,7 @@ impl Draft {
         requires room { Fits (oust session who) self.old }
         ensures marked { self.new ≡ marked_by (oust session who) self.old }
     {
-        self.for_each(&TakenBy(session), &Revoke(session));
+        self.for_each(&TakenBy(session), &mut Revoke(session));
         self.put_controller(session, who);
     }
 }

@@ -1,6 +1,8 @@
 // How many there are of what needs room or has a limit.
 
 ghost use Rattle.std.specs.Prelude.{◌≡◌, ◌+◌, ◌<◌, ◌≤◌, ◌^◌};
+ghost use Rattle.login_laws.specs.Need.{most_marks};
+ghost use Rattle.login_laws.specs.Shares.{most_share_rise};
 ghost use Rattle.login_model.specs.Full.{marks_needed};
 ghost use Rattle.login_model.specs.Trail.{Trail};
 ghost use Rattle.login_core.specs.inner.Counts.{AreCounted, CanAllMove, Follow, HoldersAreThere, counts_of, one_if};
@@ -9,6 +11,12 @@ use login_model::{Fact, Key};
 
 /// What is kept for marks beside the sums over what stands.
 const MARKS_IN_RESERVE: u64 = 64;
+
+/// The most marks of an event beside those of what stands.
+const MARKS_BESIDE: u64 = 32;
+
+/// By how many marks an event may raise those of a connection's end, beside those of devices.
+const SHARE_BESIDE: u64 = 12;
 
 /// How many there are of what needs room in the journal or has a limit.
 #[derive(Clone, Copy)]
@@ -113,6 +121,24 @@ impl Counts {
             taken: moved(self.taken, lost.taken, gained.taken),
             users: moved(self.users, lost.users, gained.users),
         }
+    }
+
+    /// The most marks that an event makes which is no end.
+    pub fn most_marks(self) -> u64
+        ensures { (t : Trail) → AreCounted self t → HoldersAreThere t → result ≡ most_marks t }
+    {
+        12 * u64::from(self.taken)
+            + 8 * u64::from(self.present)
+            + 4 * u64::from(self.users)
+            + MARKS_BESIDE
+    }
+
+    /// The most marks by which an event raises those of a connection's end.
+    pub fn most_share_rise(self) -> u64
+        ensures value { (t : Trail) → AreCounted self t → HoldersAreThere t → result ≡ most_share_rise t }
+        ensures bound { result < 2 ^ 35 }
+    {
+        4 * u64::from(self.taken) + SHARE_BESIDE
     }
 
     /// The marks with those that an event and all ends may make.

@@ -12,7 +12,7 @@ ghost use Rattle.login_core.specs.Fullness.{always_fits};
 ghost use Rattle.login_core.specs.inner.Fullness.{connected_by, full_by};
 
 use crate::room::counts::Counts;
-use login_model::{Count, Event, Verdict};
+use login_model::{Event, Fullness, Verdict};
 
 /// The most entries of a journal.
 const MOST_ENTRIES: u64 = 200_000;
@@ -61,16 +61,16 @@ fn full_by(
     marks: u32,
     event: &Event,
     verdict: Verdict,
-) -> Option<Count>
+) -> Option<Fullness>
     ensures { (t : Trail) → AreCounted counts t → HoldersAreThere t → result ≡ full_by verdict t entries marks event.now }
 {
     let entries = u64::from(entries) + connected_after(counts, event, verdict) + 2;
     if entries > MOST_ENTRIES {
-        return Some(Count::Entries(entries));
+        return Some(Fullness::Entries(entries));
     }
     let marks = counts.marks_needed(marks);
     if marks > MOST_MARKS {
-        return Some(Count::Marks(marks));
+        return Some(Fullness::Marks(marks));
     }
     None
 }
@@ -83,7 +83,7 @@ pub fn full(
     marks: u32,
     event: &Event,
     verdict: Verdict,
-) -> Option<Count>
+) -> Option<Fullness>
     ensures { (U : Setup) (before : List Entry) → AreCounted counts (trail_of before) → HoldersAreThere (trail_of before) → length before ≡ entries → mark_count before ≡ marks → verdict ≡ policy_verdict U (trail_of before) event.now → result ≡ full U before event.now }
 {
     if always_fits(event) {

@@ -1,101 +1,65 @@
 // The journal, and the room that is kept for its next entries.
 
-ghost use Rattle.std.specs.Prelude.{◌≡◌, ◌+◌, ◌*◌, ◌<◌, ◌≤◌, ◌^◌, ◌-◌, ◌++◌, [], ◌∷◌, OnOk, IfOk, length, ℕ};
-ghost use Rattle.login_core.specs.inner.Ledger.{HaveShares};
+ghost use Rattle.std.specs.Prelude.{◌≡◌, ◌==◌, ◌+◌, ◌<◌, ◌≤◌, ◌^◌, ◌++◌, [], ◌∷◌, false, length, IfOk, OnOk};
+ghost use Rattle.login_base.specs.declared.ids.ConnId.{ConnId as AnyConnection};
+ghost use Rattle.login_core.specs.inner.Ledger.{end_room, next_room, with_entries};
 ghost use Rattle.login_core.specs.inner.UnderWay.{entry_of};
 
-use login_base::{NoMemory, Reserved};
+use crate::board::with_more;
+use indexmap::IndexMap;
+use login_base::{ConnId, NoMemory, Reserved};
 use login_model::{Answer, Entry, Event, Journal, Mark, Verdict};
 use std::alloc::Global;
 use std::marker::Model;
 use std::mem;
 
-/// The journal, with room for more entries, and for so many marks as these may have in all. Some entries are
-/// made without memory, so lists for their marks are made beforehand. The list of the entry under way is the
-/// first of them and has room for all of these marks; the n-th has room for an n-th part, since no more than n
-/// entries can have so many. So whatever each of them has, a list is left that has room for it. The marks of
-/// the oldest entries, so many as are trimmed, are in memory of their size; the others have lists that will be
-/// those of later entries.
+/// The journal, with room for more entries. The entry of a connection's end is made without memory, so each connection
+/// has an empty list for its marks. The marks of the oldest entries, so many as are trimmed, are in memory of their
+/// size; those of the others are in the lists that they were made in.
 #[derive(Drop)]
 pub struct Ledger {
     journal: Journal,
-    /// The lists behind the first, the widest first.
-    blanks: Vec<Reserved<Mark>>,
+    /// For how many more entries there is room.
+    entries: u32,
+    /// By the numbers of their connections, in a hash table: a connection that ends costs the others nothing.
+    ends: IndexMap<u32, Reserved<Mark>>,
+    /// The list of the connection that comes next.
+    next_end: Reserved<Mark>,
     trimmed: usize,
     alloc: Global,
-    marks: u32,
 }
 
 impl Model for Ledger {
     ghost use Rattle.std.specs.Prelude.{length};
+    ghost use Rattle.indexmap.specs.IndexMap.{spare};
     ghost use Rattle.login_core.specs.inner.Ledger.{LedgerState, IsLedger};
 
     ghost Value = { LedgerState };
 
-    ghost view = { λ l. record { items = l.journal.items; entries = length l.blanks.items; marks = l.marks } };
+    ghost view = { λ l. record {
+      items = l.journal.items;
+      entries = l.entries;
+      ends = l.ends.entries;
+      next_end = l.next_end;
+      ends_spare = spare l.ends;
+    } };
 
-    ghost invariant = { λ l. IsLedger l.marks l.journal.spare l.trimmed (length l.journal.items) l.blanks.items };
+    ghost invariant = { λ l. IsLedger l.entries l.journal.spare l.trimmed (length l.journal.items) l.ends.entries l.next_end };
 }
 
-/// The last of so many places whose part of the marks is no less than those of an entry, counted from 1.
-fn place_for(made: usize, marks: usize, places: usize) -> usize
-    requires some { 0 < places }
-    requires within { made ≤ marks }
-    ensures first { 0 < result }
-    ensures there { result ≤ places }
-    ensures fits { result * made ≤ marks }
-    ensures last { result < places → marks < (result + 1) * made }
+/// Of two empty lists the wider is kept.
+fn keep_wider(kept: &mut Reserved<Mark>, list: Reserved<Mark>)
+    requires empty { list.items ≡ [] }
+    requires kept_empty { kept.old.items ≡ [] }
+    ensures empty { kept.new.items ≡ [] }
+    ensures kept { kept.old.spare ≤ kept.new.spare }
+    ensures list { list.spare ≤ kept.new.spare }
 {
-    match marks.checked_div(made) {
-        Some(place) => place.min(places),
-        None => places,
+    if kept.spare() < list.spare() {
+        drop(mem::replace(kept, list));
+    } else {
+        drop(list);
     }
-}
-
-/// Each of these lists, which begin with the second, gets room for its part of so many marks. What there is
-/// room for already stays.
-fn widen_each(blanks: &mut [Reserved<Mark>], marks: u32) -> Result<(), NoMemory>
-    ensures len { length blanks.new ≡ length blanks.old }
-    ensures keeps { (n : ℕ) → HaveShares n 2 blanks.old → HaveShares n 2 blanks.new }
-    ensures wider { OnOk result (HaveShares 0 2 blanks.old → HaveShares marks 2 blanks.new) }
-{
-    for (i, blank) in blanks.iter_mut().enumerate() {
-        blank.reserve(marks as usize / (i + 2))?;
-    }
-    Ok(())
-}
-
-/// Where a list is put among others, so that the widest come first.
-fn place_of(blanks: &[Reserved<Mark>], blank: &Reserved<Mark>) -> usize
-    ensures { result ≤ length blanks.now }
-{
-    let spare = blank.spare();
-    blanks.partition_point(|other: &Reserved<Mark>| -> bool { spare < other.spare() })
-}
-
-/// A list with the marks of an entry: the last that has room for them as its part of so many, or the one that
-/// they are in, where no other has. Then the widest comes in its place. It takes no memory.
-fn take_list(
-    blanks: &mut Vec<Reserved<Mark>>,
-    all: u32,
-    marks: &mut Reserved<Mark>,
-) -> Reserved<Mark>
-    requires some { 0 < length blanks.old.items }
-    requires within { length marks.old.items ≤ all }
-    requires shares { HaveShares all 2 blanks.old.items }
-    ensures fewer { length blanks.new.items + 1 ≡ length blanks.old.items }
-    ensures shares { HaveShares (all - length marks.old.items) 2 blanks.new.items }
-    ensures taken { result.items ≡ marks.old.items }
-    ensures empty { marks.new.items ≡ [] }
-    ensures room { (n : ℕ) → n + length marks.old.items ≤ all → n ≤ length marks.old.items + marks.old.spare → n ≤ marks.new.spare }
-{
-    let place = place_for(marks.len(), all as usize, blanks.len() + 1);
-    if place == 1 {
-        return mem::replace(marks, blanks.remove(0));
-    }
-    let mut list = blanks.remove(place - 2);
-    list.append(marks);
-    list
 }
 
 impl Ledger {
@@ -103,14 +67,15 @@ impl Ledger {
     pub fn new(alloc: Global) -> Ledger
         ensures items { result.items ≡ [] }
         ensures entries { result.entries ≡ 0 }
-        ensures marks { result.marks ≡ 0 }
+        ensures ends { (c : AnyConnection) → end_room result c ≡ 0 }
     {
         Ledger {
             journal: Journal::new(alloc),
-            blanks: Vec::new(alloc),
+            entries: 0,
+            ends: IndexMap::new(alloc),
+            next_end: Reserved::new(alloc),
             trimmed: 0,
             alloc,
-            marks: 0,
         }
     }
 
@@ -121,92 +86,114 @@ impl Ledger {
         &self.journal
     }
 
-    /// Each of the lists gets room for its part of so many marks.
-    fn widen(&mut self, marks: u32) -> Result<(), NoMemory>
-        ensures marks { OnOk result (marks ≤ self.new.marks) }
-        ensures keeps_marks { self.old.marks ≤ self.new.marks }
-        ensures items { self.new.items ≡ self.old.items }
-        ensures entries { self.new.entries ≡ self.old.entries }
-    {
-        if marks <= self.marks {
-            return Ok(());
-        }
-        widen_each(&mut self.blanks, marks)?;
-        self.marks = marks;
-        Ok(())
-    }
-
-    /// An empty list: that of the oldest entry which isn't trimmed, or a new one.
-    fn blank(&mut self) -> Result<Reserved<Mark>, NoMemory>
-        ensures items { self.new.items ≡ self.old.items }
-        ensures entries { self.new.entries ≡ self.old.entries }
-        ensures marks { self.new.marks ≡ self.old.marks }
-        ensures empty { IfOk result (λ blank. blank.items ≡ []) }
-    {
-        if self.trimmed == self.journal.len() {
-            return Ok(Reserved::new(self.alloc));
-        }
-        let blank = self.journal.trim(self.trimmed, self.alloc)?;
-        self.trimmed += 1;
-        Ok(blank)
-    }
-
-    /// Another empty list of marks, with room for its part.
-    fn add_blank(&mut self) -> Result<(), NoMemory>
-        ensures items { self.new.items ≡ self.old.items }
-        ensures marks { self.new.marks ≡ self.old.marks }
-        ensures keeps { self.old.entries ≤ self.new.entries }
-        ensures more { OnOk result (self.new.entries ≡ self.old.entries + 1) }
-    {
-        let mut blank = self.blank()?;
-        let place = place_of(&self.blanks, &blank);
-        blank.reserve(self.marks as usize / (place + 2))?;
-        self.journal.reserve(self.blanks.len() + 1)?;
-        self.blanks.insert(place, blank)?;
-        Ok(())
-    }
-
-    /// Makes room for so many more entries, and for so many marks as all of them may have. What there is room
-    /// for already stays.
-    pub fn reserve(&mut self, entries: u32, marks: u32) -> Result<(), NoMemory>
+    /// Makes room for so many more entries. What there is room for already stays.
+    pub fn reserve_entries(&mut self, entries: u32) -> Result<(), NoMemory>
         ensures entries { OnOk result (entries ≤ self.new.entries) }
-        ensures marks { OnOk result (marks ≤ self.new.marks) }
-        ensures keeps_entries { self.old.entries ≤ self.new.entries }
-        ensures keeps_marks { self.old.marks ≤ self.new.marks }
-        ensures items { self.new.items ≡ self.old.items }
+        ensures keeps { self.old.entries ≤ self.new.entries }
+        ensures rest { self.new ≡ with_entries self.new.entries self.old }
     {
-        self.widen(marks)?;
-        while self.blanks.len() < entries as usize {
-            self.add_blank()?;
+        self.journal.reserve(entries as usize)?;
+        self.entries = self.entries.max(entries);
+        Ok(())
+    }
+
+    /// Puts the marks of the next entry that isn't trimmed, which is the one with the number `entry + 1`, in memory of
+    /// their size. The answer is the list that they had.
+    fn trim_entry(&mut self, entry: usize) -> Result<Reserved<Mark>, NoMemory>
+        requires there { entry < length self.old.items }
+        requires numbered { entry + 1 < 2 ^ 64 }
+        ensures same { self.new ≡ self.old }
+        ensures empty { IfOk result (λ list. list.items ≡ []) }
+    {
+        let list = self.journal.trim(entry, self.alloc)?;
+        self.trimmed = entry + 1;
+        Ok(list)
+    }
+
+    /// Puts the marks of closed entries in memory of their size. The widest list that comes free so takes the place
+    /// of this one, if that is narrower.
+    pub fn trim(&mut self, widest: &mut Reserved<Mark>) -> Result<(), NoMemory>
+        requires { widest.old.items ≡ [] }
+        ensures empty { widest.new.items ≡ [] }
+        ensures spare { widest.old.spare ≤ widest.new.spare }
+        ensures same { self.new ≡ self.old }
+    {
+        for entry in self.trimmed..self.journal.len() {
+            keep_wider(widest, self.trim_entry(entry)?);
         }
         Ok(())
     }
 
-    /// Puts an entry with these marks at the end, and leaves an empty list, with room for the marks of the
-    /// entries to come, as far as there was. It takes no memory.
-    pub fn close(
-        &mut self,
-        event: Event,
-        verdict: Verdict,
-        answer: Answer,
-        marks: &mut Reserved<Mark>,
-    )
-        requires entries { 0 < self.old.entries }
-        requires within { length marks.old.items ≤ self.old.marks }
-        ensures items { self.new.items ≡ self.old.items ++ entry_of event verdict answer marks.old.items ∷ [] }
-        ensures entries { self.new.entries + 1 ≡ self.old.entries }
-        ensures fewer { self.new.marks + length marks.old.items ≡ self.old.marks }
-        ensures empty { marks.new.items ≡ [] }
-        ensures room { (n : ℕ) → n ≤ self.new.marks → n ≤ length marks.old.items + marks.old.spare → n ≤ marks.new.spare }
+    /// Makes room for so many marks at the end of a connection. One that has no list gets none.
+    pub fn reserve_end(&mut self, who: ConnId, marks: u64) -> Result<(), NoMemory>
+        ensures room { OnOk result (0 < end_room self.old who → marks ≤ end_room self.new who) }
+        ensures keeps { (c : AnyConnection) → end_room self.old c ≤ end_room self.new c }
+        ensures next { next_room self.new ≡ next_room self.old }
+        ensures items { self.new.items ≡ self.old.items }
+        ensures entries { self.new.entries ≡ self.old.entries }
     {
-        let made = marks.len();
-        let list = take_list(&mut self.blanks, self.marks, marks);
-        self.marks -= made as u32;
+        let Some(list) = self.ends.get_mut(&who.0) else {
+            return Ok(());
+        };
+        list.reserve(with_more(marks as usize))
+    }
+
+    /// Makes room for one connection more, and for so many marks at its end.
+    pub fn prepare_end(&mut self, marks: u64) -> Result<(), NoMemory>
+        ensures room { OnOk result (marks ≤ next_room self.new) }
+        ensures keeps { next_room self.old ≤ next_room self.new }
+        ensures ends { (c : AnyConnection) → end_room self.new c ≡ end_room self.old c }
+        ensures items { self.new.items ≡ self.old.items }
+        ensures entries { self.new.entries ≡ self.old.entries }
+    {
+        self.ends.reserve(1)?;
+        self.next_end.reserve(with_more(marks as usize))
+    }
+
+    /// A connection gets the list that was made for the one that comes next. It takes no memory.
+    pub fn admit(&mut self, who: ConnId)
+        requires { 0 < next_room self.old }
+        ensures own { end_room self.new who ≡ next_room self.old }
+        ensures others { (c : AnyConnection) → (c.0 == who.0) ≡ false → end_room self.new c ≡ end_room self.old c }
+        ensures items { self.new.items ≡ self.old.items }
+        ensures entries { self.new.entries ≡ self.old.entries }
+    {
+        match self.ends.insert(who.0, self.next_end.take()) {
+            Ok(before) => drop(before),
+            Err(_) => unreachable!(),
+        }
+    }
+
+    /// Takes the list of a connection: an empty one, with the room that was made for its end. It takes no memory.
+    pub fn take_end(&mut self, who: ConnId) -> Reserved<Mark>
+        ensures empty { result.items ≡ [] }
+        ensures room { end_room self.old who ≤ result.spare }
+        ensures own { end_room self.new who ≡ 0 }
+        ensures others { (c : AnyConnection) → (c.0 == who.0) ≡ false → end_room self.new c ≡ end_room self.old c }
+        ensures next { next_room self.old ≤ next_room self.new }
+        ensures items { self.new.items ≡ self.old.items }
+        ensures entries { self.new.entries ≡ self.old.entries }
+    {
+        match self.ends.swap_remove(&who.0) {
+            Some(list) => list,
+            None => Reserved::new(self.alloc),
+        }
+    }
+
+    /// Puts an entry with these marks at the end. It takes no memory.
+    pub fn close(&mut self, event: Event, verdict: Verdict, answer: Answer, marks: Reserved<Mark>)
+        requires { 0 < self.old.entries }
+        ensures items { self.new.items ≡ self.old.items ++ entry_of event verdict answer marks.items ∷ [] }
+        ensures entries { self.new.entries + 1 ≡ self.old.entries }
+        ensures ends { (c : AnyConnection) → end_room self.new c ≡ end_room self.old c }
+        ensures next { next_room self.new ≡ next_room self.old }
+    {
+        self.entries -= 1;
         self.journal.push(Entry {
             event,
             verdict,
             answer,
-            marks: list.into_items(),
+            marks: marks.into_items(),
         });
     }
 }

@@ -1,24 +1,21 @@
-use Rattle.std.proofs.Common.{◌∙◌, List, length, ap, arith}
-use Rattle.login_base.specs.declared.ids.SessId.{SessId}
+use Rattle.std.proofs.Common.{◌∙◌, length, ap, arith}
 use Rattle.login_model.specs.Procedure.{each, shut}
-use Rattle.login_core.specs.inner.Draft.{with_trail}
-use Rattle.login_core.proofs.ShutLaws.{fifo-stays, fifos-shut, kept-list}
+use Rattle.login_core.specs.inner.Draft.{marked_by}
+use Rattle.login_core.proofs.ShutLaws.{fifo-above, fifos-shut, kept-chosen}
 use Rattle.login_core.proofs.board.Draft.end_sessions.Goals as goal
 
-pub shut_such-requires-clause-stays : goal.shut_such-requires-clause-stays
-shut_such-requires-clause-stays c = fifo-stays c.args.who
+pub for_each-requires-clause-spares : goal.for_each-requires-clause-spares
+for_each-requires-clause-spares c = fifo-above c.args.who
 
-pub shut_such-requires-clause-suited : goal.shut_such-requires-clause-suited
-shut_such-requires-clause-suited c = fifos-shut
+pub for_each-requires-clause-stays : goal.for_each-requires-clause-stays
+for_each-requires-clause-stays c = fifos-shut
 
-pub shut_such-requires-clause-room : goal.shut_such-requires-clause-room
-shut_such-requires-clause-room c =
+pub for_each-requires-clause-room : goal.for_each-requires-clause-room
+for_each-requires-clause-room c =
     let t = c.args.self.now.trail in
-    let e = ap (λ (xs : List SessId). length (each shut xs t)) (kept-list c.args.who t) in
-    let h = c.requires.room in
+    let l = ap (λ xs. length (each shut xs t)) (kept-chosen t c.args.who) in
+    let r = c.requires.room in
     omega arith
 
 pub returns-clause-marked : goal.returns-clause-marked
-returns-clause-marked c =
-    let t = c.args.self.now.trail in
-    c.shut_such.ensures.marked ∙ ap (with_trail c.args.self.now) (ap (λ (xs : List SessId). each shut xs t) (kept-list c.args.who t))
+returns-clause-marked c = c.for_each.ensures.marked ∙ ap (λ xs. marked_by (each shut xs) c.args.self.now) (kept-chosen c.args.self.now.trail c.args.who)

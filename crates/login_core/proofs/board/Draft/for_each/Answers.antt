@@ -1,6 +1,8 @@
-use Rattle.std.proofs.Common.{filter}
-use Rattle.login_model.proofs.InOrder.{rest-all}
+use Rattle.std.proofs.Common.{◌∙◌, filter, length, refl, sym, ap, subst, arith}
+use Rattle.login_core.specs.inner.Draft.{marked_by}
 use Rattle.login_core.proofs.Going.{going-start, going-room, going-less, going-step, going-end}
+use Rattle.login_core.proofs.Growing.{trails}
+use Rattle.login_model.proofs.InOrder.{rest-all}
 use Rattle.login_core.proofs.Rounds.{tour}
 use Rattle.login_core.proofs.board.Draft.for_each.Goals as goal
 
@@ -10,7 +12,10 @@ loop-name-init g c =
     let t = m.trail in
     let k = tour g.C.Choice.lt (g.C.Choice.is_in c.args.choice.now) (g.C.Choice.among c.args.choice.now) (g.met.C.Choice.whole c.args.choice.now) in
     let all = filter (k.there t) (k.list t) in
-    going-start k (g.X.Task.does c.args.task.now) all m (rest-all k.lt (k.there t) (k.list t) (k.whole t))
+    (going-start k (g.X.Task.does c.args.task.now) all m (rest-all k.lt (k.there t) (k.list t) (k.whole t)), refl, c.requires.agrees, c.requires.suits)
+
+pub next-requires : goal.next-requires
+next-requires g c = c.loop-name.invariant.3
 
 pub run-requires : goal.run-requires
 run-requires g c =
@@ -18,24 +23,33 @@ run-requires g c =
     let t = m.trail in
     let k = tour g.C.Choice.lt (g.C.Choice.is_in c.args.choice.now) (g.C.Choice.among c.args.choice.now) (g.met.C.Choice.whole c.args.choice.now) in
     let x = c.args.task.now in
-    record { room = going-room k (g.X.Task.does x) (filter (k.there t) (k.list t)) c.loop-name.above c.in-Some.name m c.loop-name.self (g.met.X.Task.adds x) c.loop-name.invariant c.in-Some.ensures c.requires.room }
+    let i = c.loop-name.invariant in
+    let r = going-room k (g.X.Task.does x) (filter (k.there t) (k.list t)) c.loop-name.above c.in-Some.name m c.loop-name.self (g.met.X.Task.adds x) i.0 c.in-Some.ensures c.requires.room in
+    let e = ap (λ f. length (f c.in-Some.name c.loop-name.self.trail)) i.1 in
+    record { room = omega arith; agrees = i.2 }
 
 pub loop-name-smaller : goal.loop-name-smaller
 loop-name-smaller g c =
     let k = tour g.C.Choice.lt (g.C.Choice.is_in c.args.choice.now) (g.C.Choice.among c.args.choice.now) (g.met.C.Choice.whole c.args.choice.now) in
-    going-less k (g.X.Task.does c.args.task.now) c.loop-name.above c.in-Some.name c.loop-name.self c.run.new.draft c.requires.spares c.run.ensures.marked c.in-Some.ensures
+    let marked = c.run.ensures.marked ∙ ap (λ f. marked_by (f c.in-Some.name) c.loop-name.self) c.loop-name.invariant.1 in
+    going-less k (g.X.Task.does c.args.task.now) c.loop-name.above c.in-Some.name c.loop-name.self c.run.new.draft c.requires.spares marked c.in-Some.ensures
 
 pub loop-name-preserved : goal.loop-name-preserved
 loop-name-preserved g c =
     let m = c.args.self.now in
     let t = m.trail in
     let k = tour g.C.Choice.lt (g.C.Choice.is_in c.args.choice.now) (g.C.Choice.among c.args.choice.now) (g.met.C.Choice.whole c.args.choice.now) in
-    going-step k (g.X.Task.does c.args.task.now) (filter (k.there t) (k.list t)) c.loop-name.above c.in-Some.name m c.loop-name.self c.run.new.draft c.requires.spares
-    c.loop-name.invariant c.run.ensures.marked c.in-Some.ensures
+    let i = c.loop-name.invariant in
+    let marked = c.run.ensures.marked ∙ ap (λ f. marked_by (f c.in-Some.name) c.loop-name.self) i.1 in (
+      going-step k (g.X.Task.does c.args.task.now) (filter (k.there t) (k.list t)) c.loop-name.above c.in-Some.name m c.loop-name.self c.run.new.draft c.requires.spares i.0 marked c.in-Some.ensures,
+      c.run.ensures.same ∙ i.1,
+      c.run.ensures.agrees,
+      subst (g.C.Choice.suits c.args.choice.now) (sym (trails marked)) (c.requires.stays c.in-Some.name c.loop-name.self.trail i.3),
+    )
 
-pub returns : goal.returns
-returns g c =
+pub returns-clause-marked : goal.returns-clause-marked
+returns-clause-marked g c =
     let m = c.args.self.now in
     let t = m.trail in
     let k = tour g.C.Choice.lt (g.C.Choice.is_in c.args.choice.now) (g.C.Choice.among c.args.choice.now) (g.met.C.Choice.whole c.args.choice.now) in
-    record { marked = going-end k (g.X.Task.does c.args.task.now) (filter (k.there t) (k.list t)) c.loop-name.above m c.loop-name.self c.loop-name.invariant c.in_default.ensures }
+    going-end k (g.X.Task.does c.args.task.now) (filter (k.there t) (k.list t)) c.loop-name.above m c.loop-name.self c.loop-name.invariant.0 c.in_default.ensures

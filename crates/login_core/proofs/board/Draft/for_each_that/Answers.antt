@@ -18,11 +18,9 @@ for_each-requires-clause-room g c =
     let r = c.requires.room in
     omega arith
 
-pub returns : goal.returns
-returns g c =
+pub returns-clause-marked : goal.returns-clause-marked
+returns-clause-marked g c =
     let t = c.args.self.now.trail in
     let n = g.N.Name in
-    record {
-      marked = c.for_each.ensures.marked
-          ∙ ap (λ xs. marked_by (each (g.X.Task.does c.args.task.now) xs) c.args.self.now) (filter-chosen (is_there n.key_of n.is_fact t) (g.T.Test.meets c.args.test t) (insert_some g.N.Order.lt n.first (names g.N.Order.lt n.name_in t)));
-    }
+    c.for_each.ensures.marked
+    ∙ ap (λ xs. marked_by (each (g.X.Task.does c.args.task.now) xs) c.args.self.now) (filter-chosen (is_there n.key_of n.is_fact t) (g.T.Test.meets c.args.test t) (insert_some g.N.Order.lt n.first (names g.N.Order.lt n.name_in t)))

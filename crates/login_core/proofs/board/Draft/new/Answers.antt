@@ -16,6 +16,7 @@ invariant_of-result c =
       marks_fit = omega arith;
       facts_fit = omega arith;
       within = omega arith;
+      far_enough = omega arith;
       numbered = omega arith;
     }
 

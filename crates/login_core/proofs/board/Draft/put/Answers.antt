@@ -24,6 +24,7 @@ note-requires c =
     let t = so_far f.journal.value.items f.marks.items in
     let other : same_fact (value d.trail c.args.key) c.args.fact ≡ false = ap (λ (f : Fact). same_fact f c.args.fact) (sym c.fact.ensures) ∙ sym c.is_same_fact.ensures ∙ c.if-is_same_fact.false in
     let room = room-inside f.journal.value.items f.marks.items f.facts f.reach d c.self.view_is (one-more c.args.key c.args.fact d other c.requires.room) in
+    let far = c.self.invariant.far_enough in
     let numbered = c.self.invariant.numbered in
     seated-room f.seating c.args.key c.args.copy c.fact-2.result.now t c.self.invariant.seated (c.fact-2.ensures t c.self.invariant.stands) (omega arith)
 
@@ -34,6 +35,7 @@ set-requires-clause-spare c =
     let other : same_fact (value d.trail c.args.key) c.args.fact ≡ false = ap (λ (f : Fact). same_fact f c.args.fact) (sym c.fact.ensures) ∙ sym c.is_same_fact.ensures ∙ c.if-is_same_fact.false in
     let room = room-inside f.journal.value.items f.marks.items f.facts f.reach d c.self.view_is (one-more c.args.key c.args.fact d other c.requires.room) in
     let counted = c.self.invariant.counted in
+    let far = c.self.invariant.far_enough in
     let fit = c.self.invariant.facts_fit in
     omega arith
 

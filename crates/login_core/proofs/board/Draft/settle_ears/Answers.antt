@@ -35,6 +35,7 @@ invariant_of-self c =
       marks_fit = i.marks_fit;
       facts_fit = omega arith;
       within = i.within;
+      far_enough = i.far_enough;
       numbered = i.numbered;
     }
 

@@ -1,7 +1,7 @@
 use Rattle.std.proofs.Common.{rules}
 use Rattle.std.proofs.lemmas.List.Sorted.{IsPartitionPoint-from_clause}
 use Rattle.login_core.specs.inner.Holding.{holding_lt, is_passed, is_within}
-use Rattle.login_core.proofs.HeldOrder.{Point, ascend-opened, parted, passed-down, such-ascend, such-between, within-down}
+use Rattle.login_core.proofs.HeldOrder.{ascend-opened, parted, passed-down, such-ascend, such-between, within-down}
 use Rattle.login_core.proofs.board.holding.such.Goals as goal
 
 pub slice_bounds-result-start : goal.slice_bounds-result-start

@@ -1,4 +1,3 @@
-use Rattle.std.proofs.Common.{refl}
 use Rattle.login_core.proofs.Stepping.{stopped-never}
 use Rattle.login_core.proofs.state.Core.close_link.Goals as goal
 

@@ -1,14 +1,21 @@
-use Rattle.std.proofs.Common.{◌≡◌, ◌+◌, ◌∙◌, List, ap, sym, subst, arith}
+use Rattle.std.proofs.Common.{◌≡◌, ◌<◌, ◌≤◌, ◌+◌, ◌∙◌, true, List, ap, sym, subst, length, arith}
+use Rattle.login_base.specs.declared.ids.ConnId.{ConnId}
 use Rattle.login_model.specs.Full.{connected_after, full, mark_count, marks_needed}
 use Rattle.login_model.specs.Legal.{IsLegal, answered, trail_of}
 use Rattle.login_model.specs.Policy.{verdict}
 use Rattle.login_model.specs.Trail.{Trail}
 use Rattle.login_model.specs.declared.rule.Verdict.{Verdict}
 use Rattle.login_model.specs.declared.mark.Entry.{Entry}
+use Rattle.login_laws.specs.Shares.{most_share_rise, share}
+use Rattle.login_laws.specs.Sound.{IsSound}
 use Rattle.login_laws.proofs.RoomLaws.{room}
+use Rattle.login_laws.proofs.SoundLaws.{sound-journal}
 use Rattle.login_core.specs.inner.Counts.{AreCounted}
 use Rattle.login_core.specs.inner.Draft.{DraftState}
-use Rattle.login_core.specs.State.{CoreState}
+use Rattle.login_core.specs.State.{CoreState, NextIsWide, may_raise}
+use Rattle.login_core.specs.inner.Inside.{HaveEnds}
+use Rattle.login_core.specs.inner.Ledger.{end_room, next_room}
+use Rattle.login_core.proofs.EndRooms.{AreWide, all-wide}
 use Rattle.login_core.proofs.CountedLaws.{legal-holders}
 use Rattle.login_core.proofs.Entries.{marks-counted}
 use Rattle.login_core.proofs.Keeping.{small}
@@ -32,31 +39,94 @@ reserve-requires-clause-numbered c =
 pub reserve-requires-clause-no_marks : goal.reserve-requires-clause-no_marks
 reserve-requires-clause-no_marks c = c.self.invariant.no_marks ∙ sym c.self.invariant.begun.before
 
+pub overflow_cast-next : goal.overflow_cast-next
+overflow_cast-next c =
+    let U = c.self.inside.setup in
+    let m = c.self.inside.board in
+    let now = c.args.self.now in
+    let es = m.journal.items in
+    let t = trail_of es in
+    let s = small now.setup now.journal c.args.event.now c.requires.other c.requires.small in
+    let marks = s.marks in
+    let journal = ap (λ (q : CoreState). marks_needed (trail_of q.journal) (mark_count q.journal)) c.self.view_is in
+    let bound = room t (mark_count es) in
+    let R : Trail → Type 0 = AreCounted c.counts.result in
+    let most = c.most_marks-next.ensures t (subst R c.self.invariant.no_marks c.counts.ensures) (legal-holders U es c.self.invariant.legal) in
+    omega arith
+
+pub reserve-requires-clause-within : goal.reserve-requires-clause-within
+reserve-requires-clause-within c =
+    let U = c.self.inside.setup in
+    let m = c.self.inside.board in
+    let es = m.journal.items in
+    let t = trail_of es in
+    let reach = c.reach_for-reach.ensures in
+    let journal = ap (λ (q : CoreState). marks_needed (trail_of q.journal) (mark_count q.journal)) c.self.view_is in
+    let bound = room t (mark_count es) in
+    let counted = marks-counted es in
+    let R : Trail → Type 0 = AreCounted c.counts.result in
+    let most = c.most_marks-next.ensures t (subst R c.self.invariant.no_marks c.counts.ensures) (legal-holders U es c.self.invariant.legal) in
+    let length_is = ap length c.self.invariant.no_marks in
+    omega arith
+
+pub make_ends-requires : goal.make_ends-requires
+make_ends-requires c =
+    let U = c.self.inside.setup in
+    let m = c.self.inside.board in
+    let P : Trail → Type 0 = IsSound U in
+    record { setup = U; sound = subst P (sym (c.reserve.ensures.trail ∙ c.self.invariant.no_marks)) (sound-journal U m.journal.items c.self.invariant.legal) }
+
 pub returns-clause-ready : goal.returns-clause-ready
 returns-clause-ready c =
     let U = c.self.inside.setup in
+    let m = c.self.inside.board in
+    let r = c.reserve.new.self in
+    let n = c.make_ends.new.self in
     let now = c.args.self.now in
     let e = c.args.event.now in
-    let es = c.reserve.new.self.journal.items in
+    let es = n.journal.items in
+    let t = trail_of es in
+    let w = c.make_ends.ensures.same in
+    let items = w.items ∙ c.reserve.ensures.items in
     let setup : now.setup ≡ U = sym (ap (λ (s : CoreState). s.setup) c.self.view_is) in
-    let journal : now.journal ≡ es = sym (c.reserve.ensures.items ∙ ap (λ (s : CoreState). s.journal) c.self.view_is) in
+    let journal : now.journal ≡ es = sym (items ∙ ap (λ (s : CoreState). s.journal) c.self.view_is) in
     let connected = c.entries_for-entries.ensures.value ∙ (λ i. connected_after (setup i) (trail_of (journal i)) e + 2) in
     let reach = c.reach_for-reach.ensures ∙ ap (λ (js : List Entry). marks_needed (trail_of js) (mark_count js)) journal in
     let judged = c.requires.judged ∙ (λ i. verdict (setup i) (trail_of (journal i)) e) in
-    let bound = room (trail_of es) (mark_count es) in
+    let bound = room t (mark_count es) in
     let counted = marks-counted es in
     let entries = c.in_ok-reserve.ensures.entries in
-    let far = c.in_ok-reserve.ensures.reach in
-    let P : Trail → Type 0 = AreCounted c.counts-taken.result in
+    let kept = w.entries in
+    let far = c.in_ok-reserve.ensures.far in
     let Q : List Entry → Type 0 = IsLegal U in
-    let legal = subst Q (sym c.reserve.ensures.items) c.self.invariant.legal in
-    let trail = c.reserve.ensures.trail ∙ c.self.invariant.no_marks ∙ ap trail_of (sym c.reserve.ensures.items) in
-    let taken = (subst P trail c.counts-taken.ensures).taken ∙ pairs-taken (trail_of es) (legal-holders U es legal) in
+    let legal = subst Q (sym items) c.self.invariant.legal in
+    let holders = legal-holders U es legal in
+    let before : m.draft.trail ≡ t = c.self.invariant.no_marks ∙ ap trail_of (sym items) in
+    let behind : r.draft.trail ≡ t = c.reserve.ensures.trail ∙ before in
+    let trail : n.draft.trail ≡ t = ap (λ (d : DraftState). d.trail) w.draft ∙ behind in
+    let P : Trail → Type 0 = AreCounted c.counts-taken.result in
+    let taken = (subst P trail c.counts-taken.ensures).taken ∙ pairs-taken t holders in
     let rings = c.in_ok-make_rings.ensures in
-    let same = ap (λ (d : DraftState). d.reach) c.make_rings.ensures.rest in
+    let R : Trail → Type 0 = AreCounted c.counts.result in
+    let most = c.most_marks-next.ensures t (subst R before c.counts.ensures) holders in
+    let next = c.in_ok-reserve.ensures.reach in
+    let length_is = ap length behind in
+    let same_far = ap (λ (d : DraftState). d.far) c.make_rings.ensures.rest ∙ ap (λ (d : DraftState). d.far) w.draft in
+    let same_reach = ap (λ (d : DraftState). d.reach) c.make_rings.ensures.rest ∙ ap (λ (d : DraftState). d.reach) w.draft in
+    let v = c.args.verdict in
+    let A : Verdict → Type 0 = λ w. AreWide (end_room n.journal) w t e in
+    let L : Verdict → Type 0 = λ w. NextIsWide w t e (next_room n.journal) in
+    let H : Trail → Type 0 = HaveEnds (end_room m.journal) in
+    let W : Trail → Type 0 = λ u. (who : ConnId) → may_raise v u e who ≡ true → 0 < end_room r.journal who → share who u + most_share_rise u ≤ end_room n.journal who in
+    let N : Trail → Type 0 = λ u. NextIsWide v u e (next_room n.journal) in
+    let have = subst H (ap trail_of (sym items)) c.self.invariant.ends in
+    let wide = subst W behind c.in_ok-make_ends.ensures.wide in
     record {
       entries = omega arith;
+      far = omega arith;
       reach = omega arith;
+      ends = subst A judged (all-wide v t e (end_room r.journal) (end_room n.journal) (λ who i. (let h = have who i in let k = c.reserve.ensures.ends who in omega arith)) w.keeps wide);
+      next_end = subst L judged (subst N behind c.in_ok-make_ends.ensures.next);
       rings = omega arith;
       small = (λ i. full (sym setup i) (sym journal i) e) ∙ c.requires.small;
       texts = c.in_ok-prepare.ensures.ready;

@@ -11,7 +11,7 @@ use Rattle.login_core.proofs.board.facts.Facts.new.Goals as goal
 
 pub returns-clause-stands : goal.returns-clause-stands
 returns-clause-stands c =
-    let f : Tables = record { users = c.new.result.trail; sessions = c.new-2.result.trail; seats = c.new-3.result.trail; devices = c.new-4.result.trail; controls = c.new-5.result.trail; takes = c.new-6.result.trail; locks = c.new-7.result.trail; power = c.new-8.result.trail; ears = c.new-4.result.ears; rings = c.new-4.result.rings; counts = record { connections = 0; controlled = 0; devices = 0; locks = 0; opened = 0; present = 0; taken = 0; users = 0 }; session = 1; handle = 1; lock = 1; held = c.new-9.result.list; spare = 0 } in
+    let f : Tables = record { users = c.new.result.trail; sessions = c.new-2.result.trail; seats = c.new-3.result.trail; devices = c.new-4.result.trail; controls = c.new-5.result.trail; takes = c.new-6.result.trail; locks = c.new-7.result.trail; power = c.new-8.result.trail; ears = c.new-4.result.ears; rings = c.new-4.result.rings; counts = record { connections = 0; controlled = 0; devices = 0; locks = 0; opened = 0; present = 0; taken = 0; users = 0 }; session = 1; handle = 1; lock = 1; held = c.new-9.result.list; owing = c.new-10.result; spare = 0 } in
     closed f [] (record {
       facts = all-stand f [] (each-stands f [] c.new.ensures c.new-2.ensures c.new-3.ensures c.new-4.ensures.stands c.new-5.ensures c.new-6.ensures c.new-7.ensures c.new-8.ensures);
       counts = counted-none;
@@ -20,3 +20,4 @@ returns-clause-stands c =
       lock = sym locks-none;
       held = subst (λ (xs : List Holding). AreHeld xs []) (sym c.new-9.ensures) held-none;
     })
+    c.new-10.ensures

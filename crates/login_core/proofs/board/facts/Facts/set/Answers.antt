@@ -1,295 +1,104 @@
-use Rattle.std.proofs.Common.{◌≡◌, ℕ, ◌+◌, ◌-◌, ◌∙◌, List, Option, ap, sym, subst, arith}
-use Rattle.login_model.specs.declared.fact.Key.{Key}
-use Rattle.login_model.specs.declared.fact.Fact.{Fact}
-use Rattle.login_model.specs.Fresh.{fresh_session, fresh_handle, fresh_lock}
-use Rattle.login_model.specs.Names.{insert_some}
-use Rattle.login_model.specs.Trail.{value}
-use Rattle.login_table.specs.declared.home.Home.TheVariants.{Users, Sessions, Seats, Devices, Controls, Takes, Locks, Power}
-use Rattle.login_core.specs.declared.board.facts.Facts.TheInside.{Inside}
-use Rattle.login_core.specs.declared.room.counts.Counts.{Counts}
-use Rattle.login_core.specs.inner.Counts.{CanAllMove, Follow, counts_of}
-use Rattle.login_core.specs.declared.board.holding.Holding.{Holding}
-use Rattle.login_core.specs.inner.Facts.{Tables, StandFor, opens, inhibits}
-use Rattle.login_core.specs.inner.Holding.{holding_in, holding_lt, noted, without}
-use Rattle.login_core.proofs.CountedLaws.{counted-fit}
-use Rattle.login_core.proofs.Counting.{opens-bound, gives-bound, inhibits-bound, sessions-bound, handles-bound, locks-bound}
-use Rattle.login_core.proofs.Placed.{Moves, Places, stands-placed, but-users, but-sessions, but-seats, but-devices, but-controls, but-takes, but-locks, but-power}
-use Rattle.login_core.proofs.Standing.{opened}
+use Rattle.std.proofs.Common.{◌≡◌, ◌+◌, ◌∙◌, ◌∷◌, ℕ, length, ap, sym, subst, add-one, arith}
+use Rattle.login_base.specs.Room.{Room}
+use Rattle.login_base.specs.declared.ids.ConnId.{ConnId}
+use Rattle.login_model.specs.declared.mark.Mark.TheVariants.{Set}
+use Rattle.login_core.specs.inner.Dues.{AreOwed}
+use Rattle.login_core.specs.inner.Facts.{Tables, TablesStand}
+use Rattle.login_core.specs.inner.Sums.{sum_in}
+use Rattle.login_core.proofs.DuesMoved.{behind-marks, behind-taken, due-within, kept-taken, owed-few, taken-small, taker-few, taker-within}
+use Rattle.login_core.proofs.Standing.{closed, opened, owing-of, tables-same}
 use Rattle.login_core.proofs.board.facts.Facts.set.Goals as goal
 
-fit : (n lost gained : Counts) (k : Key) (x y v : Fact) → lost ≡ counts_of k y → y ≡ v → gained ≡ counts_of k x → CanAllMove n (counts_of k v) (counts_of k x) → CanAllMove n lost gained
-fit n lost gained k x y v l e g h =
-    let P : Counts → Type 0 = λ m. CanAllMove n m (counts_of k x) in
-    let Q : Counts → Type 0 = λ m. CanAllMove n lost m in
-    subst Q (sym g) (subst P (sym (l ∙ ap (counts_of k) e)) h)
+pub of-lost-requires : goal.of-lost-requires
+of-lost-requires c =
+    let few = c.requires.few in
+    let short = few.few in
+    let o = owing-of c.args.self.now few.marks few.stand in
+    record { few = λ s. taken-small few.marks s _ (o.taken s) (omega arith) }
 
-follow : (n lost gained m : Counts) (k : Key) (x y v : Fact) → lost ≡ counts_of k y → y ≡ v → gained ≡ counts_of k x → Follow n lost gained m → Follow n (counts_of k v) (counts_of k x) m
-follow n lost gained m k x y v l e g h =
-    let P : Counts → Type 0 = λ a. Follow n a gained m in
-    let Q : Counts → Type 0 = λ a. Follow n (counts_of k v) a m in
-    subst Q g (subst P (l ∙ ap (counts_of k) e) h)
-
-noted-by : (xs ys : List Holding) (lost gained : Option Holding) (k : Key) (x y v : Fact) → ys ≡ insert_some holding_lt gained (without lost xs) → lost ≡ holding_in k y → y ≡ v → gained ≡ holding_in k x → ys ≡ noted k v x xs
-noted-by xs ys lost gained k x y v e l f g =
-    e ∙ ap (λ (o : Option Holding). insert_some holding_lt o (without lost xs)) g
-    ∙ ap (λ (o : Option Holding). insert_some holding_lt (holding_in k x) (without o xs)) (l ∙ ap (holding_in k) f)
-
--- what facts of these parts are seen as
-abbrev tables_of : Inside → Tables
-tables_of f = record {
-  users = f.users.trail;
-  sessions = f.sessions.trail;
-  seats = f.seats.trail;
-  devices = f.devices.trail;
-  controls = f.controls.trail;
-  takes = f.takes.trail;
-  locks = f.locks.trail;
-  power = f.power.trail;
-  ears = f.devices.ears;
-  rings = f.devices.rings;
-  counts = f.counts;
-  session = f.session;
-  handle = f.handle;
-  lock = f.lock;
-  held = f.holdings.list;
-  spare = f.spare;
-}
-
-pub moved-self-inside-requires : goal.moved-self-inside-requires
-moved-self-inside-requires c =
+pub lose-requires : goal.lose-requires
+lose-requires c = λ d.
     let few = c.requires.few in
     let now = c.args.self.now in
-    let counted = counted-fit now.counts c.args.key c.args.fact few.marks (opened now few.marks few.stand).counts few.few in
-    let P : Counts → Type 0 = λ n. CanAllMove n (counts_of c.args.key (value few.marks c.args.key)) (counts_of c.args.key c.args.fact) in
-    fit c.self.inside.counts c.of-lost.result c.of-gained.result c.args.key c.args.fact c.fact-before.result.now (value few.marks c.args.key) c.of-lost.ensures (c.fact-before.ensures few.marks few.stand) c.of-gained.ensures
-    (subst P (sym (ap (λ (f : Tables). f.counts) c.self.view_is)) counted)
+    let o = owing-of now few.marks few.stand in
+    let P : Tables → Type 0 = λ f. AreOwed f.owing few.marks in
+    let inside = subst P (sym c.self.view_is) o in
+    due-within c.self.inside.owing c.args.key c.fact-before.result.now c.args.fact few.marks c.by-touched.result d _ inside c.by-touched.ensures (c.fact-before.ensures few.marks few.stand)
+    (c.of-lost.ensures few.marks (opened now few.marks few.stand) o.taken d)
 
-pub overflow_add-self : goal.overflow_add-self
-overflow_add-self c =
+pub shift-requires-clause-within : goal.shift-requires-clause-within
+shift-requires-clause-within c = λ s.
+    let few = c.requires.few in
+    let o = owing-of c.args.self.now few.marks few.stand in
+    let P : Tables → Type 0 = λ f. AreOwed f.owing few.marks in
+    let inside = subst P (sym c.self.view_is) o in
+    let put = ap (λ (f : Tables). f.owing) c.self-2.view_is ∙ c.put_in.ensures.owing in
+    let taken = kept-taken c.self.inside.owing c.lose.new.self c.self-2.inside.owing few.marks inside c.lose.ensures.taken put in
+    taker-within c.args.key c.fact-before.result.now few.marks s c.taker_in-lost_taker.result _ c.taker_in-lost_taker.ensures (c.fact-before.ensures few.marks few.stand) (taken s)
+
+pub shift-requires-clause-bound : goal.shift-requires-clause-bound
+shift-requires-clause-bound c = λ s.
+    let few = c.requires.few in
+    let o = owing-of c.args.self.now few.marks few.stand in
+    let P : Tables → Type 0 = λ f. AreOwed f.owing few.marks in
+    let inside = subst P (sym c.self.view_is) o in
+    let put = ap (λ (f : Tables). f.owing) c.self-2.view_is ∙ c.put_in.ensures.owing in
+    let taken = kept-taken c.self.inside.owing c.lose.new.self c.self-2.inside.owing few.marks inside c.lose.ensures.taken put in
+    taker-few few.marks s c.taker_in-taker.result _ (taken s) few.few
+
+pub of-gained-requires : goal.of-gained-requires
+of-gained-requires c =
+    let few = c.requires.few in
+    let short = few.few in
+    let longer : length (Set c.args.key c.args.fact ∷ few.marks) ≡ length few.marks + 1 = sym (add-one (length few.marks)) in
+    let o = owing-of c.args.self.now few.marks few.stand in
+    let P : Tables → Type 0 = λ f. AreOwed f.owing few.marks in
+    let inside = subst P (sym c.self.view_is) o in
+    let put = ap (λ (f : Tables). f.owing) c.self-2.view_is ∙ c.put_in.ensures.owing in
+    let taken = kept-taken c.self.inside.owing c.lose.new.self c.self-2.inside.owing few.marks inside c.lose.ensures.taken put in
+    let behind = behind-taken c.args.key c.fact-before.result.now c.args.fact few.marks c.taker_in-lost_taker.result c.taker_in-taker.result c.self-2.inside.owing c.shift.new.self
+    c.taker_in-lost_taker.ensures (c.fact-before.ensures few.marks few.stand) c.taker_in-taker.ensures taken c.shift.ensures.taken in
+    record { few = λ s. taken-small (Set c.args.key c.args.fact ∷ few.marks) s _ (behind s) (omega arith) }
+
+pub gain-requires-clause-bound : goal.gain-requires-clause-bound
+gain-requires-clause-bound c = λ d.
     let few = c.requires.few in
     let now = c.args.self.now in
-    let marks = few.few in
-    let view : c.self.inside.session ≡ now.session = ap (λ (f : Tables). f.session) c.self.view_is in
-    let same : now.session ≡ fresh_session few.marks = (opened now few.marks few.stand).session in
-    let most = sessions-bound few.marks in
-    let one = opens-bound c.args.key c.args.fact in
-    let more : c.of-gained.result.opened ≡ opens c.args.key c.args.fact = ap (λ (n : Counts). n.opened) c.of-gained.ensures in
+    let u = Set c.args.key c.args.fact ∷ few.marks in
+    let o = owing-of now few.marks few.stand in
+    let P : Tables → Type 0 = λ f. AreOwed f.owing few.marks in
+    let Q : Tables → Type 0 = λ f. TablesStand f u in
+    let inside = subst P (sym c.self.view_is) o in
+    let before = c.fact-before.ensures few.marks few.stand in
+    let put = ap (λ (f : Tables). f.owing) c.self-2.view_is ∙ c.put_in.ensures.owing in
+    let taken = kept-taken c.self.inside.owing c.lose.new.self c.self-2.inside.owing few.marks inside c.lose.ensures.taken put in
+    let behind = behind-taken c.args.key c.fact-before.result.now c.args.fact few.marks c.taker_in-lost_taker.result c.taker_in-taker.result c.self-2.inside.owing c.shift.new.self c.taker_in-lost_taker.ensures before c.taker_in-taker.ensures taken c.shift.ensures.taken in
+    let R : Tables → Type 0 = λ f. TablesStand f few.marks in
+    let stand = subst R (sym c.self.view_is) (opened now few.marks few.stand) in
+    let tables = subst Q (sym c.self-2.view_is) (c.put_in.ensures.stands few.marks (tables-same _ c.lose.new.self c.self.inside.spare few.marks stand)) in
+    let gained = c.of-gained.ensures u (tables-same _ c.shift.new.self c.self-2.inside.spare u tables) behind d in
+    let all = behind-marks c.args.key c.fact-before.result.now c.args.fact few.marks c.by-touched.result c.self.inside.owing c.lose.new.self c.self-2.inside.owing c.shift.new.self d _ _
+    c.by-touched.ensures before inside (c.lose.ensures.marks d) (c.of-lost.ensures few.marks (opened now few.marks few.stand) o.taken d) put c.shift.ensures.marks gained in
+    let most = owed-few c.args.key c.args.fact few.marks d few.few in
     omega arith
 
-pub overflow_add-self-2 : goal.overflow_add-self-2
-overflow_add-self-2 c =
-    let few = c.requires.few in
+pub returns-clause-stands : goal.returns-clause-stands
+returns-clause-stands c = λ t s.
     let now = c.args.self.now in
-    let marks = few.few in
-    let view : c.self.inside.handle ≡ now.handle = ap (λ (f : Tables). f.handle) c.self.view_is in
-    let same : now.handle ≡ fresh_handle few.marks = (opened now few.marks few.stand).handle in
-    let most = handles-bound few.marks in
-    let one = gives-bound c.args.key c.args.fact in
-    let gives = c.gives.ensures in
-    omega arith
-
-pub overflow_add-self-3 : goal.overflow_add-self-3
-overflow_add-self-3 c =
-    let few = c.requires.few in
-    let now = c.args.self.now in
-    let marks = few.few in
-    let view : c.self.inside.lock ≡ now.lock = ap (λ (f : Tables). f.lock) c.self.view_is in
-    let same : now.lock ≡ fresh_lock few.marks = (opened now few.marks few.stand).lock in
-    let most = locks-bound few.marks in
-    let one = inhibits-bound c.args.key c.args.fact in
-    let more : c.of-gained.result.locks ≡ inhibits c.args.key c.args.fact = ap (λ (n : Counts). n.locks) c.of-gained.ensures in
-    omega arith
-
-pub returns-in-Users-clause-stands : goal.returns-in-Users-clause-stands
-returns-in-Users-clause-stands c = λ t s.
-    let P : Tables → Type 0 = λ f. StandFor f t in
-    let k = c.args.key in
-    let x = c.args.fact in
-    let f = tables_of c.self.inside in
-    let rows = c.set.new.self.trail in
-    let counts = c.moved-self-inside.result in
-    let session = c.self.inside.session + c.of-gained.result.opened in
-    let handle = c.self.inside.handle + c.gives.result in
-    let lock = c.self.inside.lock + c.of-gained.result.locks in
-    let held = c.shift.new.self.list in
-    let spare = c.self.inside.spare - 1 in
-    let g : Tables = record f { users = rows; counts = counts; session = session; handle = handle; lock = lock; held = held; spare = spare } in
-    let places : Places f g k x Users = record { at_home = sym c.of.ensures ∙ c.in-Users.is; set = c.set.ensures.facts; stays = but-users f rows counts session handle lock held spare } in
-    let moves : Moves f g k x t = record {
-      counts = follow c.self.inside.counts c.of-lost.result c.of-gained.result counts k x c.fact-before.result.now (value t k) c.of-lost.ensures (c.fact-before.ensures t s) c.of-gained.ensures c.moved-self-inside.ensures;
-      session = ap (λ (n : Counts). c.self.inside.session + n.opened) c.of-gained.ensures;
-      handle = ap (λ (n : ℕ). c.self.inside.handle + n) c.gives.ensures;
-      lock = ap (λ (n : Counts). c.self.inside.lock + n.locks) c.of-gained.ensures;
-      held = noted-by c.self.inside.holdings.list held c.holding_in-lost_thing.result c.holding_in.result k x c.fact-before.result.now (value t k) c.shift.ensures.list c.holding_in-lost_thing.ensures (c.fact-before.ensures t s) c.holding_in.ensures;
-    } in
-    stands-placed f g k x Users t places moves (subst P (sym c.self.view_is) s)
-
-pub returns-in-Sessions-clause-stands : goal.returns-in-Sessions-clause-stands
-returns-in-Sessions-clause-stands c = λ t s.
-    let P : Tables → Type 0 = λ f. StandFor f t in
-    let k = c.args.key in
-    let x = c.args.fact in
-    let f = tables_of c.self.inside in
-    let rows = c.set-in-Sessions.new.self.trail in
-    let counts = c.moved-self-inside.result in
-    let session = c.self.inside.session + c.of-gained.result.opened in
-    let handle = c.self.inside.handle + c.gives.result in
-    let lock = c.self.inside.lock + c.of-gained.result.locks in
-    let held = c.shift.new.self.list in
-    let spare = c.self.inside.spare - 1 in
-    let g : Tables = record f { sessions = rows; counts = counts; session = session; handle = handle; lock = lock; held = held; spare = spare } in
-    let places : Places f g k x Sessions = record { at_home = sym c.of.ensures ∙ c.in-Sessions.is; set = c.set-in-Sessions.ensures.facts; stays = but-sessions f rows counts session handle lock held spare } in
-    let moves : Moves f g k x t = record {
-      counts = follow c.self.inside.counts c.of-lost.result c.of-gained.result counts k x c.fact-before.result.now (value t k) c.of-lost.ensures (c.fact-before.ensures t s) c.of-gained.ensures c.moved-self-inside.ensures;
-      session = ap (λ (n : Counts). c.self.inside.session + n.opened) c.of-gained.ensures;
-      handle = ap (λ (n : ℕ). c.self.inside.handle + n) c.gives.ensures;
-      lock = ap (λ (n : Counts). c.self.inside.lock + n.locks) c.of-gained.ensures;
-      held = noted-by c.self.inside.holdings.list held c.holding_in-lost_thing.result c.holding_in.result k x c.fact-before.result.now (value t k) c.shift.ensures.list c.holding_in-lost_thing.ensures (c.fact-before.ensures t s) c.holding_in.ensures;
-    } in
-    stands-placed f g k x Sessions t places moves (subst P (sym c.self.view_is) s)
-
-pub returns-in-Seats-clause-stands : goal.returns-in-Seats-clause-stands
-returns-in-Seats-clause-stands c = λ t s.
-    let P : Tables → Type 0 = λ f. StandFor f t in
-    let k = c.args.key in
-    let x = c.args.fact in
-    let f = tables_of c.self.inside in
-    let rows = c.set-in-Seats.new.self.trail in
-    let counts = c.moved-self-inside.result in
-    let session = c.self.inside.session + c.of-gained.result.opened in
-    let handle = c.self.inside.handle + c.gives.result in
-    let lock = c.self.inside.lock + c.of-gained.result.locks in
-    let held = c.shift.new.self.list in
-    let spare = c.self.inside.spare - 1 in
-    let g : Tables = record f { seats = rows; counts = counts; session = session; handle = handle; lock = lock; held = held; spare = spare } in
-    let places : Places f g k x Seats = record { at_home = sym c.of.ensures ∙ c.in-Seats.is; set = c.set-in-Seats.ensures.facts; stays = but-seats f rows counts session handle lock held spare } in
-    let moves : Moves f g k x t = record {
-      counts = follow c.self.inside.counts c.of-lost.result c.of-gained.result counts k x c.fact-before.result.now (value t k) c.of-lost.ensures (c.fact-before.ensures t s) c.of-gained.ensures c.moved-self-inside.ensures;
-      session = ap (λ (n : Counts). c.self.inside.session + n.opened) c.of-gained.ensures;
-      handle = ap (λ (n : ℕ). c.self.inside.handle + n) c.gives.ensures;
-      lock = ap (λ (n : Counts). c.self.inside.lock + n.locks) c.of-gained.ensures;
-      held = noted-by c.self.inside.holdings.list held c.holding_in-lost_thing.result c.holding_in.result k x c.fact-before.result.now (value t k) c.shift.ensures.list c.holding_in-lost_thing.ensures (c.fact-before.ensures t s) c.holding_in.ensures;
-    } in
-    stands-placed f g k x Seats t places moves (subst P (sym c.self.view_is) s)
-
-pub returns-in-Devices-clause-stands : goal.returns-in-Devices-clause-stands
-returns-in-Devices-clause-stands c = λ t s.
-    let P : Tables → Type 0 = λ f. StandFor f t in
-    let k = c.args.key in
-    let x = c.args.fact in
-    let f = tables_of c.self.inside in
-    let rows = c.set-in-Devices.new.self.trail in
-    let ears = c.set-in-Devices.new.self.ears in
-    let rings = c.set-in-Devices.new.self.rings in
-    let counts = c.moved-self-inside.result in
-    let session = c.self.inside.session + c.of-gained.result.opened in
-    let handle = c.self.inside.handle + c.gives.result in
-    let lock = c.self.inside.lock + c.of-gained.result.locks in
-    let held = c.shift.new.self.list in
-    let spare = c.self.inside.spare - 1 in
-    let g : Tables = record f { devices = rows; ears = ears; rings = rings; counts = counts; session = session; handle = handle; lock = lock; held = held; spare = spare } in
-    let places : Places f g k x Devices = record { at_home = sym c.of.ensures ∙ c.in-Devices.is; set = c.set-in-Devices.ensures.facts; stays = but-devices f rows ears rings counts session handle lock held spare } in
-    let moves : Moves f g k x t = record {
-      counts = follow c.self.inside.counts c.of-lost.result c.of-gained.result counts k x c.fact-before.result.now (value t k) c.of-lost.ensures (c.fact-before.ensures t s) c.of-gained.ensures c.moved-self-inside.ensures;
-      session = ap (λ (n : Counts). c.self.inside.session + n.opened) c.of-gained.ensures;
-      handle = ap (λ (n : ℕ). c.self.inside.handle + n) c.gives.ensures;
-      lock = ap (λ (n : Counts). c.self.inside.lock + n.locks) c.of-gained.ensures;
-      held = noted-by c.self.inside.holdings.list held c.holding_in-lost_thing.result c.holding_in.result k x c.fact-before.result.now (value t k) c.shift.ensures.list c.holding_in-lost_thing.ensures (c.fact-before.ensures t s) c.holding_in.ensures;
-    } in
-    stands-placed f g k x Devices t places moves (subst P (sym c.self.view_is) s)
-
-pub returns-in-Controls-clause-stands : goal.returns-in-Controls-clause-stands
-returns-in-Controls-clause-stands c = λ t s.
-    let P : Tables → Type 0 = λ f. StandFor f t in
-    let k = c.args.key in
-    let x = c.args.fact in
-    let f = tables_of c.self.inside in
-    let rows = c.set-in-Controls.new.self.trail in
-    let counts = c.moved-self-inside.result in
-    let session = c.self.inside.session + c.of-gained.result.opened in
-    let handle = c.self.inside.handle + c.gives.result in
-    let lock = c.self.inside.lock + c.of-gained.result.locks in
-    let held = c.shift.new.self.list in
-    let spare = c.self.inside.spare - 1 in
-    let g : Tables = record f { controls = rows; counts = counts; session = session; handle = handle; lock = lock; held = held; spare = spare } in
-    let places : Places f g k x Controls = record { at_home = sym c.of.ensures ∙ c.in-Controls.is; set = c.set-in-Controls.ensures.facts; stays = but-controls f rows counts session handle lock held spare } in
-    let moves : Moves f g k x t = record {
-      counts = follow c.self.inside.counts c.of-lost.result c.of-gained.result counts k x c.fact-before.result.now (value t k) c.of-lost.ensures (c.fact-before.ensures t s) c.of-gained.ensures c.moved-self-inside.ensures;
-      session = ap (λ (n : Counts). c.self.inside.session + n.opened) c.of-gained.ensures;
-      handle = ap (λ (n : ℕ). c.self.inside.handle + n) c.gives.ensures;
-      lock = ap (λ (n : Counts). c.self.inside.lock + n.locks) c.of-gained.ensures;
-      held = noted-by c.self.inside.holdings.list held c.holding_in-lost_thing.result c.holding_in.result k x c.fact-before.result.now (value t k) c.shift.ensures.list c.holding_in-lost_thing.ensures (c.fact-before.ensures t s) c.holding_in.ensures;
-    } in
-    stands-placed f g k x Controls t places moves (subst P (sym c.self.view_is) s)
-
-pub returns-in-Takes-clause-stands : goal.returns-in-Takes-clause-stands
-returns-in-Takes-clause-stands c = λ t s.
-    let P : Tables → Type 0 = λ f. StandFor f t in
-    let k = c.args.key in
-    let x = c.args.fact in
-    let f = tables_of c.self.inside in
-    let rows = c.set-in-Takes.new.self.trail in
-    let counts = c.moved-self-inside.result in
-    let session = c.self.inside.session + c.of-gained.result.opened in
-    let handle = c.self.inside.handle + c.gives.result in
-    let lock = c.self.inside.lock + c.of-gained.result.locks in
-    let held = c.shift.new.self.list in
-    let spare = c.self.inside.spare - 1 in
-    let g : Tables = record f { takes = rows; counts = counts; session = session; handle = handle; lock = lock; held = held; spare = spare } in
-    let places : Places f g k x Takes = record { at_home = sym c.of.ensures ∙ c.in-Takes.is; set = c.set-in-Takes.ensures.facts; stays = but-takes f rows counts session handle lock held spare } in
-    let moves : Moves f g k x t = record {
-      counts = follow c.self.inside.counts c.of-lost.result c.of-gained.result counts k x c.fact-before.result.now (value t k) c.of-lost.ensures (c.fact-before.ensures t s) c.of-gained.ensures c.moved-self-inside.ensures;
-      session = ap (λ (n : Counts). c.self.inside.session + n.opened) c.of-gained.ensures;
-      handle = ap (λ (n : ℕ). c.self.inside.handle + n) c.gives.ensures;
-      lock = ap (λ (n : Counts). c.self.inside.lock + n.locks) c.of-gained.ensures;
-      held = noted-by c.self.inside.holdings.list held c.holding_in-lost_thing.result c.holding_in.result k x c.fact-before.result.now (value t k) c.shift.ensures.list c.holding_in-lost_thing.ensures (c.fact-before.ensures t s) c.holding_in.ensures;
-    } in
-    stands-placed f g k x Takes t places moves (subst P (sym c.self.view_is) s)
-
-pub returns-in-Locks-clause-stands : goal.returns-in-Locks-clause-stands
-returns-in-Locks-clause-stands c = λ t s.
-    let P : Tables → Type 0 = λ f. StandFor f t in
-    let k = c.args.key in
-    let x = c.args.fact in
-    let f = tables_of c.self.inside in
-    let rows = c.set-in-Locks.new.self.trail in
-    let counts = c.moved-self-inside.result in
-    let session = c.self.inside.session + c.of-gained.result.opened in
-    let handle = c.self.inside.handle + c.gives.result in
-    let lock = c.self.inside.lock + c.of-gained.result.locks in
-    let held = c.shift.new.self.list in
-    let spare = c.self.inside.spare - 1 in
-    let g : Tables = record f { locks = rows; counts = counts; session = session; handle = handle; lock = lock; held = held; spare = spare } in
-    let places : Places f g k x Locks = record { at_home = sym c.of.ensures ∙ c.in-Locks.is; set = c.set-in-Locks.ensures.facts; stays = but-locks f rows counts session handle lock held spare } in
-    let moves : Moves f g k x t = record {
-      counts = follow c.self.inside.counts c.of-lost.result c.of-gained.result counts k x c.fact-before.result.now (value t k) c.of-lost.ensures (c.fact-before.ensures t s) c.of-gained.ensures c.moved-self-inside.ensures;
-      session = ap (λ (n : Counts). c.self.inside.session + n.opened) c.of-gained.ensures;
-      handle = ap (λ (n : ℕ). c.self.inside.handle + n) c.gives.ensures;
-      lock = ap (λ (n : Counts). c.self.inside.lock + n.locks) c.of-gained.ensures;
-      held = noted-by c.self.inside.holdings.list held c.holding_in-lost_thing.result c.holding_in.result k x c.fact-before.result.now (value t k) c.shift.ensures.list c.holding_in-lost_thing.ensures (c.fact-before.ensures t s) c.holding_in.ensures;
-    } in
-    stands-placed f g k x Locks t places moves (subst P (sym c.self.view_is) s)
-
-pub returns-in-Power-clause-stands : goal.returns-in-Power-clause-stands
-returns-in-Power-clause-stands c = λ t s.
-    let P : Tables → Type 0 = λ f. StandFor f t in
-    let k = c.args.key in
-    let x = c.args.fact in
-    let f = tables_of c.self.inside in
-    let rows = c.set-in-Power.new.self.trail in
-    let counts = c.moved-self-inside.result in
-    let session = c.self.inside.session + c.of-gained.result.opened in
-    let handle = c.self.inside.handle + c.gives.result in
-    let lock = c.self.inside.lock + c.of-gained.result.locks in
-    let held = c.shift.new.self.list in
-    let spare = c.self.inside.spare - 1 in
-    let g : Tables = record f { power = rows; counts = counts; session = session; handle = handle; lock = lock; held = held; spare = spare } in
-    let places : Places f g k x Power = record { at_home = sym c.of.ensures ∙ c.in-Power.is; set = c.set-in-Power.ensures.facts; stays = but-power f rows counts session handle lock held spare } in
-    let moves : Moves f g k x t = record {
-      counts = follow c.self.inside.counts c.of-lost.result c.of-gained.result counts k x c.fact-before.result.now (value t k) c.of-lost.ensures (c.fact-before.ensures t s) c.of-gained.ensures c.moved-self-inside.ensures;
-      session = ap (λ (n : Counts). c.self.inside.session + n.opened) c.of-gained.ensures;
-      handle = ap (λ (n : ℕ). c.self.inside.handle + n) c.gives.ensures;
-      lock = ap (λ (n : Counts). c.self.inside.lock + n.locks) c.of-gained.ensures;
-      held = noted-by c.self.inside.holdings.list held c.holding_in-lost_thing.result c.holding_in.result k x c.fact-before.result.now (value t k) c.shift.ensures.list c.holding_in-lost_thing.ensures (c.fact-before.ensures t s) c.holding_in.ensures;
-    } in
-    stands-placed f g k x Power t places moves (subst P (sym c.self.view_is) s)
+    let u = Set c.args.key c.args.fact ∷ t in
+    let o = owing-of now t s in
+    let P : Tables → Type 0 = λ f. AreOwed f.owing t in
+    let Q : Tables → Type 0 = λ f. TablesStand f u in
+    let R : Tables → Type 0 = λ f. TablesStand f t in
+    let inside = subst P (sym c.self.view_is) o in
+    let before = c.fact-before.ensures t s in
+    let put = ap (λ (f : Tables). f.owing) c.self-2.view_is ∙ c.put_in.ensures.owing in
+    let taken = kept-taken c.self.inside.owing c.lose.new.self c.self-2.inside.owing t inside c.lose.ensures.taken put in
+    let behind = behind-taken c.args.key c.fact-before.result.now c.args.fact t c.taker_in-lost_taker.result c.taker_in-taker.result c.self-2.inside.owing c.shift.new.self c.taker_in-lost_taker.ensures before c.taker_in-taker.ensures taken c.shift.ensures.taken in
+    let stand = subst R (sym c.self.view_is) (opened now t s) in
+    let tables = subst Q (sym c.self-2.view_is) (c.put_in.ensures.stands t (tables-same _ c.lose.new.self c.self.inside.spare t stand)) in
+    let gained = λ (d : ConnId). c.of-gained.ensures u (tables-same _ c.shift.new.self c.self-2.inside.spare u tables) behind d in
+    let all = λ (d : ConnId). behind-marks c.args.key c.fact-before.result.now c.args.fact t c.by-touched.result c.self.inside.owing c.lose.new.self c.self-2.inside.owing c.shift.new.self d _ _
+    c.by-touched.ensures before inside (c.lose.ensures.marks d) (c.of-lost.ensures t (opened now t s) o.taken d) put c.shift.ensures.marks (gained d) in
+    closed _ u (tables-same _ c.gain.new.self c.self-2.inside.spare u tables)
+    (record { marks = λ d. c.gain.ensures.marks d ∙ all d; taken = λ r. ap (λ (w : Room (ℕ × ℕ)). sum_in w.items r.0) c.gain.ensures.taken ∙ behind r })

@@ -1,9 +1,9 @@
-use Rattle.std.proofs.Common.{◌≡◌, ◌<◌, ◌≤◌, ◌∙◌, ◌++◌, sym, ap, subst, true, false, arith, length, take, drop, List, ◌∷◌, get_or, vec_len}
+use Rattle.std.proofs.Common.{◌≡◌, ◌<◌, ◌≤◌, ◌∙◌, sym, ap, subst, arith, length, List, vec_len}
 use Rattle.login_model.specs.Names.{insert}
 use Rattle.login_model.proofs.InOrder.{insert-ascending}
 use Rattle.login_core.specs.declared.board.holding.Holding.{Holding}
 use Rattle.login_core.specs.inner.Holding.{HeldRow, HoldingsAscend, holding_lt}
-use Rattle.login_core.proofs.HeldOrder.{IsAboveAt, Point, ascend-opened, ascend-closed, above-at, holding_order, insert-stays, inserted, level-at}
+use Rattle.login_core.proofs.HeldOrder.{Point, ascend-opened, ascend-closed, above-at, holding_order, insert-stays, inserted, level-at}
 use Rattle.login_core.proofs.board.holding.Holdings.insert.Goals.{else-at-len-via-then-at-len+else-not-is_below, else-at-len-via-else-at-len}
 use Rattle.login_core.proofs.board.holding.Holdings.insert.Goals as goal
 

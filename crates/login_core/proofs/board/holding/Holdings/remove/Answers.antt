@@ -1,4 +1,4 @@
-use Rattle.std.proofs.Common.{◌≡◌, ◌<◌, ◌∙◌, ◌++◌, sym, ap, subst, true, false, arith, filter, length, take, drop, suc, List, get_or, vec_len}
+use Rattle.std.proofs.Common.{◌≡◌, ◌<◌, ◌∙◌, sym, ap, subst, arith, filter, length, List, vec_len}
 use Rattle.login_model.proofs.InOrder.{filter-ascending}
 use Rattle.login_core.specs.declared.board.holding.Holding.{Holding}
 use Rattle.login_core.specs.inner.Holding.{HeldRow, HoldingsAscend, holding_lt, is_other}

@@ -1,6 +1,6 @@
 use Rattle.std.proofs.Common.{◌∙◌, List, ap, filter, subst, sym}
 use Rattle.login_core.specs.declared.board.holding.Holding.{Holding}
-use Rattle.login_core.specs.inner.Holding.{AreHeld, HeldRow, HoldingsAscend, is_such}
+use Rattle.login_core.specs.inner.Holding.{AreHeld, HeldRow, is_such}
 use Rattle.login_core.proofs.HeldOrder.{ascend-opened}
 use Rattle.login_core.proofs.HeldRows.{are-such}
 use Rattle.login_core.proofs.board.holding.Holdings.such.Goals as goal

@@ -1,0 +1,70 @@
+-- What is kept of what connections owe, and how a setting moves it.
+use Rattle.std.specs.Prelude.{ℕ, ◌≡◌, ◌+◌, ◌*◌, if◌then◌else◌, Option, Some, None, length}
+use Rattle.login_base.specs.declared.ids.ConnId.{ConnId}
+use Rattle.login_base.specs.declared.ids.SessId.{SessId}
+use Rattle.login_model.specs.declared.fact.Key.{Key}
+use Rattle.login_model.specs.declared.fact.Key.TheVariants as key
+use Rattle.login_model.specs.declared.fact.Fact.{Fact}
+use Rattle.login_model.specs.declared.fact.Fact.TheVariants as fact
+use Rattle.login_model.specs.Devices.{is_handle_fact, taken_devices}
+use Rattle.login_model.specs.Facts.{fifo_session}
+use Rattle.login_model.specs.Trail.{Trail, value}
+use Rattle.login_core.specs.declared.board.owing.Charge.{Charge}
+use Rattle.login_core.specs.declared.board.owing.Dues.{Dues}
+use Rattle.login_core.specs.declared.board.owing.Dues.TheVariants as dues
+use Rattle.login_core.specs.declared.board.owing.Owing.{Owing}
+use Rattle.login_core.specs.declared.board.owing.Touched.{Touched}
+use Rattle.login_core.specs.declared.board.owing.Touched.TheVariants as touched
+use Rattle.login_core.specs.inner.Owing.{charge, due_at, of_some, other_than, owed}
+use Rattle.login_core.specs.inner.Sums.{part, sum_in}
+
+-- it has how many devices each session has taken
+abbrev pub AreTaken : Owing → Trail → Type 0
+AreTaken owing t = (s : SessId) → sum_in owing.taken.items s.0 ≡ length (taken_devices t s)
+
+-- it has what the marks leave
+pub record AreOwed (owing : Owing) (t : Trail) : Type 0 where
+  pub marks : (c : ConnId) → sum_in owing.marks.items c.0 ≡ owed t c
+  pub taken : AreTaken owing t
+
+-- ---- what is due
+
+-- what a charge is for a connection
+abbrev pub charge_at : Charge → ConnId → ℕ
+charge_at x c = due_at x.controller (1 + 2 * x.taken) c + due_at x.keeper (4 + 2 * x.taken) c
+
+-- what some dues are for a connection
+abbrev pub dues_at : Dues → ConnId → ℕ
+dues_at (dues.Sessions x y) c = charge_at x c + charge_at y c
+dues_at (dues.Lock holder) c = due_at holder 2 c
+
+-- whose lock a fact is
+abbrev pub lock_holder : Fact → Option ConnId
+lock_holder (fact.Lock l) = Some l.holder
+lock_holder _ = None
+
+-- ---- what a setting touches
+
+-- what a setting of a key from one fact to another touches
+abbrev pub touched_by : Key → Fact → Fact → Touched
+touched_by (key.Ctl s) x y = touched.Sessions (Some s) None
+touched_by (key.Sess s) x y = touched.Sessions (Some s) None
+touched_by (key.Taken s d) x y = touched.Sessions (Some s) None
+touched_by (key.Owner h) x y = touched.Sessions (fifo_session x) (other_than (fifo_session x) (fifo_session y))
+touched_by (key.Lock l) x y = touched.Lock l
+touched_by _ x y = touched.Sessions None None
+
+-- what all that is touched makes at the end of a connection
+abbrev pub touched_at : Trail → ConnId → Touched → ℕ
+touched_at t c (touched.Sessions s r) = of_some (charge t c) s + of_some (charge t c) r
+touched_at t c (touched.Lock l) = due_at (lock_holder (value t (key.Lock l))) 2 c
+
+-- the session that a fact says has a device taken
+abbrev pub taker_in : Key → Fact → Option SessId
+taker_in (key.Taken s d) x = if is_handle_fact x then Some s else None
+taker_in _ x = None
+
+-- whether that is this one, as a number
+abbrev pub taker_at : Option SessId → SessId → ℕ
+taker_at None s = 0
+taker_at (Some r) s = part r.0 1 s.0

@@ -1,0 +1,329 @@
+// What connections owe: the marks that the end of each makes for its sessions and its locks.
+
+ghost use Rattle.std.specs.Prelude.{◌≡◌, ◌+◌, ◌*◌, ◌<◌, ◌≤◌, ◌^◌, [], OnOk};
+ghost use Rattle.login_base.specs.declared.ids.ConnId.{ConnId as AnyConnection};
+ghost use Rattle.login_base.specs.declared.ids.SessId.{SessId as AnySession};
+ghost use Rattle.login_model.specs.Trail.{Trail, value};
+ghost use Rattle.login_core.specs.inner.Dues.{AreOwed, AreTaken, charge_at, dues_at, lock_holder, taker_at, taker_in, touched_at, touched_by};
+ghost use Rattle.login_core.specs.inner.Facts.{TablesStand};
+ghost use Rattle.login_core.specs.inner.Owing.{charge, due_at, keeper, keeper_in, of_some, other_than};
+ghost use Rattle.login_core.specs.inner.Sums.{sum_in};
+
+use crate::board::facts::Facts;
+use crate::board::sums::Sums;
+use login_base::{ConnId, LockNo, NoMemory, SessId};
+use login_model::{Fact, Key};
+use std::alloc::Global;
+
+/// How many rows of connections a setting may make: of the controllers and of the keepers of two sessions.
+const ROWS: usize = 4;
+
+/// What a setting tells of: sessions, of which a handle may go from one to another, or a lock.
+#[derive(Clone, Copy)]
+pub enum Touched {
+    /// Sessions, one, two or none.
+    Sessions(Option<SessId>, Option<SessId>),
+    /// A lock.
+    Lock(LockNo),
+}
+
+/// The second session, if it is there and is not the first.
+fn other_than(one: Option<SessId>, other: Option<SessId>) -> Option<SessId>
+    ensures { result ≡ other_than one other }
+{
+    match (one, other) {
+        (Some(one), Some(other)) => { if one.0 == other.0 { None } else { Some(other) } }
+        (None, Some(other)) => Some(other),
+        (_, None) => None,
+    }
+}
+
+impl Touched {
+    /// What a setting of a key from one fact to another tells of.
+    pub fn by(key: &Key, before: &Fact, fact: &Fact) -> Touched
+        ensures { result ≡ touched_by key.now before.now fact.now }
+    {
+        match key {
+            Key::Ctl(session) => Touched::Sessions(Some(*session), None),
+            Key::Sess(session) => Touched::Sessions(Some(*session), None),
+            Key::Taken(session, _) => Touched::Sessions(Some(*session), None),
+            Key::Owner(_) => {
+                let first = before.fifo_session();
+                Touched::Sessions(first, other_than(first, fact.fifo_session()))
+            }
+            Key::Lock(lock) => Touched::Lock(*lock),
+            _ => Touched::Sessions(None, None),
+        }
+    }
+}
+
+/// The session that a fact says has a device taken.
+pub fn taker_in(key: &Key, fact: &Fact) -> Option<SessId>
+    ensures { result ≡ taker_in key.now fact.now }
+{
+    match key {
+        Key::Taken(session, _) => {
+            if fact.is_handle() {
+                Some(*session)
+            } else {
+                None
+            }
+        }
+        _ => None,
+    }
+}
+
+/// The connection that keeps a session open with the handle of a fact.
+fn keeper_in(session: SessId, fact: &Fact) -> Option<ConnId>
+    ensures { result ≡ keeper_in session fact.now }
+{
+    if fact.fifo_session()?.0 == session.0 {
+        fact.holder()
+    } else {
+        None
+    }
+}
+
+/// Whose lock a fact is.
+fn lock_holder(fact: &Fact) -> Option<ConnId>
+    ensures { result ≡ lock_holder fact.now }
+{
+    Some(fact.lock()?.holder)
+}
+
+/// What a session makes at the ends of the connections that have it.
+#[derive(Clone, Copy)]
+pub struct Charge {
+    /// Who controls it.
+    controller: Option<ConnId>,
+    /// Who keeps it open.
+    keeper: Option<ConnId>,
+    /// How many devices it has taken.
+    taken: u32,
+}
+
+impl Charge {
+    /// Nothing.
+    const NONE: Charge = Charge {
+        controller: None,
+        keeper: None,
+        taken: 0,
+    };
+
+    /// Who keeps a session of this fact open.
+    fn keeper(facts: &Facts, session: SessId, fact: &Fact) -> Option<ConnId>
+        ensures { (t : Trail) → TablesStand facts.now t → fact.now ≡ value t (Key.Sess session) → result ≡ keeper t session }
+    {
+        if fact.is_open() {
+            keeper_in(session, facts.read(&Key::Owner(fact.fifo())))
+        } else {
+            None
+        }
+    }
+
+    /// What a session makes.
+    fn of(facts: &Facts, session: SessId) -> Charge
+        requires few { sum_in facts.now.owing.taken.items session.0 < 2 ^ 32 }
+        ensures { (t : Trail) → TablesStand facts.now t → AreTaken facts.now.owing t → (c : AnyConnection) → charge_at result c ≡ charge t c session }
+    {
+        let fact = facts.read(&Key::Sess(session));
+        if !fact.is_session() {
+            return Charge::NONE;
+        }
+        Charge {
+            controller: facts.read(&Key::Ctl(session)).controller(),
+            keeper: Charge::keeper(facts, session, fact),
+            taken: facts.taken_by(session),
+        }
+    }
+
+    /// What a session makes that there may be.
+    fn of_some(facts: &Facts, session: Option<SessId>) -> Charge
+        requires few { (s : AnySession) → sum_in facts.now.owing.taken.items s.0 < 2 ^ 32 }
+        ensures { (t : Trail) → TablesStand facts.now t → AreTaken facts.now.owing t → (c : AnyConnection) → charge_at result c ≡ of_some (charge t c) session }
+    {
+        match session {
+            Some(session) => Charge::of(facts, session),
+            None => Charge::NONE,
+        }
+    }
+}
+
+/// What all that a setting touches makes at the ends of connections.
+#[derive(Clone, Copy)]
+pub enum Dues {
+    /// What two sessions make.
+    Sessions(Charge, Charge),
+    /// What a lock makes, by its holder.
+    Lock(Option<ConnId>),
+}
+
+impl Dues {
+    /// What is due of what a setting touches.
+    pub fn of(facts: &Facts, touched: Touched) -> Dues
+        requires few { (s : AnySession) → sum_in facts.now.owing.taken.items s.0 < 2 ^ 32 }
+        ensures { (t : Trail) → TablesStand facts.now t → AreTaken facts.now.owing t → (c : AnyConnection) → dues_at result c ≡ touched_at t c touched }
+    {
+        match touched {
+            Touched::Sessions(one, other) => {
+                Dues::Sessions(Charge::of_some(facts, one), Charge::of_some(facts, other))
+            }
+            Touched::Lock(lock) => Dues::Lock(lock_holder(facts.read(&Key::Lock(lock)))),
+        }
+    }
+}
+
+/// What connections owe, and how many devices sessions have taken.
+#[derive(Drop)]
+pub struct Owing {
+    /// The marks of each connection's end.
+    pub marks: Sums,
+    /// How many devices each session has taken.
+    pub taken: Sums,
+}
+
+impl Owing {
+    /// Nobody owes anything. It takes no memory.
+    pub fn new(alloc: Global) -> Owing
+        ensures { AreOwed result [] }
+    {
+        Owing {
+            marks: Sums::new(alloc),
+            taken: Sums::new(alloc),
+        }
+    }
+
+    /// Makes room for so many more settings.
+    pub fn reserve(&mut self, settings: usize) -> Result<(), NoMemory>
+        requires { settings < 2 ^ 32 }
+        ensures marks { OnOk result (4 * settings ≤ self.new.marks.spare) }
+        ensures taken { OnOk result (settings ≤ self.new.taken.spare) }
+        ensures owed { (t : Trail) → AreOwed self.old t → AreOwed self.new t }
+        ensures keeps_marks { self.old.marks.spare ≤ self.new.marks.spare }
+        ensures keeps_taken { self.old.taken.spare ≤ self.new.taken.spare }
+    {
+        self.marks.reserve(ROWS * settings)?;
+        self.taken.reserve(settings)
+    }
+
+    /// A connection that there may be owes so much less.
+    fn lose_at(&mut self, who: Option<ConnId>, lost: u64)
+        requires { (c : AnyConnection) → due_at who lost c ≤ sum_in self.old.marks.items c.0 }
+        ensures marks { (c : AnyConnection) → sum_in self.new.marks.items c.0 + due_at who lost c ≡ sum_in self.old.marks.items c.0 }
+        ensures spare { self.old.marks.spare ≤ self.new.marks.spare }
+        ensures taken { self.new.taken ≡ self.old.taken }
+    {
+        if let Some(who) = who {
+            self.marks.lose(who.0, lost);
+        }
+    }
+
+    /// A connection that there may be owes so much more.
+    fn gain_at(&mut self, who: Option<ConnId>, gained: u64)
+        requires room { 0 < self.old.marks.spare }
+        requires bound { (c : AnyConnection) → sum_in self.old.marks.items c.0 + due_at who gained c < 2 ^ 64 }
+        ensures marks { (c : AnyConnection) → sum_in self.new.marks.items c.0 ≡ sum_in self.old.marks.items c.0 + due_at who gained c }
+        ensures spare { self.old.marks.spare ≤ self.new.marks.spare + 1 }
+        ensures taken { self.new.taken ≡ self.old.taken }
+    {
+        if let Some(who) = who {
+            self.marks.gain(who.0, gained);
+        }
+    }
+
+    /// What a session makes is owed no more.
+    fn lose_charge(&mut self, lost: Charge)
+        requires { (c : AnyConnection) → charge_at lost c ≤ sum_in self.old.marks.items c.0 }
+        ensures marks { (c : AnyConnection) → sum_in self.new.marks.items c.0 + charge_at lost c ≡ sum_in self.old.marks.items c.0 }
+        ensures spare { self.old.marks.spare ≤ self.new.marks.spare }
+        ensures taken { self.new.taken ≡ self.old.taken }
+    {
+        let devices = 2 * u64::from(lost.taken);
+        self.lose_at(lost.controller, 1 + devices);
+        self.lose_at(lost.keeper, 4 + devices);
+    }
+
+    /// What a session makes is owed as well.
+    fn gain_charge(&mut self, gained: Charge)
+        requires room { 1 < self.old.marks.spare }
+        requires bound { (c : AnyConnection) → sum_in self.old.marks.items c.0 + charge_at gained c < 2 ^ 64 }
+        ensures marks { (c : AnyConnection) → sum_in self.new.marks.items c.0 ≡ sum_in self.old.marks.items c.0 + charge_at gained c }
+        ensures spare { self.old.marks.spare ≤ self.new.marks.spare + 2 }
+        ensures taken { self.new.taken ≡ self.old.taken }
+    {
+        let devices = 2 * u64::from(gained.taken);
+        self.gain_at(gained.controller, 1 + devices);
+        self.gain_at(gained.keeper, 4 + devices);
+    }
+
+    /// What is due is owed no more.
+    pub fn lose(&mut self, lost: Dues)
+        requires { (c : AnyConnection) → dues_at lost c ≤ sum_in self.old.marks.items c.0 }
+        ensures marks { (c : AnyConnection) → sum_in self.new.marks.items c.0 + dues_at lost c ≡ sum_in self.old.marks.items c.0 }
+        ensures spare { self.old.marks.spare ≤ self.new.marks.spare }
+        ensures taken { self.new.taken ≡ self.old.taken }
+    {
+        match lost {
+            Dues::Sessions(one, other) => {
+                self.lose_charge(one);
+                self.lose_charge(other);
+            }
+            Dues::Lock(holder) => self.lose_at(holder, 2),
+        }
+    }
+
+    /// What is due is owed as well. It takes no memory.
+    pub fn gain(&mut self, gained: Dues)
+        requires room { 4 ≤ self.old.marks.spare }
+        requires bound { (c : AnyConnection) → sum_in self.old.marks.items c.0 + dues_at gained c < 2 ^ 64 }
+        ensures marks { (c : AnyConnection) → sum_in self.new.marks.items c.0 ≡ sum_in self.old.marks.items c.0 + dues_at gained c }
+        ensures spare { self.old.marks.spare ≤ self.new.marks.spare + 4 }
+        ensures taken { self.new.taken ≡ self.old.taken }
+    {
+        match gained {
+            Dues::Sessions(one, other) => {
+                self.gain_charge(one);
+                self.gain_charge(other);
+            }
+            Dues::Lock(holder) => self.gain_at(holder, 2),
+        }
+    }
+
+    /// A session that there may be has taken a device less.
+    fn lose_taker(&mut self, lost: Option<SessId>)
+        requires { (s : AnySession) → taker_at lost s ≤ sum_in self.old.taken.items s.0 }
+        ensures taken { (s : AnySession) → sum_in self.new.taken.items s.0 + taker_at lost s ≡ sum_in self.old.taken.items s.0 }
+        ensures spare { self.old.taken.spare ≤ self.new.taken.spare }
+        ensures marks { self.new.marks ≡ self.old.marks }
+    {
+        if let Some(session) = lost {
+            self.taken.lose(session.0, 1);
+        }
+    }
+
+    /// A session that there may be has taken a device more.
+    fn gain_taker(&mut self, gained: Option<SessId>)
+        requires room { 0 < self.old.taken.spare }
+        requires bound { (s : AnySession) → sum_in self.old.taken.items s.0 + taker_at gained s < 2 ^ 64 }
+        ensures taken { (s : AnySession) → sum_in self.new.taken.items s.0 ≡ sum_in self.old.taken.items s.0 + taker_at gained s }
+        ensures spare { self.old.taken.spare ≤ self.new.taken.spare + 1 }
+        ensures marks { self.new.marks ≡ self.old.marks }
+    {
+        if let Some(session) = gained {
+            self.taken.gain(session.0, 1);
+        }
+    }
+
+    /// A session has taken a device less, and one has taken a device more. It takes no memory.
+    pub fn shift(&mut self, lost: Option<SessId>, gained: Option<SessId>)
+        requires within { (s : AnySession) → taker_at lost s ≤ sum_in self.old.taken.items s.0 }
+        requires room { 0 < self.old.taken.spare }
+        requires bound { (s : AnySession) → sum_in self.old.taken.items s.0 + taker_at gained s < 2 ^ 64 }
+        ensures taken { (s : AnySession) → sum_in self.new.taken.items s.0 + taker_at lost s ≡ sum_in self.old.taken.items s.0 + taker_at gained s }
+        ensures spare { self.old.taken.spare ≤ self.new.taken.spare + 1 }
+        ensures marks { self.new.marks ≡ self.old.marks }
+    {
+        self.lose_taker(lost);
+        self.gain_taker(gained);
+    }
+}
