@@ -15,7 +15,7 @@ use Rattle.login_model.specs.Reading.{is_granted}
 use Rattle.login_model.specs.Setups.{IsSetup}
 use Rattle.login_model.specs.Stopping.{stopped}
 use Rattle.login_model.specs.Where.{is_connected}
-use Rattle.login_model.specs.declared.count.Count.{Count}
+use Rattle.login_model.specs.declared.fullness.Fullness.{Fullness}
 use Rattle.login_model.specs.declared.event.Event.{Event}
 use Rattle.login_model.specs.declared.event.Event.TheVariants.{Disconnect}
 use Rattle.login_model.specs.declared.mark.Entry.{Entry}
@@ -34,7 +34,7 @@ legal-last U past (x ∷ xs) e l = subst (λ (z : List Entry). IsLegalEntry U z 
 
 -- ---- an event is stepped
 
-not-stopped : (s : Option ℕ) (f : Option Count) → refusal s f ≡ None → IsSome s → ⊥
+not-stopped : (s : Option ℕ) (f : Option Fullness) → refusal s f ≡ None → IsSome s → ⊥
 not-stopped (Some n) f room s = let k : ⊥ = cc in k
 not-stopped None f room s = let k : false ≡ true = s in cc
 

@@ -6,7 +6,7 @@ use Rattle.login_base.specs.declared.ids.Uid.{Uid}
 use Rattle.login_edge.specs.Exchanges.{Exchange, heard_of}
 use Rattle.login_model.specs.Legal.{events_of}
 use Rattle.login_model.specs.Reading.{is_granted}
-use Rattle.login_model.specs.declared.count.Count.{Count}
+use Rattle.login_model.specs.declared.fullness.Fullness.{Fullness}
 use Rattle.login_model.specs.declared.event.Event.{Event}
 use Rattle.login_model.specs.declared.mark.Entry.{Entry}
 use Rattle.login_model.specs.declared.rule.Verdict.{Verdict}

@@ -9,7 +9,7 @@ use Rattle.login_edge.specs.Exchanges.{heard_of, said_of}
 use Rattle.login_model.specs.Full.{full}
 use Rattle.login_model.specs.Legal.{events_of}
 use Rattle.login_model.specs.Stopping.{stop_from, stopped}
-use Rattle.login_model.specs.declared.count.Count.{Count}
+use Rattle.login_model.specs.declared.fullness.Fullness.{Fullness}
 use Rattle.login_model.specs.declared.event.Event.{Event}
 use Rattle.login_model.specs.declared.event.Event.TheVariants.{Connect, Disconnect, Call as Calls, Hardware as Happens, Tick, Stop}
 use Rattle.login_model.specs.declared.mark.Entry.{Entry}
@@ -26,12 +26,12 @@ use Rattle.link_serve.proofs.Exchanged.{through-longer}
 use Rattle.link_serve.proofs.Telling.{goes-still}
 
 -- what refused is the stop, or a full journal
-was-stopped : (s : Option ℕ) (f : Option Count) (n : ℕ) → refusal s f ≡ Some (refused.Stopped n) → s ≡ Some n
+was-stopped : (s : Option ℕ) (f : Option Fullness) (n : ℕ) → refusal s f ≡ Some (refused.Stopped n) → s ≡ Some n
 was-stopped (Some m) f n e = ap Some (let same : m ≡ n = cc in same)
 was-stopped None (Some count) n e = absurd (let k : ⊥ = cc in k)
 was-stopped None None n e = absurd (let k : ⊥ = cc in k)
 
-was-full : (s : Option ℕ) (f : Option Count) (count : Count) → refusal s f ≡ Some (refused.Full count) → f ≡ Some count
+was-full : (s : Option ℕ) (f : Option Fullness) (count : Fullness) → refusal s f ≡ Some (refused.Full count) → f ≡ Some count
 was-full (Some m) f count e = absurd (let k : ⊥ = cc in k)
 was-full None (Some other) count e = ap Some (let same : other ≡ count = cc in same)
 was-full None None count e = absurd (let k : ⊥ = cc in k)
@@ -96,7 +96,7 @@ module _ (u : Uid) (start old new : Moment) (teller : TellerState) (text : List 
   }
 
   -- it is full for the next event
-  full-for : (e : Event) (later : List Event) (count : Count) → events_heard (who_of start) u s.setup.guid text ≡ made ++ (e ∷ later) → full s.setup before e ≡ Some count
+  full-for : (e : Event) (later : List Event) (count : Fullness) → events_heard (who_of start) u s.setup.guid text ≡ made ++ (e ∷ later) → full s.setup before e ≡ Some count
       → IsFullFor s.setup (who_of start) (entries new.view.seen) (events_of new.view.mine) (events_heard (who_of start) u s.setup.guid (heard_of s.talk)) count
   full-for e later count next is = record {
     event = e;

@@ -8,7 +8,7 @@ use Rattle.login_edge.specs.Faults.{Rose}
 use Rattle.login_model.specs.Full.{full}
 use Rattle.login_model.specs.Legal.{events_of}
 use Rattle.login_model.specs.Stopping.{stop_from}
-use Rattle.login_model.specs.declared.count.Count.{Count}
+use Rattle.login_model.specs.declared.fullness.Fullness.{Fullness}
 use Rattle.login_model.specs.declared.event.Event.{Event}
 use Rattle.login_model.specs.declared.mark.Entry.{Entry}
 use Rattle.login_model.specs.declared.rule.Limit.TheVariants.{Links}
@@ -97,7 +97,7 @@ FaultsAt end.WriteFault before now = Rose before now
 FaultsAt _ before now = now ≡ before
 
 -- behind a front of the journal in which the link has made these events, it is full for the next one
-pub record IsFullFor (U : Setup) (c : ConnId) (J : List Entry) (made all : List Event) (count : Count) : Type 0 where
+pub record IsFullFor (U : Setup) (c : ConnId) (J : List Entry) (made all : List Event) (count : Fullness) : Type 0 where
   pub event : Event
   pub later : List Event
   pub next : all ≡ made ++ event ∷ later

@@ -14,7 +14,7 @@ ghost use Rattle.link_serve.specs.inner.Acting.{Closes, StepsNow};
 ghost use Rattle.link_serve.specs.Owners.{entries_of, event_who};
 
 use crate::acts::Made;
-use desk::{Desk, Kept, Pass};
+use desk::{Desk, Journaled, Pass};
 use login_base::{ConnId, NoMemory};
 use login_core::{Core, Refused};
 use login_model::{Entry, Event, Journal, Key, Look, Mark, Setup, Verdict};
@@ -44,7 +44,7 @@ impl Model for CoreAtDesk {
     ghost invariant = { λ c. IsAtDesk c.core };
 }
 
-impl Kept for CoreAtDesk {
+impl Journaled for CoreAtDesk {
     ghost use Rattle.link_serve.specs.Owners.{entry_who};
 
     type Setup = Setup;

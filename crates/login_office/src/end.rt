@@ -2,7 +2,7 @@
 
 use bus_auth::Ending;
 use bus_message::Malformed;
-use login_model::Count;
+use login_model::Fullness;
 
 /// Why a link has not begun.
 #[derive(Clone, Copy, Debug, PartialEq, Eq)]
@@ -26,7 +26,7 @@ pub enum LinkEnd {
     WriteFault,
     NoMemory,
     /// The journal was full for its connect or for a call.
-    Full(Count),
+    Full(Fullness),
     /// The entry with this number is the stop.
     Stopped(u32),
     /// There were as many connections as there may be.

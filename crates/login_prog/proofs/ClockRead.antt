@@ -10,7 +10,7 @@ use Rattle.login_edge.specs.declared.clock.Reading.{Reading}
 use Rattle.login_edge.specs.declared.clock.Reading.TheVariants.{At, Failed}
 use Rattle.login_prog.specs.Outcome.{BothTold, after_calls}
 use Rattle.login_prog.specs.Served.{AreTicks, due, early, last_tick, refused, tick_length}
-use Rattle.login_prog.specs.inner.House.{Door, FaultsSay, Far, Goes, GoesUpTo, HasCalled, Held, IsClockOf, KeepsAt, Since, WasRead, failing}
+use Rattle.login_prog.specs.inner.House.{Door, FaultsSay, Far, Goes, GoesUpTo, HasCalled, Held, IsClockOf, KeepsAt, Since, WasClocked, failing}
 use Rattle.login_prog.specs.declared.serve.accepting.House.{House}
 
 pub one-call-more : (before calls now : ℕ) → HasCalled before calls now → HasCalled before (calls + 1) (one_more now)
@@ -54,7 +54,7 @@ both-map f old now later P Q on e b = subst (λ (o : Option _). BothTold old o Q
 
 module _ {L : Type 0} (x : Since L) (t : Far) (calls : ℕ) (told later : Option Readings) (faults now tick : ℕ) (c : IsClockOf x t calls told faults tick) (going : t.refused ≡ None) where
   abbrev Was : ℕ → List ℕ → Option Millis → Readings → Readings → Type 0
-  Was calls ticks m q p = WasRead calls ticks m q p
+  Was calls ticks m q p = WasClocked calls ticks m q p
 
   still : (q p : Readings) → Was calls t.ticks t.refused q p → Was calls t.ticks None q p
   still q p r = subst (λ (o : Option Millis). Was calls t.ticks o q p) going r

@@ -1,7 +1,7 @@
 -- A text ends a run in one way.
 use Rattle.std.proofs.Common.{ℕ, Some, None}
 use Rattle.std.specs.Option.{IfSome}
-use Rattle.login_model.specs.declared.count.Count.{Count}
+use Rattle.login_model.specs.declared.fullness.Fullness.{Fullness}
 use Rattle.replay.specs.Outcome.{Replayed, RefusedAt, FullAt}
 use Rattle.replay.specs.declared.cause.Cause.{Cause}
 use Rattle.replay.proofs.Written.{TextTold}
@@ -28,10 +28,10 @@ refused_fills None before after number cause input output h = tt
 refused_fills (Some text) before after number cause input output h = λ count k p q. absurd (one_stop.refused_or_full text number cause count before after None None h k)
 
 -- a text that fills the journal is no recording, and none that is refused
-pub full_completes : (all before after : TextTold) (count : Count) (input output : Type 0) → IfSome all (λ text. FullAt count text before after) → Completes 6 all input output
+pub full_completes : (all before after : TextTold) (count : Fullness) (input output : Type 0) → IfSome all (λ text. FullAt count text before after) → Completes 6 all input output
 full_completes None before after count input output h = tt
 full_completes (Some text) before after count input output h = λ r p q. absurd (one_stop.never_full text count before after r h)
 
-pub full_refuses : (all before after : TextTold) (count : Count) (input output : Type 0) → IfSome all (λ text. FullAt count text before after) → Refuses 6 all input output
+pub full_refuses : (all before after : TextTold) (count : Fullness) (input output : Type 0) → IfSome all (λ text. FullAt count text before after) → Refuses 6 all input output
 full_refuses None before after count input output h = tt
 full_refuses (Some text) before after count input output h = λ number cause k p q. absurd (one_stop.refused_or_full text number cause count None None before after k h)

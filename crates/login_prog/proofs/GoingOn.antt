@@ -12,7 +12,7 @@ use Rattle.login_edge.specs.Register.{Arrived}
 use Rattle.login_model.specs.Full.{full}
 use Rattle.login_model.specs.Legal.{events_of}
 use Rattle.login_model.specs.Stopping.{is_stop, stop_from}
-use Rattle.login_model.specs.declared.count.Count.{Count}
+use Rattle.login_model.specs.declared.fullness.Fullness.{Fullness}
 use Rattle.login_model.specs.declared.event.Event.{Event}
 use Rattle.login_model.specs.declared.mark.Entry.{Entry}
 use Rattle.login_model.specs.declared.setup.Setup.{Setup}
@@ -76,7 +76,7 @@ module _ (v w : View Setup Entry) (m : SeesMore v w) where
   pub joined-on : (c : ℕ) (mine : List Entry) → HasJoinedPass v.joined c mine → HasJoinedPass w.joined c mine
   joined-on c mine h = subst (λ (js : List (Joined Entry)). HasJoinedPass js c mine) (sym m.joined_is) (joined-still v.joined m.others c mine h)
 
-  pub full-on : (U : Setup) (ticks : List ℕ) (moment : Millis) (count : Count) → FullForTick U v.seen ticks moment count → FullForTick U w.seen ticks moment count
+  pub full-on : (U : Setup) (ticks : List ℕ) (moment : Millis) (count : Fullness) → FullForTick U v.seen ticks moment count → FullForTick U w.seen ticks moment count
   full-on U ticks moment count f = record {
     front = f.front;
     later = f.later ++ m.more;

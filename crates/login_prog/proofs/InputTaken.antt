@@ -1,6 +1,6 @@
 -- What the end of the reader says of the input, by the troubles.
 use Rattle.std.proofs.Common.{◌≡◌, ℕ, ◌+◌, ◌⊎◌, inl, inr, Bool, true, false, true≢false, List, [], ◌∷◌, ◌++◌, Option, Some, None, IfSome, is_some, refl, ap, sym, ◌∙◌, subst, append_assoc}
-use Rattle.login_model.specs.declared.count.Count.{Count}
+use Rattle.login_model.specs.declared.fullness.Fullness.{Fullness}
 use Rattle.login_model.specs.declared.event.Event.{Event}
 use Rattle.login_model.specs.declared.hardware.Hardware.{Hardware}
 use Rattle.login_model.specs.declared.mark.Entry.{Entry}
@@ -148,14 +148,14 @@ module _ (U : Setup) (count : ℕ) (input : Change (Option (List ℕ))) (by : Vi
     steady (Some reader.NoMemory) k is s = k.faults
 
     -- a full journal was met by the reader, or before
-    same-count : (a b : Count) → Some a ≡ Some b → a ≡ b
+    same-count : (a b : Fullness) → Some a ≡ Some b → a ≡ b
     same-count a b s = cc
 
-    pub full : (c : Count) (e : Option ReaderEnd) → t ≡ with_end e own → t.full ≡ Some c → (e ≡ Some (reader.Full c)) ⊎ (own.full ≡ Some c)
+    pub full : (c : Fullness) (e : Option ReaderEnd) → t ≡ with_end e own → t.full ≡ Some c → (e ≡ Some (reader.Full c)) ⊎ (own.full ≡ Some c)
     full c None is s = inr (sym (ap (λ (z : Troubles). z.full) is) ∙ s)
     full c (Some reader.Stop) is s = inr (sym (ap (λ (z : Troubles). z.full) is) ∙ s)
     full c (Some (reader.Script n cause)) is s = inr (sym (ap (λ (z : Troubles). z.full) is) ∙ s)
-    full c (Some (reader.Full d)) is s = inl (ap (λ (z : Count). Some (reader.Full z)) (same-count d c (sym (ap (λ (z : Troubles). z.full) is) ∙ s)))
+    full c (Some (reader.Full d)) is s = inl (ap (λ (z : Fullness). Some (reader.Full z)) (same-count d c (sym (ap (λ (z : Troubles). z.full) is) ∙ s)))
     full c (Some reader.Stopped) is s = inr (sym (ap (λ (z : Troubles). z.full) is) ∙ s)
     full c (Some reader.ReadFault) is s = inr (sym (ap (λ (z : Troubles). z.full) is) ∙ s)
     full c (Some reader.NoMemory) is s = inr (sym (ap (λ (z : Troubles). z.full) is) ∙ s)

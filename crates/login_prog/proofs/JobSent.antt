@@ -29,7 +29,7 @@ draft-send : IsSend Draft.the_row
 draft-send = search (reserved.the_send, mark.the_send, facts.the_send, seating.the_field_send, sendable, crosses) depth 60 fits 5000
 
 board-send : IsSend (Board.the_field).row
-board-send = search (ledger.the_send, draft-send, heap.the_field_send, sendable, crosses) depth 60 fits 5000
+board-send = search (ledger.the_send, draft-send, reserved.the_send, mark.the_send, heap.the_field_send, sendable, crosses) depth 60 fits 5000
 
 core-send : IsSend Core.the_row
 core-send = search (setup.the_field_send, board-send, texts.the_field_send, ready.the_field_send, inputs.the_send, sendable, crosses) depth 60 fits 5000

@@ -11,7 +11,7 @@ use Rattle.login_edge.specs.Register.{Arrived, Register}
 use Rattle.login_model.specs.Full.{full}
 use Rattle.login_model.specs.Legal.{events_of}
 use Rattle.login_model.specs.Stopping.{stop_from, stopped}
-use Rattle.login_model.specs.declared.count.Count.{Count}
+use Rattle.login_model.specs.declared.fullness.Fullness.{Fullness}
 use Rattle.login_model.specs.declared.event.Event.{Event}
 use Rattle.login_model.specs.declared.event.Event.TheVariants.{Tick}
 use Rattle.login_model.specs.declared.mark.Entry.{Entry}
@@ -26,7 +26,7 @@ use Rattle.login_prog.specs.declared.serve.accepting.House.{House}
 use Rattle.login_prog.specs.declared.serve.troubles.Troubles.{Troubles}
 use Rattle.login_prog.specs.inner.Endings.{with_refused}
 use Rattle.replay.specs.Rising.{Rises}
-use Rattle.login_prog.specs.inner.House.{Door, Far, FaultsSay, FullForTick, HasTicked, HasTrouble, Held, IsListed, IsUntold, KeepsAt, MayStop, NoMore, Since, WasAsked, all_out, stopped_now, tick}
+use Rattle.login_prog.specs.inner.House.{Door, Far, FaultsSay, FullForTick, HasTicked, HasTrouble, Held, IsListed, IsUntold, KeepsAt, MayStopAfter, NoMore, Since, WasAsked, all_out, stopped_now, tick}
 use Rattle.login_prog.specs.inner.Jobs.{PassOfCore}
 use Rattle.login_prog.proofs.ReaderPass.{by_count, by_stop}
 use Rattle.login_prog.proofs.GoingOn.{SeesMore, acts-more, entries-on, first-acts, full-on, placed-on, stopped-on}
@@ -97,7 +97,7 @@ module _ {L N P : Type 0} (number : L → ℕ) (talk : L → Option (List Exchan
   pub acts-keeps : (t : Far) (hands : List (Held L)) (house : House L N P) (pass : PassOfCore) (troubles : Troubles) (before own : List Entry) (ticks : List ℕ) (refused : Option Millis) (is_stopped : Bool)
       → pass.desk ≡ house.pass.desk → Acts house.pass.view pass.view before own → Worse house.troubles troubles → troubles.listener_or_clock ≡ house.troubles.listener_or_clock
       → troubles.spawn_fault ≡ house.troubles.spawn_fault → HasTicked troubles ticks t.is_alone pass.view.mine → (is_stopped ≡ true → IsSome (stop_from 1 (entries pass.view.seen)))
-      → ((count : Count) → troubles.full ≡ Some count → (m : Millis) × (refused ≡ Some m) × FullForTick x.setup pass.view.seen ticks m count)
+      → ((count : Fullness) → troubles.full ≡ Some count → (m : Millis) × (refused ≡ Some m) × FullForTick x.setup pass.view.seen ticks m count)
       → At t hands house → At (record t { ticks = ticks; refused = refused; is_stopped = is_stopped }) hands (record house { pass = pass; troubles = troubles })
   acts-keeps t hands house pass troubles before own ticks refused is_stopped same a worse listener spawner ticked stop full k =
       let more = acts-more house.pass.view pass.view before own a in
@@ -132,7 +132,7 @@ module _ {L N P : Type 0} (number : L → ℕ) (talk : L → Option (List Exchan
 
   -- it sees to the stop
   pub stop-keeps : (t : Far) (hands : List (Held L)) (house : House L N P) (pass : PassOfCore) → pass.desk ≡ house.pass.desk → StopTells house.pass.view pass.view
-      → MayStop house.troubles t.is_alone house.pass.view.seen → At t hands house → At (stopped_now t) hands (record house { pass = pass })
+      → MayStopAfter house.troubles t.is_alone house.pass.view.seen → At t hands house → At (stopped_now t) hands (record house { pass = pass })
   stop-keeps t hands house pass same s may k =
       let more = acts-more house.pass.view pass.view s.before s.own s.acts in
       acts-keeps t hands house pass house.troubles s.before s.own t.ticks t.refused true same s.acts (same-trouble house.troubles) refl refl
@@ -152,7 +152,7 @@ same-door {L = L} number talk left faults spawner_faults x t hands house d e r g
 
 -- ---- ticks
 
-tick-none : (s : Option ℕ) (f : Option Count) → refusal s f ≡ None → s ≡ None
+tick-none : (s : Option ℕ) (f : Option Fullness) → refusal s f ≡ None → s ≡ None
 tick-none (Some n) f e = absurd (let k : ⊥ = cc in k)
 tick-none None (Some c) e = absurd (let k : ⊥ = cc in k)
 tick-none None None e = refl
@@ -182,7 +182,7 @@ module _ {L N P : Type 0} (number : L → ℕ) (talk : L → Option (List Exchan
   w = pass.view
 
   -- no tick was refused before
-  not-full : (count : Count) → house.troubles.full ≡ Some count → ⊥
+  not-full : (count : Fullness) → house.troubles.full ≡ Some count → ⊥
   not-full count e = let f = k.full count e in none-some f.0 (sym going ∙ f.1)
 
   -- the pass has made a tick
@@ -225,7 +225,7 @@ module _ {L N P : Type 0} (number : L → ℕ) (talk : L → Option (List Exchan
     mine-same : w.mine ≡ v.mine
     mine-same = a.mine_is ∙ append-nil v.mine
 
-    full-so : (r : Refused) → StepGives s.setup (Tick m) s.before (entries w.seen) (Err r) → (count : Count) → (with_refused r house.troubles).full ≡ Some count → FullForTick x.setup w.seen t.ticks m count
+    full-so : (r : Refused) → StepGives s.setup (Tick m) s.before (entries w.seen) (Err r) → (count : Fullness) → (with_refused r house.troubles).full ≡ Some count → FullForTick x.setup w.seen t.ticks m count
     full-so refused.NoMemory g count e = absurd (not-full count e)
     full-so (refused.Full other) g count e =
         let f = by_count (stopped s.before (Tick m)) (full s.setup s.before (Tick m)) other g.1 in
@@ -242,14 +242,14 @@ module _ {L N P : Type 0} (number : L → ℕ) (talk : L → Option (List Exchan
         }
     full-so (refused.Stopped n) g count e = absurd (not-full count e)
 
-    reason : (r : Refused) → StepGives s.setup (Tick m) s.before (entries w.seen) (Err r) → MayStop (with_refused r house.troubles) t.is_alone w.seen
+    reason : (r : Refused) → StepGives s.setup (Tick m) s.before (entries w.seen) (Err r) → MayStopAfter (with_refused r house.troubles) t.is_alone w.seen
     reason refused.NoMemory g = inl (inl refl)
     reason (refused.Full count) g = inl (inr (inl refl))
     reason (refused.Stopped n) g =
         inr (inr (ap is_some (ap (stop_from 1) g.0 ∙ (sym (stop-of-tick s.before m) ∙ by_stop (stopped s.before (Tick m)) (full s.setup s.before (Tick m)) n g.1))))
 
-    pub refused-reason : (now : Troubles) → now ≡ with_refused why house.troubles → MayStop now t.is_alone w.seen
-    refused-reason now is = subst (λ (z : Troubles). MayStop z t.is_alone w.seen) (sym is) (reason why gives)
+    pub refused-reason : (now : Troubles) → now ≡ with_refused why house.troubles → MayStopAfter now t.is_alone w.seen
+    refused-reason now is = subst (λ (z : Troubles). MayStopAfter z t.is_alone w.seen) (sym is) (reason why gives)
 
     refused-so : Held-at (record t { refused = Some m }) (record house { pass = pass; troubles = with_refused why house.troubles })
     refused-so =

@@ -14,7 +14,7 @@ use Rattle.login_edge.specs.Register.{Arrived, Register, accepted, back_behind, 
 use Rattle.login_edge.specs.declared.listener.Accepted.{Accepted}
 use Rattle.login_edge.specs.declared.listener.Accepted.TheVariants.{Came, Quiet, Closed, Failed}
 use Rattle.login_model.specs.Stopping.{stop_from}
-use Rattle.login_model.specs.declared.count.Count.{Count}
+use Rattle.login_model.specs.declared.fullness.Fullness.{Fullness}
 use Rattle.login_model.specs.declared.mark.Entry.{Entry}
 use Rattle.login_model.specs.declared.setup.Setup.{Setup}
 use Rattle.login_office.specs.declared.end.LinkEnd.{LinkEnd}

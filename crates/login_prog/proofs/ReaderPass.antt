@@ -10,7 +10,7 @@ use Rattle.login_core.specs.declared.state.Refused.TheVariants as refused
 use Rattle.login_model.specs.Full.{full}
 use Rattle.login_model.specs.Legal.{events_of}
 use Rattle.login_model.specs.Stopping.{stop_from, stopped}
-use Rattle.login_model.specs.declared.count.Count.{Count}
+use Rattle.login_model.specs.declared.fullness.Fullness.{Fullness}
 use Rattle.login_model.specs.declared.event.Event.{Event}
 use Rattle.login_model.specs.declared.event.Event.TheVariants.{Hardware as Happens, Stop}
 use Rattle.login_model.specs.declared.hardware.Hardware.{Hardware}
@@ -76,12 +76,12 @@ hardware_on v m w xs ys a b = subst (λ (es : List Event). HasMade v w es) (sym 
 -- ---- the stepping of an event of the hardware
 
 -- what refused is the stop, or a full journal
-pub by_stop : (s : Option ℕ) (f : Option Count) (n : ℕ) → refusal s f ≡ Some (refused.Stopped n) → s ≡ Some n
+pub by_stop : (s : Option ℕ) (f : Option Fullness) (n : ℕ) → refusal s f ≡ Some (refused.Stopped n) → s ≡ Some n
 by_stop (Some m) f n e = ap Some (let same : m ≡ n = cc in same)
 by_stop None (Some count) n e = absurd (let k : ⊥ = cc in k)
 by_stop None None n e = absurd (let k : ⊥ = cc in k)
 
-pub by_count : (s : Option ℕ) (f : Option Count) (count : Count) → refusal s f ≡ Some (refused.Full count) → (s ≡ None) × (f ≡ Some count)
+pub by_count : (s : Option ℕ) (f : Option Fullness) (count : Fullness) → refusal s f ≡ Some (refused.Full count) → (s ≡ None) × (f ≡ Some count)
 by_count (Some m) f count e = absurd (let k : ⊥ = cc in k)
 by_count None (Some other) count e = (refl, ap Some (let same : other ≡ count = cc in same))
 by_count None None count e = absurd (let k : ⊥ = cc in k)

@@ -11,7 +11,7 @@ use Rattle.desk.specs.Views.{split_view}
 use Rattle.desk.specs.declared.view.View.{View}
 use Rattle.login_prog.specs.Outcome.{BothTold, change}
 use Rattle.login_prog.specs.inner.House.{Far, HasTurning, Held, IsClock, IsFresh, IsHeld, IsNew, Keeps, KeepsAt, Since, Turned, Turning, all_out, at_start, door_of, held_of, stopped_now}
-use Rattle.login_prog.specs.inner.House.{WasRead as WasClocked}
+use Rattle.login_prog.specs.inner.House.{WasClocked}
 use Rattle.login_prog.specs.inner.Input.{WasRead}
 use Rattle.login_prog.specs.inner.Jobs.{PassOfCore, ReaderGives}
 use Rattle.login_prog.specs.inner.Left.{HasLeft, Leaves, Took, at_first}

@@ -6,7 +6,7 @@ use Rattle.login_edge.specs.Texts.{Gains}
 use Rattle.login_edge.specs.Writing.{WriteRose, WrittenAs}
 use Rattle.login_edge.specs.declared.writing.WriteEnd.{WriteEnd}
 use Rattle.login_edge.specs.declared.writing.WriteEnd.TheVariants as written
-use Rattle.login_model.specs.declared.count.Count.{Count}
+use Rattle.login_model.specs.declared.fullness.Fullness.{Fullness}
 use Rattle.login_model.specs.declared.mark.Entry.{Entry}
 use Rattle.login_model.specs.declared.setup.Setup.{Setup}
 use Rattle.login_office.specs.declared.end.LinkEnd.{LinkEnd}
@@ -83,7 +83,7 @@ module _ (t : Troubles) where
 
   -- the journal was full
   pub record SaysFull (last : List ℕ) : Type 0 where
-    pub full_count : Count
+    pub full_count : Fullness
     pub full : t.full ≡ Some full_count
     pub said : last ≡ full_line full_count
 

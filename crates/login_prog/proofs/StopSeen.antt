@@ -12,7 +12,7 @@ use Rattle.desk.specs.declared.view.Numbered.{Numbered}
 use Rattle.desk.specs.declared.view.View.{View}
 use Rattle.link_serve.specs.Turned.{Acts, StopTells}
 use Rattle.login_prog.specs.declared.serve.troubles.Troubles.{Troubles}
-use Rattle.login_prog.specs.inner.House.{HasTicked, HasTrouble, MayStop, tick}
+use Rattle.login_prog.specs.inner.House.{HasTicked, HasTrouble, MayStopAfter, tick}
 use Rattle.login_prog.proofs.GoingOn.{stop-stays}
 use Rattle.login_office.proofs.Entries.{events-append}
 
@@ -66,7 +66,7 @@ ticks-alone t ticks alone v others own h none = ⊎_elim
     h.stop
 
 -- the pass has seen to the stop
-pub ticked-stopped : (t : Troubles) (ticks : List ℕ) (alone : Bool) (v w : View Setup Entry) → of_pass 0 v.seen ≡ v.mine → MayStop t alone v.seen → StopTells v w → HasTicked t ticks alone v.mine → HasTicked t ticks alone w.mine
+pub ticked-stopped : (t : Troubles) (ticks : List ℕ) (alone : Bool) (v w : View Setup Entry) → of_pass 0 v.seen ≡ v.mine → MayStopAfter t alone v.seen → StopTells v w → HasTicked t ticks alone v.mine → HasTicked t ticks alone w.mine
 ticked-stopped t ticks alone v w own may s h = ⊎_elim
     (λ (e : s.own ≡ []).
     subst (λ (z : List Entry). HasTicked t ticks alone z) (sym (s.acts.mine_is ∙ (ap (λ (z : List Entry). v.mine ++ z) e ∙ append-nil v.mine))) h)

@@ -12,7 +12,7 @@ use Rattle.login_laws.specs.Lawful.{IsLawful}
 use Rattle.login_model.specs.Full.{full}
 use Rattle.login_model.specs.Legal.{events_of}
 use Rattle.login_model.specs.Stopping.{stop_from}
-use Rattle.login_model.specs.declared.count.Count.{Count}
+use Rattle.login_model.specs.declared.fullness.Fullness.{Fullness}
 use Rattle.login_model.specs.declared.event.Event.{Event}
 use Rattle.login_model.specs.declared.event.Event.TheVariants.{Hardware as Happens, Tick, Stop}
 use Rattle.login_model.specs.declared.hardware.Hardware.{Hardware}
@@ -35,9 +35,9 @@ use Rattle.login_prog.specs.Served.{AreTicks, HasStopped, IsStopAlone, dropped_a
 use Rattle.login_prog.specs.inner.Endings.{last_line, status_of}
 use Rattle.replay.specs.Rising.{Rises}
 use Rattle.login_prog.specs.inner.House.{ArePlaced, Door, Far, FaultsSay, FullForTick, Goes, GoesUpTo, HasCalled, HasTrouble, KeepsAt, NoMore, Since, all_out, tick, with_end}
-use Rattle.login_prog.specs.inner.House.{WasRead as WasClocked}
+use Rattle.login_prog.specs.inner.House.{WasClocked}
 use Rattle.login_prog.specs.inner.Input.{MayStop}
-use Rattle.login_prog.specs.inner.Input.{WasFull as WasFullFor}
+use Rattle.login_prog.specs.inner.Input.{WasFullFor}
 use Rattle.login_prog.specs.inner.Left.{Finishes, HasLeft, IsUnserved, Took, Went}
 use Rattle.login_prog.specs.declared.serve.accepting.Child.{Child}
 use Rattle.login_prog.specs.declared.serve.accepting.House.{House}
@@ -353,14 +353,14 @@ module _ {L N P : Type 0} (number : L → ℕ) (talk : L → Option (List Exchan
     journal-parted : (front later : List (Numbered Entry)) → v.seen ≡ front ++ later → J ≡ entries front ++ entries later
     journal-parted front rest is = closed.journal_is ∙ (ap entries is ∙ entries_append front rest)
 
-    line-full : (c : Count) (e : Option ReaderEnd) (k : Took x.setup count input H.by e) → e ≡ Some (reader.Full c) → last_line F.end ≡ full_line c → made_by x.setup count input H.by e k ≡ xs → WasFull x.setup J (last_line F.end) all (change x.readings readings x.clock_faults clock_faults)
+    line-full : (c : Fullness) (e : Option ReaderEnd) (k : Took x.setup count input H.by e) → e ≡ Some (reader.Full c) → last_line F.end ≡ full_line c → made_by x.setup count input H.by e k ≡ xs → WasFull x.setup J (last_line F.end) all (change x.readings readings x.clock_faults clock_faults)
     line-full c None k is said same = absurd (true≢false (ap is_some (sym is)))
     line-full c (Some r) k is said same = by r (some-same r (reader.Full c) is) k same
       where
         by : (r : ReaderEnd) → r ≡ reader.Full c → (k : Took x.setup count input H.by (Some r)) → k.made ≡ xs → WasFull x.setup J (last_line F.end) all (change x.readings readings x.clock_faults clock_faults)
         by (reader.Full d) is k same = found k.why.0 k.why.1 k.why.2
           where
-            count-is : (d : Count) → reader.Full d ≡ reader.Full c → c ≡ d
+            count-is : (d : Fullness) → reader.Full d ≡ reader.Full c → c ≡ d
             count-is d e = cc
 
             found : (U : Setup) → Some x.setup ≡ Some U → WasFullFor U count H.by.number H.by.seen ([] ++ map Happens k.made) k.made input.old d → WasFull x.setup J (last_line F.end) all (change x.readings readings x.clock_faults clock_faults)
@@ -405,7 +405,7 @@ module _ {L N P : Type 0} (number : L → ℕ) (talk : L → Option (List Exchan
               due = subst (λ (ts : List ℕ). last_tick 0 ts + tick_length ≤ m.0) (sym ticks-are) g.due;
             }
 
-    tick-full : (c : Count) → own.full ≡ Some c → last_line F.end ≡ full_line c → WasFull x.setup J (last_line F.end) all (change x.readings readings x.clock_faults clock_faults)
+    tick-full : (c : Fullness) → own.full ≡ Some c → last_line F.end ≡ full_line c → WasFull x.setup J (last_line F.end) all (change x.readings readings x.clock_faults clock_faults)
     tick-full c is said =
         let k = keeps.full c is in
         let f : FullForTick x.setup before.pass.view.seen far.ticks k.0 c = k.2 in

@@ -9,7 +9,7 @@ use Rattle.login_edge.specs.Texts.{Gains, GainsFront}
 use Rattle.login_laws.specs.Lawful.{IsLawful}
 use Rattle.login_model.specs.Full.{full}
 use Rattle.login_model.specs.Stopping.{stop_from}
-use Rattle.login_model.specs.declared.count.Count.{Count}
+use Rattle.login_model.specs.declared.fullness.Fullness.{Fullness}
 use Rattle.login_model.specs.declared.event.Event.{Event}
 use Rattle.login_model.specs.declared.event.Event.TheVariants.{Hardware as Happens, Tick}
 use Rattle.login_model.specs.declared.hardware.Hardware.{Hardware}
@@ -142,7 +142,7 @@ pub record WasFull (U : Setup) (J : List Entry) (last : List ℕ) (input : Optio
   pub journal_is : J ≡ front ++ later
   pub going_on : stop_from 1 front ≡ None
   pub whose : IsNextLine U J front event input ⊎ IsNextTick J front event clock
-  pub full_count : Count
+  pub full_count : Fullness
   pub full_is : full U front event ≡ Some full_count
   pub said : last ≡ full_line full_count
 

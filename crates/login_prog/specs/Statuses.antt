@@ -1,6 +1,6 @@
 -- What the top call answers, and what it says.
 use Rattle.std.specs.Prelude.{ℕ, ◌≡◌, ◌⊎◌, List, Option, None, IfSome}
-use Rattle.login_model.specs.declared.count.Count.{Count}
+use Rattle.login_model.specs.declared.fullness.Fullness.{Fullness}
 use Rattle.replay.specs.Outcome.{RefusedAt, FullAt, IsRecordingText}
 use Rattle.replay.specs.declared.cause.Cause.{Cause}
 use Rattle.replay.specs.Reporting.{Reported, refusal, full_line, status_line}
@@ -16,7 +16,7 @@ pub record RefusedSo (all before after old new : Option (List ℕ)) (fault now :
 -- an event of a line finds the journal full, and the errors say by which count; the transcript of the lines
 -- before it was written, and the blocks of the entries that the line made
 pub record FullSo (all before after old new : Option (List ℕ)) (fault now : ℕ) : Type 0 where
-  pub full_count : Count
+  pub full_count : Fullness
   pub said : Reported old new fault now (full_line full_count)
   pub line : IfSome all (λ text. FullAt full_count text before after)
 
@@ -47,4 +47,4 @@ Refuses status all input output = IfSome all (λ text. (number : ℕ) (cause : C
 
 -- a text with an event that finds the journal full ends as full, whatever was told of its transcript
 abbrev pub Fills : ℕ → Option (List ℕ) → (input output : Type 0) → Type 0
-Fills status all input output = IfSome all (λ text. (count : Count) → FullAt count text None None → EndsWith 6 status input output)
+Fills status all input output = IfSome all (λ text. (count : Fullness) → FullAt count text None None → EndsWith 6 status input output)

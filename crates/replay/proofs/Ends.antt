@@ -4,7 +4,7 @@ use Rattle.std.specs.Option.{IfSome}
 use Rattle.std.proofs.lemmas.Bool.{cases_lt}
 use Rattle.login_edge.specs.Texts.{Gains, GainsFront}
 use Rattle.login_edge.proofs.Gained.{Gains-nothing, Gains-whole, Gains-front-more}
-use Rattle.login_model.specs.declared.count.Count.{Count}
+use Rattle.login_model.specs.declared.fullness.Fullness.{Fullness}
 use Rattle.login_model.specs.declared.event.Event.{Event as AnEvent}
 use Rattle.login_model.specs.declared.mark.Entry.{Entry}
 use Rattle.login_model.specs.Full.{full}
@@ -110,7 +110,7 @@ ends_under_way f (Some text) (Some rest) (Some behind) now held written line mad
     }
 
 -- an event of the line behind it finds the journal full
-pub ends_filled : (f : Front) (all left after held written : Option (List ℕ)) (count : Count) (line : Line) (made : List Entry) (event : AnEvent) (more : List AnEvent) → IsFront f → Reached all f left
+pub ends_filled : (f : Front) (all left after held written : Option (List ℕ)) (count : Fullness) (line : Line) (made : List Entry) (event : AnEvent) (more : List AnEvent) → IsFront f → Reached all f left
     → length (lines_of f) < most_lines → WereRead left (line ∷ []) after → IsUnderWay f line made (event ∷ more) → full (setup_of f.preamble) (journal_of f.played ++ made) event ≡ Some count
     → Gains held written (text_of f ++ entries_text f.played made) → IfSome all (λ text. FullAt count text held written)
 ends_filled f None left after held written count line made event more h a within r way is w = tt

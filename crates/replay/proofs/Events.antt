@@ -3,7 +3,7 @@ use Rattle.std.proofs.Common.{◌≡◌, ◌<◌, ℕ, ◌+◌, true, false, Lis
 use Rattle.std.specs.Option.{IfSome}
 use Rattle.login_edge.specs.Texts.{Gains, GainsFront}
 use Rattle.login_edge.proofs.Gained.{Gains-nothing, Gains-more, Gains-front-more}
-use Rattle.login_model.specs.declared.count.Count.{Count}
+use Rattle.login_model.specs.declared.fullness.Fullness.{Fullness}
 use Rattle.login_model.specs.declared.event.Event.{Event as AnEvent}
 use Rattle.login_model.specs.declared.mark.Entry.{Entry}
 use Rattle.login_model.specs.declared.setup.Setup.{Setup}
@@ -170,7 +170,7 @@ way_of U ls ps line made more setup f may m =
     let there : MadeSoFar (setup_of ls) ps line made more = subst (λ (v : Setup). MadeSoFar v ps line made more) setup m in
     record { going_on = refl; may_come = may; events = there.events; legal = there.legal; room = there.room f.room }
 
-line_full : (old : PlayerState) (number : ℕ) (all left after start held now : TextTold) (line : Line) (count : Count) → (s : SoFar going old number all left start held) → number < most_lines
+line_full : (old : PlayerState) (number : ℕ) (all left after start held now : TextTold) (line : Line) (count : Fullness) → (s : SoFar going old number all left start held) → number < most_lines
     → WereRead left (line ∷ []) after → MayCome s.played line → LineFull count old.office.core.setup s.played line held now → EndsEarly all now start now (early.Full count)
 line_full old number all left after start held now line count s within r may h =
     let ls = s.preamble in

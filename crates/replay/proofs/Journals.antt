@@ -7,7 +7,7 @@ use Rattle.login_model.specs.Full.{full}
 use Rattle.login_model.specs.Legal.{IsLegalEntry, IsLegalAfter, answered, events_of, stepped, trail_of}
 use Rattle.login_model.specs.Policy.{verdict}
 use Rattle.login_laws.proofs.JournalLaws.{one-marks}
-use Rattle.replay.specs.Recording.{HasRoomAfter}
+use Rattle.replay.specs.Recording.{IsNeverFullAfter}
 
 -- an event makes one entry
 pub one_entry : (U : Setup) (before : List Entry) (e f : Entry) → IsLegalEntry U before e → IsLegalEntry U before f → e.event ≡ f.event → e ≡ f
@@ -49,11 +49,11 @@ legal_behind U before [] rest h = subst (λ (b : List Entry). IsLegalAfter U b r
 legal_behind U before (e ∷ es) rest h = subst (λ (b : List Entry). IsLegalAfter U b rest) (append_assoc before (e ∷ []) es) (legal_behind U (before ++ e ∷ []) es rest h.1)
 
 -- the event of an entry found room
-pub room_at : (U : Setup) (before es : List Entry) (e : Entry) (rest : List Entry) → HasRoomAfter U before (es ++ (e ∷ rest)) → full U (before ++ es) e.event ≡ None
+pub room_at : (U : Setup) (before es : List Entry) (e : Entry) (rest : List Entry) → IsNeverFullAfter U before (es ++ (e ∷ rest)) → full U (before ++ es) e.event ≡ None
 room_at U before [] e rest h = rw append-nil h.0
 room_at U before (x ∷ es) e rest h = subst (λ (b : List Entry). full U b e.event ≡ None) (append_assoc before (x ∷ []) es) (room_at U (before ++ x ∷ []) es e rest h.1)
 
 -- and so did those behind it
-pub room_behind : (U : Setup) (before es rest : List Entry) → HasRoomAfter U before (es ++ rest) → HasRoomAfter U (before ++ es) rest
-room_behind U before [] rest h = subst (λ (b : List Entry). HasRoomAfter U b rest) (sym (append-nil before)) h
-room_behind U before (e ∷ es) rest h = subst (λ (b : List Entry). HasRoomAfter U b rest) (append_assoc before (e ∷ []) es) (room_behind U (before ++ e ∷ []) es rest h.1)
+pub room_behind : (U : Setup) (before es rest : List Entry) → IsNeverFullAfter U before (es ++ rest) → IsNeverFullAfter U (before ++ es) rest
+room_behind U before [] rest h = subst (λ (b : List Entry). IsNeverFullAfter U b rest) (sym (append-nil before)) h
+room_behind U before (e ∷ es) rest h = subst (λ (b : List Entry). IsNeverFullAfter U b rest) (append_assoc before (e ∷ []) es) (room_behind U (before ++ e ∷ []) es rest h.1)

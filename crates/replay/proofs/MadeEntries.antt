@@ -10,7 +10,7 @@ use Rattle.login_laws.specs.Lawful.{IsLawful}
 use Rattle.login_model.specs.Legal.{IsLegalAfter, events_of}
 use Rattle.login_office.specs.Offices.{Appends, IsSame, OfficeState}
 use Rattle.recording.specs.Print.{block, blocks}
-use Rattle.replay.specs.Recording.{HasRoomAfter}
+use Rattle.replay.specs.Recording.{IsNeverFullAfter}
 use Rattle.replay.specs.declared.early.Early.{Early}
 use Rattle.replay.specs.declared.early.Early.TheVariants as early
 use Rattle.replay.specs.inner.Making.{AllMade, AreMade, CutOff, Makes, MakesRoom, blocks_behind}
@@ -23,10 +23,10 @@ legal-append U before [] ys h k = subst (λ (b : List Entry). IsLegalAfter U b y
 legal-append U before (x ∷ xs) ys h k =
     (h.0, legal-append U (before ++ x ∷ []) xs ys h.1 (subst (λ (b : List Entry). IsLegalAfter U b ys) (sym (append_assoc before (x ∷ []) xs)) k))
 
-pub room-append : (U : Setup) (before xs ys : List Entry) → HasRoomAfter U before xs → HasRoomAfter U (before ++ xs) ys → HasRoomAfter U before (xs ++ ys)
-room-append U before [] ys h k = subst (λ (b : List Entry). HasRoomAfter U b ys) (append-nil before) k
+pub room-append : (U : Setup) (before xs ys : List Entry) → IsNeverFullAfter U before xs → IsNeverFullAfter U (before ++ xs) ys → IsNeverFullAfter U before (xs ++ ys)
+room-append U before [] ys h k = subst (λ (b : List Entry). IsNeverFullAfter U b ys) (append-nil before) k
 room-append U before (x ∷ xs) ys h k =
-    (h.0, room-append U (before ++ x ∷ []) xs ys h.1 (subst (λ (b : List Entry). HasRoomAfter U b ys) (sym (append_assoc before (x ∷ []) xs)) k))
+    (h.0, room-append U (before ++ x ∷ []) xs ys h.1 (subst (λ (b : List Entry). IsNeverFullAfter U b ys) (sym (append_assoc before (x ∷ []) xs)) k))
 
 pub blocks-append : (n : ℕ) (xs ys : List Entry) → blocks n (xs ++ ys) ≡ blocks n xs ++ blocks (n + length xs) ys
 unfolding blocks

@@ -20,7 +20,7 @@ use Rattle.recording.specs.declared.line.Line.{Line}
 use Rattle.recording.specs.Lines.{IsLine}
 use Rattle.replay.specs.Links.{end_by, heard, is_hung_up, line_events, link_end, link_user, shown_or, was_let_in}
 use Rattle.replay.specs.Played.{Played, played_lines, journal_of}
-use Rattle.replay.specs.Recording.{AreTurns, HasRoom, HasRoomAfter, IsTurn, MayCome}
+use Rattle.replay.specs.Recording.{AreTurns, IsNeverFull, IsNeverFullAfter, IsTurn, MayCome}
 use Rattle.replay.specs.declared.own.Own.{Own}
 use Rattle.replay.specs.declared.early.Early.{Early}
 use Rattle.replay.specs.declared.early.Early.TheVariants as early
@@ -38,7 +38,7 @@ use Rattle.replay.proofs.MadeEntries.{legal-append, none-cut, room-append}
 -- ---- what was made of a line
 
 -- room behind the journal so far
-room-behind : (U : Setup) (J made : List Entry) → HasRoomAfter U J made → HasRoom U J → HasRoom U (J ++ made)
+room-behind : (U : Setup) (J made : List Entry) → IsNeverFullAfter U J made → IsNeverFull U J → IsNeverFull U (J ++ made)
 room-behind U J made h k = room-append U [] J made k h
 
 -- some of a line's entries
@@ -59,7 +59,7 @@ is-made U played l events made legal line may is h =
     record {
       turn = record { line_is = line; may_come = may; events = sym (append-nil (events_of made)) ∙ (sym h.are ∙ is) };
       legal = subst (IsLegal U) j (legal-append U [] (journal_of played) made legal h.legal);
-      room = λ r. subst (HasRoom U) j (room-behind U (journal_of played) made h.room r);
+      room = λ r. subst (IsNeverFull U) j (room-behind U (journal_of played) made h.room r);
     }
 
 -- ---- a link of which a line says nothing

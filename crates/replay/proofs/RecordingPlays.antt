@@ -18,7 +18,7 @@ use Rattle.replay.specs.Outcome.{IsRecordingText}
 use Rattle.replay.specs.Played.{played_lines, journal_of}
 use Rattle.replay.specs.PreambleLines.{setup_of, table_or_default, users_in, conf_in, table_in, HasTable, IsRead, IsPreamble, IsPreambleAfter}
 use Rattle.replay.specs.Recorded.{in_order, IsGiven, IsRecorded, IsScript, Plays, RecordingPlays}
-use Rattle.replay.specs.Recording.{recording, typed, HasRoom, IsPlay, most_lines}
+use Rattle.replay.specs.Recording.{recording, typed, IsNeverFull, IsPlay, most_lines}
 use Rattle.replay.specs.Spelled.{spelling}
 use Rattle.replay.specs.Written.{AreReadAs}
 use Rattle.replay.proofs.Determined.{lines_one, one_play}
@@ -99,8 +99,8 @@ module _ (U : Setup) (g : IsGiven U) where
   given_legal : (journal : List Entry) → IsLegal U journal → IsLegal (setup_of (preamble_of U)) journal
   given_legal journal h = subst (λ (V : Setup). IsLegal V journal) (sym given_setup) (legal-same U rows (ordered_same U.users g.setup.distinct) journal h)
 
-  given_room : (journal : List Entry) → HasRoom U journal → HasRoom (setup_of (preamble_of U)) journal
-  given_room journal h = subst (λ (V : Setup). HasRoom V journal) (sym given_setup) (room-same U rows (ordered_same U.users g.setup.distinct) journal h)
+  given_room : (journal : List Entry) → IsNeverFull U journal → IsNeverFull (setup_of (preamble_of U)) journal
+  given_room journal h = subst (λ (V : Setup). IsNeverFull V journal) (sym given_setup) (room-same U rows (ordered_same U.users g.setup.distinct) journal h)
 
 -- the lines of the recording
 event_lines_are : (journal : List Entry) → played_lines (typed journal) ≡ map event_line journal
@@ -143,13 +143,13 @@ module _ (U : Setup) (journal : List Entry) (r : IsRecorded U journal) where
   unfolding script
   plays_it = record { script = script; setup_is = given_setup U r.given; journal_is = typed_journal journal; no_other = only }
 
-  replays_it : HasRoom U journal → IsRecordingText (recording_text U journal)
+  replays_it : IsNeverFull U journal → IsRecordingText (recording_text U journal)
   replays_it room = record {
     preamble = preamble_of U;
     played = typed journal;
     play = play;
     table = given_table U r.given;
-    room = subst (HasRoom (setup_of (preamble_of U))) (sym (typed_journal journal)) (given_room U r.given journal room);
+    room = subst (IsNeverFull (setup_of (preamble_of U))) (sym (typed_journal journal)) (given_room U r.given journal room);
     read = read;
     within = within;
   }

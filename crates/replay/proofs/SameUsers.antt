@@ -55,7 +55,7 @@ use Rattle.login_model.specs.Settle.{settle}
 use Rattle.login_model.specs.Trail.{Trail, put, value}
 use Rattle.login_model.specs.Users.{group_among, name_among, user_group, user_name}
 use Rattle.login_model.specs.Where.{seat_of_session, sessions, users}
-use Rattle.replay.specs.Recording.{HasRoom, HasRoomAfter}
+use Rattle.replay.specs.Recording.{IsNeverFull, IsNeverFullAfter}
 
 abbrev property_row : Property → PropertyValue → PropertyRow
 property_row p x = record { property = p; value = x }
@@ -251,9 +251,9 @@ module _ (U : Setup) (rows : List UserRow) (same : SayTheSame rows U.users) wher
   full-same before (Connect c u) = refl
   full-same before _ = refl
 
-  room_after-same : (before es : List Entry) → HasRoomAfter U before es → HasRoomAfter V before es
+  room_after-same : (before es : List Entry) → IsNeverFullAfter U before es → IsNeverFullAfter V before es
   room_after-same before [] h = tt
   room_after-same before (e ∷ es) h = (full-same before e.event ∙ h.0, room_after-same (before ++ e ∷ []) es h.1)
 
-  pub room-same : (journal : List Entry) → HasRoom U journal → HasRoom V journal
+  pub room-same : (journal : List Entry) → IsNeverFull U journal → IsNeverFull V journal
   room-same journal h = room_after-same [] journal h

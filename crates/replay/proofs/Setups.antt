@@ -24,7 +24,7 @@ use Rattle.replay.specs.Front.{Front, fresh, headed, ended, lines_of, text_of, t
 use Rattle.replay.specs.Outcome.{RefusedAt, Broken, Fronted}
 use Rattle.replay.specs.Preamble.{WasSetUp}
 use Rattle.replay.specs.Ahead.{Partly, EndsBehind, EndsPast}
-use Rattle.replay.specs.inner.Opening.{SaySo, OpensNot, Makes, IsRefusedAt, MakesTable, MakesSetup}
+use Rattle.replay.specs.inner.Opening.{SaySo, OpensNot, IsSetupOf, IsRefusedAt, MakesTable, MakesSetup}
 use Rattle.replay.specs.inner.Running.{EndsEarly}
 use Rattle.replay.specs.declared.cause.Cause.TheVariants.{UnknownWord, BadNumber, BadHex, MissingWord, ExtraWord, TooLong, WrongPlace, BadName, BadAction, Ended}
 use Rattle.replay.specs.declared.early.Early.{Early}
@@ -201,7 +201,7 @@ table_is : (r : Result (List Row) TableFault) (table : List Row) → r ≡ Ok ta
 table_is (Ok rows) table e = (cc, tt)
 table_is (Err fault) table e = cc
 
-setup_is : (s : Setup) (wrong : List Diagnostic) (p : Preamble) (ls : List Line) → SaySo ls p → Makes p s wrong → s ≡ setup_of ls
+setup_is : (s : Setup) (wrong : List Diagnostic) (p : Preamble) (ls : List Line) → SaySo ls p → IsSetupOf p s wrong → s ≡ setup_of ls
 unfolding setup_of
 setup_is s wrong p ls h m =
     let guid : s.guid ≡ guid_or_default (guid_in ls) = m.guid ∙ ap guid_or_default h.guid in
@@ -214,7 +214,7 @@ setup_is s wrong p ls h m =
 
 -- the preamble ends
 pub said_whole : (p : Preamble) (s : Setup) (wrong : List Diagnostic) (number : ℕ) (all before left after : Option (List ℕ)) (l : Line) → WereRead all (Header 1 ∷ []) before → Said p number before left
-    → number < most_lines → (read : WereRead left (l ∷ []) after) → l ≡ Go → Makes p s wrong → WasSetUp all s wrong (number + 1) after
+    → number < most_lines → (read : WereRead left (l ∷ []) after) → l ≡ Go → IsSetupOf p s wrong → WasSetUp all s wrong (number + 1) after
 said_whole p s wrong number all before left after l r said within read go m = record {
   preamble = said.lines;
   is_preamble = said.is_preamble;

@@ -16,7 +16,7 @@ use Rattle.replay.specs.Written.{AreReadAs, joined}
 use Rattle.replay.specs.Links.{link_user}
 use Rattle.replay.specs.Played.{Played, played_lines, journal_of}
 use Rattle.replay.specs.PreambleLines.{setup_of, IsPreambleAfter}
-use Rattle.replay.specs.Recording.{recording, typed, typed_entry, AreTurnsAfter, HasRoom, IsOfNoLink, IsPlay}
+use Rattle.replay.specs.Recording.{recording, typed, typed_entry, AreTurnsAfter, IsNeverFull, IsOfNoLink, IsPlay}
 use Rattle.replay.specs.Spelled.{spelling, IsTyped, SpelledIsRecording}
 use Rattle.replay.proofs.PlayedLines.{are_lines}
 use Rattle.replay.proofs.Written.{cut_joined}
@@ -93,7 +93,7 @@ spelled_recording ls es t table room within =
         played = typed es;
         play = play;
         table = table;
-        room = subst (HasRoom (setup_of ls)) (sym (typed_journal es)) room;
+        room = subst (IsNeverFull (setup_of ls)) (sym (typed_journal es)) room;
         read = cut_spelling (recording ls (typed es)) (recording_lines ls (typed es) play);
         within = within;
       };

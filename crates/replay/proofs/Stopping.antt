@@ -2,7 +2,7 @@
 use Rattle.std.proofs.Common.{◌≡◌, ℕ, suc, ◌+◌, ◌<◌, ◌≤◌, List, [], ◌∷◌, ◌++◌, length, length-append, length-take, take, refl, arith, ap, sym, ◌∙◌, subst, append_assoc, append-nil, Option, Some, None, ◌⊎◌, inl, inr}
 use Rattle.std.proofs.lemmas.Bool.{cases_lt}
 use Rattle.std.proofs.lemmas.List.{take-take, take_all}
-use Rattle.login_model.specs.declared.count.Count.{Count}
+use Rattle.login_model.specs.declared.fullness.Fullness.{Fullness}
 use Rattle.login_model.specs.declared.event.Event.{Event as AnEvent}
 use Rattle.login_model.specs.declared.mark.Entry.{Entry}
 use Rattle.login_model.specs.declared.setup.Setup.{Setup}
@@ -16,7 +16,7 @@ use Rattle.replay.specs.Links.{line_events}
 use Rattle.replay.specs.Played.{Played, journal_of}
 use Rattle.replay.specs.Written.{AreReadAs, Splits}
 use Rattle.replay.specs.PreambleLines.{setup_of}
-use Rattle.replay.specs.Recording.{AreTurns, IsPlay, IsTurn, HasRoom, HasRoomAfter, most_lines}
+use Rattle.replay.specs.Recording.{AreTurns, IsPlay, IsTurn, IsNeverFull, IsNeverFullAfter, most_lines}
 use Rattle.replay.specs.Front.{Front, Stage, headed, going, ended, lines_at, lines_of, takes_at, Takes, IsFront}
 use Rattle.replay.specs.Causes.{refused_line}
 use Rattle.replay.specs.Refused.{Begins}
@@ -35,7 +35,7 @@ use Rattle.replay.proofs.Fronts.{same_place}
 use Rattle.replay.proofs.LinkLines.{journal-append}
 
 -- an event of a journal that was never full found room
-made_found : (U : Setup) (before es behind : List Entry) (e : AnEvent) (more : List AnEvent) → HasRoom U (before ++ (es ++ behind)) → events_of es ≡ e ∷ more → full U before e ≡ None
+made_found : (U : Setup) (before es behind : List Entry) (e : AnEvent) (more : List AnEvent) → IsNeverFull U (before ++ (es ++ behind)) → events_of es ≡ e ∷ more → full U before e ≡ None
 made_found U before [] behind e more room h = cc
 made_found U before (x ∷ es) behind e more room h =
     let same : x.event ≡ e = cc in
@@ -44,7 +44,7 @@ made_found U before (x ∷ es) behind e more room h =
 
 -- where the line of a play was under way, its next event found room
 turn_found : (U : Setup) (ps : List Played) (p : Played) (rest : List Played) (made : List Entry) (e : AnEvent) (more : List AnEvent) → IsTurn U ps p → IsLegal U (journal_of (ps ++ (p ∷ rest)))
-    → HasRoom U (journal_of (ps ++ (p ∷ rest))) → IsLegal U (journal_of ps ++ made) → line_events U ps p.line ≡ events_of made ++ (e ∷ more) → full U (journal_of ps ++ made) e ≡ None
+    → IsNeverFull U (journal_of (ps ++ (p ∷ rest))) → IsLegal U (journal_of ps ++ made) → line_events U ps p.line ≡ events_of made ++ (e ∷ more) → full U (journal_of ps ++ made) e ≡ None
 turn_found U ps p rest made e more turn legal room so_far events =
     let before = journal_of ps in
     let behind = journal_of rest in
@@ -53,21 +53,21 @@ turn_found U ps p rest made e more turn legal room so_far events =
     let g = journal_goes_on U before p.made made (e ∷ more) theirs (legal_behind U [] before made so_far) (turn.events ∙ events) in
     let split : journal_of (ps ++ (p ∷ rest)) ≡ (before ++ made) ++ (g.rest ++ behind) =
     whole ∙ (ap (λ (v : List Entry). before ++ (v ++ behind)) g.is ∙ (ap (λ (v : List Entry). before ++ v) (append_assoc made g.rest behind) ∙ sym (append_assoc before made (g.rest ++ behind)))) in
-    made_found U (before ++ made) g.rest behind e more (subst (HasRoom U) split room) g.events
+    made_found U (before ++ made) g.rest behind e more (subst (IsNeverFull U) split room) g.events
 
 -- so where lines go on with this one
-line_found : (ls ms : List Line) (ps all : List Played) (line : Line) (made : List Entry) (e : AnEvent) (more : List AnEvent) → IsPlay ms all → HasRoom (setup_of ms) (journal_of all)
+line_found : (ls ms : List Line) (ps all : List Played) (line : Line) (made : List Entry) (e : AnEvent) (more : List AnEvent) → IsPlay ms all → IsNeverFull (setup_of ms) (journal_of all)
     → (ms ≡ ls) × WentOn ps all line → IsLegal (setup_of ls) (journal_of ps ++ made) → line_events (setup_of ls) ps line ≡ events_of made ++ (e ∷ more) → full (setup_of ls) (journal_of ps ++ made) e ≡ None
 line_found ls ms ps all line made e more q room w so_far events =
     let U = setup_of ls in
     let on = w.1 in
     let play : IsPlay ls all = subst (λ (v : List Line). IsPlay v all) w.0 q in
-    let has : HasRoom U (journal_of all) = subst (λ (v : List Line). HasRoom (setup_of v) (journal_of all)) w.0 room in
+    let has : IsNeverFull U (journal_of all) = subst (λ (v : List Line). IsNeverFull (setup_of v) (journal_of all)) w.0 room in
     let turn : IsTurn U ps on.next = turn_at U [] ps on.next on.rest (subst (AreTurns U) on.is play.turns) in
     turn_found U ps on.next on.rest made e more turn (subst (λ (v : List Played). IsLegal U (journal_of v)) on.is play.legal)
-    (subst (λ (v : List Played). HasRoom U (journal_of v)) on.is has) so_far (ap (line_events U ps) on.line_is ∙ events)
+    (subst (λ (v : List Played). IsNeverFull U (journal_of v)) on.is has) so_far (ap (line_events U ps) on.line_is ∙ events)
 
-full_next : (count : Count) (f g : Front) (x : List ℕ) (more : List Line) → IsFront f → IsFront g → IsFull count f x → lines_of g ≡ lines_of f ++ more
+full_next : (count : Fullness) (f g : Front) (x : List ℕ) (more : List Line) → IsFront f → IsFront g → IsFull count f x → lines_of g ≡ lines_of f ++ more
     → AreReadAs (take 1 (cut x)) (take 1 more) → length (lines_of f) < length (lines_of g) → ⊥
 full_next count f g x [] h k is e r less = omega (arith, less, ap length e, length-append (lines_of f) [])
 full_next count f g x (line ∷ more) h k is e r less =
@@ -82,7 +82,7 @@ full_next count f g x (line ∷ more) h k is e r less =
     cc
 
 -- behind an event that finds the journal full, no more lines of the text are those of a front
-full_stays : (text : List ℕ) (count : Count) (f g : Front) (x : List ℕ) → IsFront f → IsFront g → Splits text (lines_of f) x → IsFull count f x
+full_stays : (text : List ℕ) (count : Fullness) (f g : Front) (x : List ℕ) → IsFront f → IsFront g → Splits text (lines_of f) x → IsFull count f x
     → AreReadAs (take (length (lines_of g)) (cut text)) (lines_of g) → length (lines_of f) < length (lines_of g) → ⊥
 full_stays text count f g x h k s is r less =
     let ls = lines_of f in
@@ -108,7 +108,7 @@ record OneFirst (es ds : List Entry) (e d : AnEvent) : Type 0 where
 first_more : (x y : Entry) (es ds : List Entry) (e d : AnEvent) → x ≡ y → OneFirst es ds e d → OneFirst (x ∷ es) (y ∷ ds) e d
 first_more x y es ds e d same h = record { made = λ i. same i ∷ h.made i; event = h.event }
 
-one_first : (U : Setup) (before es ds : List Entry) (e d : AnEvent) (m n : List AnEvent) (a b : Count) → IsLegalAfter U before es → IsLegalAfter U before ds → HasRoomAfter U before es → HasRoomAfter U before ds
+one_first : (U : Setup) (before es ds : List Entry) (e d : AnEvent) (m n : List AnEvent) (a b : Fullness) → IsLegalAfter U before es → IsLegalAfter U before ds → IsNeverFullAfter U before es → IsNeverFullAfter U before ds
     → events_of es ++ (e ∷ m) ≡ events_of ds ++ (d ∷ n) → full U (before ++ es) e ≡ Some a → full U (before ++ ds) d ≡ Some b → OneFirst es ds e d
 one_first U before [] [] e d m n a b h k r s same f g = record { made = refl; event = cc }
 one_first U before [] (y ∷ ds) e d m n a b h k r s same f g =
@@ -128,21 +128,21 @@ one_first U before (x ∷ es) (y ∷ ds) e d m n a b h k r s same f g =
     let tails : events_of es ++ (e ∷ m) ≡ events_of ds ++ (d ∷ n) = cc in
     let one : x ≡ y = one_entry U before x y h.0 k.0 heads in
     let legal : IsLegalAfter U (before ++ x ∷ []) ds = subst (λ (v : Entry). IsLegalAfter U (before ++ v ∷ []) ds) (sym one) k.1 in
-    let room : HasRoomAfter U (before ++ x ∷ []) ds = subst (λ (v : Entry). HasRoomAfter U (before ++ v ∷ []) ds) (sym one) s.1 in
+    let room : IsNeverFullAfter U (before ++ x ∷ []) ds = subst (λ (v : Entry). IsNeverFullAfter U (before ++ v ∷ []) ds) (sym one) s.1 in
     let left : full U ((before ++ x ∷ []) ++ es) e ≡ Some a = subst (λ (v : List Entry). full U v e ≡ Some a) (sym (append_assoc before (x ∷ []) es)) f in
     let right : full U ((before ++ x ∷ []) ++ ds) d ≡ Some b =
     subst (λ (v : List Entry). full U v d ≡ Some b) (ap (λ (v : Entry). before ++ (v ∷ ds)) (sym one) ∙ sym (append_assoc before (x ∷ []) ds)) g in
     first_more x y es ds e d one (one_first U (before ++ x ∷ []) es ds e d m n a b h.1 legal r.1 room tails left right)
 
 -- behind one front, an event of one line finds the journal full, behind the same entries
-full_once : (f g : Front) (x y : List ℕ) (c d : Count) (h : IsFull c f x) (k : IsFull d g y) → f ≡ g → x ≡ y → (c ≡ d) × (h.made ≡ k.made)
+full_once : (f g : Front) (x y : List ℕ) (c d : Fullness) (h : IsFull c f x) (k : IsFull d g y) → f ≡ g → x ≡ y → (c ≡ d) × (h.made ≡ k.made)
 full_once f g x y c d h k fronts rests =
     let U = setup_of f.preamble in
     let before = journal_of f.played in
     let read : IsReadAs (first_line x) k.line = subst (λ (v : List ℕ). IsReadAs (first_line v) k.line) (sym rests) (first_is_read y k.line k.behind k.next) in
     let lines : h.line ≡ k.line = reads_one (first_line x) h.line k.line (first_is_read x h.line h.behind h.next) read in
     let legal : IsLegal U (before ++ k.made) = subst (λ (v : Front). IsLegal (setup_of v.preamble) (journal_of v.played ++ k.made)) (sym fronts) k.under_way.legal in
-    let room : HasRoom U (before ++ k.made) = subst (λ (v : Front). HasRoom (setup_of v.preamble) (journal_of v.played ++ k.made)) (sym fronts) k.under_way.room in
+    let room : IsNeverFull U (before ++ k.made) = subst (λ (v : Front). IsNeverFull (setup_of v.preamble) (journal_of v.played ++ k.made)) (sym fronts) k.under_way.room in
     let found : full U (before ++ k.made) k.event ≡ Some d = subst (λ (v : Front). full (setup_of v.preamble) (journal_of v.played ++ k.made) k.event ≡ Some d) (sym fronts) k.full in
     let theirs : line_events U f.played k.line ≡ events_of k.made ++ (k.event ∷ k.more) =
     subst (λ (v : Front). line_events (setup_of v.preamble) v.played k.line ≡ events_of k.made ++ (k.event ∷ k.more)) (sym fronts) k.under_way.events in
@@ -152,7 +152,7 @@ full_once f g x y c d h k fronts rests =
     let both : Some c ≡ Some d = sym h.full ∙ ((λ i. full U (before ++ one.made i) (one.event i)) ∙ found) in
     (some_one c d both, one.made)
   where
-    some_one : (a b : Count) → Some a ≡ Some b → a ≡ b
+    some_one : (a b : Fullness) → Some a ≡ Some b → a ≡ b
     some_one a b e = cc
 
 one_full : OneFullAt
@@ -206,16 +206,16 @@ no_cause f rest c line stage read takes (Reason.own _ _ _ fault e a) = meant_fau
 no_cause f rest c line stage read takes (Reason.misplaced _ _ m) = m.misplaced (subst (Takes f) (reads_one (first_line rest) line m.line read m.read) takes)
 no_cause f rest c line stage read takes (Reason.untabled _ _ t) = let wrong : going ≡ headed = sym stage ∙ t.in_preamble in cc
 
-full_takes : (f : Front) (d : Count) (x : List ℕ) → (is : IsFull d f x) → Takes f is.line
+full_takes : (f : Front) (d : Fullness) (x : List ℕ) → (is : IsFull d f x) → Takes f is.line
 full_takes f d x is = subst (λ (st : Stage). takes_at st f.preamble f.played is.line) (sym is.under_way.going_on) (may_take f.preamble f.played is.line is.under_way.may_come)
 
 -- an event that finds the journal full is of a line that may come, so it is not refused
-not_there : (c : Cause) (d : Count) (f g : Front) (x y : List ℕ) → IsRefusal c f x → IsFull d g y → f ≡ g → x ≡ y → length (lines_of g) < most_lines → ⊥
+not_there : (c : Cause) (d : Fullness) (f g : Front) (x y : List ℕ) → IsRefusal c f x → IsFull d g y → f ≡ g → x ≡ y → length (lines_of g) < most_lines → ⊥
 not_there c d f g x y why is fronts rests within =
     let here : IsRefusal c g y = subst (IsRefusal c g) rests (subst (λ (v : Front). IsRefusal c v x) fronts why) in
     no_cause g y c is.line is.under_way.going_on (first_is_read y is.line is.behind is.next) (full_takes g d y is) (reason g y c (here.own within))
 
-not_both : (text : List ℕ) (n : ℕ) (c : Cause) (d : Count) (p q r s : Option (List ℕ)) → RefusedAt n c text p q → FullAt d text r s → ⊥
+not_both : (text : List ℕ) (n : ℕ) (c : Cause) (d : Fullness) (p q r s : Option (List ℕ)) → RefusedAt n c text p q → FullAt d text r s → ⊥
 not_both text n c d p q r s a b = by (cases_lt (length (lines_of b.front)) (length (lines_of a.front))) (cases_lt (length (lines_of a.front)) (length (lines_of b.front)))
   where
     by : (length (lines_of b.front) < length (lines_of a.front)) ⊎ (length (lines_of a.front) ≤ length (lines_of b.front))
@@ -231,13 +231,13 @@ never_refused : (text : List ℕ) (n : ℕ) (c : Cause) (p q : Option (List ℕ)
 never_refused text n c p q r a = a.refused.stops (recording_begins text (length (lines_of a.front) + 1) r)
 
 -- behind them stands a line more
-one_more : (text : List ℕ) (d : Count) (f : Front) (x : List ℕ) → Splits text (lines_of f) x → IsFull d f x → length (lines_of f) < length (cut text)
+one_more : (text : List ℕ) (d : Fullness) (f : Front) (x : List ℕ) → Splits text (lines_of f) x → IsFull d f x → length (lines_of f) < length (cut text)
 one_more text d f x s is =
     let ls = lines_of f in
     let one : length (take 1 (cut x)) ≡ 1 = one_piece x (text_is_some x is.line is.behind is.next) in
     omega (arith, one, ap length (take_more text ls x s), length-append s.written (take 1 (cut x)), read_length s.written ls s.are, length-take (length ls + 1) (cut text))
 
-never_full : (text : List ℕ) (d : Count) (p q : Option (List ℕ)) → IsRecordingText text → FullAt d text p q → ⊥
+never_full : (text : List ℕ) (d : Fullness) (p q : Option (List ℕ)) → IsRecordingText text → FullAt d text p q → ⊥
 never_full text d p q r b =
     let g : Front = record { stage = ended; preamble = r.preamble; played = r.played } in
     let front : IsFront g = record { play = r.play; stage_fits = r.table; room = r.room } in

@@ -4,7 +4,7 @@ use Rattle.std.specs.Fmt.{decimal}
 use Rattle.bus_auth.specs.declared.table.Ending.TheVariants.{NoNul, EarlyBegin, LineTooLong, TooManyLines}
 use Rattle.bus_message.specs.Faults.{number_of}
 use Rattle.login_base.specs.declared.ids.ConnId.{ConnId}
-use Rattle.login_model.specs.declared.count.Count.TheVariants.{Entries, Marks}
+use Rattle.login_model.specs.declared.fullness.Fullness.TheVariants.{Entries, Marks}
 use Rattle.login_office.specs.declared.end.LinkEnd.{LinkEnd}
 use Rattle.login_office.specs.declared.end.LinkEnd.TheVariants as end
 use Rattle.login_office.specs.declared.end.Unbegun.{Unbegun}

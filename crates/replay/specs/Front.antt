@@ -5,7 +5,7 @@ use Rattle.recording.specs.declared.line.Line.TheVariants.{Header, Guid, User, C
 use Rattle.replay.specs.PreambleLines.{setup_of, HasTable, MayFollow}
 use Rattle.replay.specs.Played.{Played, played_lines, journal_of}
 use Rattle.replay.specs.Transcript.{transcript_front, transcript}
-use Rattle.replay.specs.Recording.{recording, IsPlay, MayCome, HasRoom}
+use Rattle.replay.specs.Recording.{recording, IsPlay, MayCome, IsNeverFull}
 
 pub data Stage : Type 0 where
   fresh : Stage
@@ -48,7 +48,7 @@ StageFits ended preamble played = HasTable preamble
 pub record IsFront (f : Front) : Type 0 where
   pub play : IsPlay f.preamble f.played
   pub stage_fits : StageFits f.stage f.preamble f.played
-  pub room : HasRoom (setup_of f.preamble) (journal_of f.played)
+  pub room : IsNeverFull (setup_of f.preamble) (journal_of f.played)
 
 -- a line may come next, whatever a table says that is read at `go`
 abbrev pub takes_at : Stage → List Line → List Played → Line → Type 0

@@ -1,7 +1,7 @@
 -- What was read of a text, and what was written, when a replay ends.
 use Rattle.std.specs.Prelude.{ℕ, ◌≡◌, ◌+◌, ◌<◌, ◌≤◌, ◌⊎◌, List, [], ◌∷◌, ◌++◌, length, Option, Some}
 use Rattle.login_edge.specs.Texts.{Gains, GainsFront}
-use Rattle.login_model.specs.declared.count.Count.{Count}
+use Rattle.login_model.specs.declared.fullness.Fullness.{Fullness}
 use Rattle.login_model.specs.declared.event.Event.{Event as AnEvent}
 use Rattle.login_model.specs.declared.mark.Entry.{Entry}
 use Rattle.login_model.specs.Full.{full}
@@ -14,7 +14,7 @@ use Rattle.replay.specs.Links.{line_events}
 use Rattle.replay.specs.Played.{Played, journal_of}
 use Rattle.replay.specs.Transcript.{transcript, entries_text}
 use Rattle.replay.specs.PreambleLines.{setup_of, HasTable}
-use Rattle.replay.specs.Recording.{recording, IsPlay, MayCome, HasRoom, most_lines}
+use Rattle.replay.specs.Recording.{recording, IsPlay, MayCome, IsNeverFull, most_lines}
 use Rattle.replay.specs.Front.{Front, going, lines_of, text_of, IsFront}
 use Rattle.replay.specs.Refused.{Refused}
 use Rattle.replay.specs.Causes.{IsCause, refused_line}
@@ -27,7 +27,7 @@ pub record IsRecordingText (text : List ℕ) : Type 0 where
   pub played : List Played
   pub play : IsPlay preamble played
   pub table : HasTable preamble
-  pub room : HasRoom (setup_of preamble) (journal_of played)
+  pub room : IsNeverFull (setup_of preamble) (journal_of played)
   pub read : AreReadAs (cut text) (recording preamble played)
   pub within : length (recording preamble played) ≤ most_lines
 
@@ -67,10 +67,10 @@ pub record IsUnderWay (front : Front) (line : Line) (made : List Entry) (more : 
   pub may_come : MayCome front.played line
   pub events : line_events (setup_of front.preamble) front.played line ≡ events_of made ++ more
   pub legal : IsLegal (setup_of front.preamble) (journal_of front.played ++ made)
-  pub room : HasRoom (setup_of front.preamble) (journal_of front.played ++ made)
+  pub room : IsNeverFull (setup_of front.preamble) (journal_of front.played ++ made)
 
 -- of the line behind these, the next event finds the journal full by this count
-pub record IsFull (count : Count) (front : Front) (rest : List ℕ) : Type 0 where
+pub record IsFull (count : Fullness) (front : Front) (rest : List ℕ) : Type 0 where
   pub line : Line
   pub made : List Entry
   pub event : AnEvent
@@ -82,7 +82,7 @@ pub record IsFull (count : Count) (front : Front) (rest : List ℕ) : Type 0 whe
 
 -- an event of a line finds the journal full by this count; the transcript of the lines before it was written, and
 -- of it the entries that were made
-pub record FullAt (count : Count) (text : List ℕ) (before after : Option (List ℕ)) : Type 0 where
+pub record FullAt (count : Fullness) (text : List ℕ) (before after : Option (List ℕ)) : Type 0 where
   pub front : Front
   pub rest : List ℕ
   pub is_front : IsFront front

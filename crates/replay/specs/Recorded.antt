@@ -20,7 +20,7 @@ use Rattle.recording.specs.declared.line.Line.{Line}
 use Rattle.replay.specs.Outcome.{IsRecordingText}
 use Rattle.replay.specs.Played.{Played, journal_of}
 use Rattle.replay.specs.PreambleLines.{setup_of, HasTable}
-use Rattle.replay.specs.Recording.{recording, HasRoom, IsPlay, most_lines}
+use Rattle.replay.specs.Recording.{recording, IsNeverFull, IsPlay, most_lines}
 use Rattle.replay.specs.Written.{AreReadAs}
 
 -- the setup is one that a preamble can give: each of its lines is one of a recording, and its configuration and its
@@ -82,4 +82,4 @@ pub record IsRecorded (U : Setup) (journal : List Entry) : Type 0 where
 -- replayed whole
 pub record RecordingPlays : Type 0 where
   pub plays : (U : Setup) (journal : List Entry) → IsRecorded U journal → Plays U journal (recording_text U journal)
-  pub replays : (U : Setup) (journal : List Entry) → IsRecorded U journal → HasRoom U journal → IsRecordingText (recording_text U journal)
+  pub replays : (U : Setup) (journal : List Entry) → IsRecorded U journal → IsNeverFull U journal → IsRecordingText (recording_text U journal)

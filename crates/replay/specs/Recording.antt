@@ -70,13 +70,13 @@ pub record IsRecording (lines : List Line) : Type 0 where
 abbrev pub most_lines : ℕ
 most_lines = 4000000000
 
-abbrev pub HasRoomAfter : Setup → List Entry → List Entry → Type 0
-HasRoomAfter U before [] = Unit {0}
-HasRoomAfter U before (e ∷ es) = (full U before e.event ≡ None) × HasRoomAfter U (before ++ e ∷ []) es
+abbrev pub IsNeverFullAfter : Setup → List Entry → List Entry → Type 0
+IsNeverFullAfter U before [] = Unit {0}
+IsNeverFullAfter U before (e ∷ es) = (full U before e.event ≡ None) × IsNeverFullAfter U (before ++ e ∷ []) es
 
 -- no event of these entries finds the journal full of the entries before it
-abbrev pub HasRoom : Setup → List Entry → Type 0
-HasRoom U journal = HasRoomAfter U [] journal
+abbrev pub IsNeverFull : Setup → List Entry → Type 0
+IsNeverFull U journal = IsNeverFullAfter U [] journal
 
 -- a journal whose events have a line each
 abbrev pub typed_entry : Entry → Played

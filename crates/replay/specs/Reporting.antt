@@ -3,8 +3,8 @@ use Rattle.std.specs.Prelude.{ℕ, ◌≡◌, ◌⊎◌, List, [], ◌∷◌, �
 use Rattle.std.specs.Fmt.{decimal}
 use Rattle.login_edge.specs.Faults.{Rose}
 use Rattle.login_edge.specs.Texts.{Gains, GainsFront}
-use Rattle.login_model.specs.declared.count.Count.{Count}
-use Rattle.login_model.specs.declared.count.Count.TheVariants.{Entries, Marks}
+use Rattle.login_model.specs.declared.fullness.Fullness.{Fullness}
+use Rattle.login_model.specs.declared.fullness.Fullness.TheVariants.{Entries, Marks}
 use Rattle.replay.specs.Causes.{cause_word}
 use Rattle.replay.specs.declared.cause.Cause.{Cause}
 use Rattle.replay.specs.declared.replaying.ReplayEnd.{ReplayEnd}
@@ -34,7 +34,7 @@ abbrev pub refusal : ℕ → Cause → List ℕ
 refusal number cause = codes "line " ++ (decimal number ++ (codes ": " ++ error_line (cause_word cause)))
 
 -- the line of a full journal
-abbrev pub full_line : Count → List ℕ
+abbrev pub full_line : Fullness → List ℕ
 full_line (Entries n) = codes "full entries " ++ error_line (decimal n)
 full_line (Marks n) = codes "full marks " ++ error_line (decimal n)
 

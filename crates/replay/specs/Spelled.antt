@@ -8,7 +8,7 @@ use Rattle.login_model.specs.Legal.{IsLegal, IsLegalAfter}
 use Rattle.recording.specs.Lines.{spell, IsEventLine, IsLine}
 use Rattle.replay.specs.Played.{Played, journal_of}
 use Rattle.replay.specs.PreambleLines.{setup_of, IsPreamble, HasTable}
-use Rattle.replay.specs.Recording.{recording, typed, AreTurns, HasRoom, IsTurn, MayCome, most_lines}
+use Rattle.replay.specs.Recording.{recording, typed, AreTurns, IsNeverFull, IsTurn, MayCome, most_lines}
 use Rattle.replay.specs.Outcome.{IsRecordingText}
 
 -- the bytes of lines
@@ -28,7 +28,7 @@ pub record IsTyped (preamble : List Line) (journal : List Entry) : Type 0 where
 
 -- these, spelled, are a recording of this journal
 abbrev pub SpelledIsRecording : Type 0
-SpelledIsRecording = (preamble : List Line) (journal : List Entry) → IsTyped preamble journal → HasTable preamble → HasRoom (setup_of preamble) journal
+SpelledIsRecording = (preamble : List Line) (journal : List Entry) → IsTyped preamble journal → HasTable preamble → IsNeverFull (setup_of preamble) journal
     → length (recording preamble (typed journal)) ≤ most_lines → IsRecordingOf journal (spelling (recording preamble (typed journal)))
 
 -- a text is a recording in one way at most: with one preamble, and with one journal, parted among its lines in one way

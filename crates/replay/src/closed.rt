@@ -6,7 +6,7 @@ ghost use Rattle.replay.specs.Closing.{not_begun_number, closed_line, end_text, 
 use crate::numbered::{push_counted, push_text};
 use bus_auth::Ending;
 use login_base::{ConnId, NoMemory};
-use login_model::Count;
+use login_model::Fullness;
 use login_office::{LinkEnd, Unbegun};
 use std::alloc::Global;
 
@@ -45,8 +45,8 @@ fn push_end(out: &mut Vec<u8>, end: LinkEnd)
         LinkEnd::ReadFault => push_text(out, b" read-fault"),
         LinkEnd::WriteFault => push_text(out, b" write-fault"),
         LinkEnd::NoMemory => push_text(out, b" no-memory"),
-        LinkEnd::Full(Count::Entries(sum)) => push_counted(out, b" full entries ", sum),
-        LinkEnd::Full(Count::Marks(sum)) => push_counted(out, b" full marks ", sum),
+        LinkEnd::Full(Fullness::Entries(sum)) => push_counted(out, b" full entries ", sum),
+        LinkEnd::Full(Fullness::Marks(sum)) => push_counted(out, b" full marks ", sum),
         LinkEnd::Stopped(entry) => push_counted(out, b" stopped ", u64::from(entry)),
     }
     push_text(out, b"\n");

@@ -5,7 +5,7 @@ ghost use Rattle.replay.specs.declared.early.Early.TheVariants as early;
 
 use crate::cause::Cause;
 use login_base::NoMemory;
-use login_model::Count;
+use login_model::Fullness;
 use std::alloc::AllocError;
 
 /// How the reading of a recording's lines, or its replay, ends before it is done.
@@ -14,7 +14,7 @@ pub enum Early {
     /// The line with this number is refused for this cause.
     Script(u32, Cause),
     /// The journal is full for an event of the next line, by this count.
-    Full(Count),
+    Full(Fullness),
     ReadFault,
     WriteFault,
     NoMemory,

@@ -11,7 +11,7 @@ ghost use Rattle.replay.specs.Recording.{most_lines};
 ghost use Rattle.replay.specs.Preamble.{SetupGives, SetsUp, IsFromTexts, is_failed_setup};
 ghost use Rattle.replay.specs.Rising.{Rises};
 ghost use Rattle.replay.specs.Early.{failed, of_reading};
-ghost use Rattle.replay.specs.inner.Opening.{Takes, TakesLine, MakesTable, MakesSetup, Opens, BehindHeader};
+ghost use Rattle.replay.specs.inner.Opening.{HasTaken, TakesLine, MakesTable, MakesSetup, Opens, BehindHeader};
 
 use crate::ahead::{MOST_LINES, next_line, read_past};
 use crate::cause::Cause;
@@ -141,7 +141,7 @@ impl Preamble {
 
     /// Takes an identity behind these lines.
     fn take_guid(&mut self, guid: Word) -> Said
-        ensures { (number : ℕ) → Takes number self.old (Guid guid) self.new result }
+        ensures { (number : ℕ) → HasTaken number self.old (Guid guid) self.new result }
     {
         if self.guid.is_some() {
             return Said::Refused;

@@ -15,7 +15,7 @@ use crate::preamble::read_opening;
 use crate::reporting::{RefusalLine, StatusLine, report};
 use crate::run::Run;
 use login_edge::{Sink, Source};
-use login_model::Count;
+use login_model::Fullness;
 use recording::LineReader;
 use std::alloc::Global;
 
@@ -28,7 +28,7 @@ pub enum ReplayEnd {
     Script(u32, Cause),
     /// The journal is full for an event of the next line, by this count. The output has the transcript of the
     /// lines before it, and the blocks of the entries that this line made.
-    Full(Count),
+    Full(Fullness),
     /// The input failed. The output has the transcript of all whole lines before the fault.
     ReadFault,
     /// The output failed. It has a front of the transcript.

@@ -8,7 +8,7 @@ use crate::cause::Cause;
 use crate::numbered::push_text;
 use login_base::push_decimal;
 use login_edge::{Sink, write_all};
-use login_model::Count;
+use login_model::Fullness;
 use std::alloc::{AllocError, Global};
 
 /// A line that is the same whenever it is said.
@@ -76,12 +76,12 @@ impl RefusalLine {
     }
 
     /// The line of a full journal, without memory.
-    pub fn full(self, count: Count) -> Vec<u8>
+    pub fn full(self, count: Fullness) -> Vec<u8>
         ensures { result.items ≡ full_line count }
     {
         match count {
-            Count::Entries(number) => self.counted(b"full entries ", number),
-            Count::Marks(number) => self.counted(b"full marks ", number),
+            Fullness::Entries(number) => self.counted(b"full entries ", number),
+            Fullness::Marks(number) => self.counted(b"full marks ", number),
         }
     }
 

@@ -17,7 +17,7 @@ use Rattle.login_edge.specs.declared.spawner.Started.TheVariants.{Running, Back}
 use Rattle.login_model.specs.Full.{full}
 use Rattle.login_model.specs.Legal.{events_of}
 use Rattle.login_model.specs.Stopping.{stop_from}
-use Rattle.login_model.specs.declared.count.Count.{Count}
+use Rattle.login_model.specs.declared.fullness.Fullness.{Fullness}
 use Rattle.login_model.specs.declared.event.Event.{Event}
 use Rattle.login_model.specs.declared.event.Event.TheVariants.{Stop, Tick}
 use Rattle.login_model.specs.declared.mark.Entry.{Entry}
@@ -190,8 +190,8 @@ abbrev pub HasTrouble : Troubles → Type 0
 HasTrouble t = (t.no_memory ≡ true) ⊎ (IsSome t.full ⊎ (t.listener_or_clock ≡ true))
 
 -- it may see to it that the stop is there: for such a reason, or nobody is served, or it is there
-abbrev pub MayStop : Troubles → Bool → List (Numbered Entry) → Type 0
-MayStop t is_alone seen = HasTrouble t ⊎ ((is_alone ≡ true) ⊎ IsSome (stop_from 1 (entries seen)))
+abbrev pub MayStopAfter : Troubles → Bool → List (Numbered Entry) → Type 0
+MayStopAfter t is_alone seen = HasTrouble t ⊎ ((is_alone ≡ true) ⊎ IsSome (stop_from 1 (entries seen)))
 
 -- its own entries are these ticks, and maybe the stop, for a reason
 pub record HasTicked (t : Troubles) (ticks : List ℕ) (is_alone : Bool) (mine : List Entry) : Type 0 where
@@ -200,7 +200,7 @@ pub record HasTicked (t : Troubles) (ticks : List ℕ) (is_alone : Bool) (mine :
   pub stop : (last ≡ []) ⊎ ((last ≡ Stop ∷ []) × (HasTrouble t ⊎ (is_alone ≡ true)))
 
 -- the journal was full for a tick at this moment, behind a front without the stop, in which all ticks are
-pub record FullForTick (U : Setup) (seen : List (Numbered Entry)) (ticks : List ℕ) (moment : Millis) (count : Count) : Type 0 where
+pub record FullForTick (U : Setup) (seen : List (Numbered Entry)) (ticks : List ℕ) (moment : Millis) (count : Fullness) : Type 0 where
   pub front : List (Numbered Entry)
   pub later : List (Numbered Entry)
   pub seen_is : seen ≡ front ++ later
@@ -224,7 +224,7 @@ abbrev pub HasCalled : ℕ → ℕ → ℕ → Type 0
 HasCalled before calls now = ((calls ≡ 0) × (now ≡ before)) ⊎ (now ≡ after_calls before calls)
 
 -- the clock was asked so often since the start, and its readings lead to these ticks
-pub record WasRead (calls : ℕ) (ticks : List ℕ) (refused : Option Millis) (q p : Readings) : Type 0 where
+pub record WasClocked (calls : ℕ) (ticks : List ℕ) (refused : Option Millis) (q p : Readings) : Type 0 where
   pub asked : HasCalled q.asked calls p.asked
   pub readings : List ℕ
   pub given_is : p.given ≡ q.given ++ readings
@@ -232,7 +232,7 @@ pub record WasRead (calls : ℕ) (ticks : List ℕ) (refused : Option Millis) (q
 
 -- the same, with the last tick and the count of faults
 pub record IsClockOf {L : Type 0} (x : Since L) (t : Far) (calls : ℕ) (readings : Option Readings) (faults last : ℕ) : Type 0 where
-  pub told : BothTold x.readings readings (WasRead calls t.ticks t.refused)
+  pub told : BothTold x.readings readings (WasClocked calls t.ticks t.refused)
   pub faults_is : t.clock_faults ≡ faults
   pub last_is : last ≡ last_tick 0 t.ticks
 
@@ -328,7 +328,7 @@ module _ {L N P : Type 0} (number : L → ℕ) (talk : L → Option (List Exchan
     pub placed : IfSome door.register (λ r. ArePlaced talk left faults x.setup house.pass.view (all_out house.children.items hands) r.links house.ends.items)
     pub counted : IfSome door.register (λ r. length r.links ≡ door.given)
     pub ticked : HasTicked house.troubles t.ticks t.is_alone house.pass.view.mine
-    pub full : (count : Count) → house.troubles.full ≡ Some count → (m : Millis) × (t.refused ≡ Some m) × FullForTick x.setup house.pass.view.seen t.ticks m count
+    pub full : (count : Fullness) → house.troubles.full ≡ Some count → (m : Millis) × (t.refused ≡ Some m) × FullForTick x.setup house.pass.view.seen t.ticks m count
     pub listed : IsListed house.came house.is_closed house.troubles.no_memory (length house.ends.items) door.given
     pub closed : house.is_closed ≡ true → (house.troubles.no_memory ≡ true) ⊎ IfSome door.register (λ r. r.closed ≡ true)
     pub asked : WasAsked x t house.came house.troubles.no_memory door.register

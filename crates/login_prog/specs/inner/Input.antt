@@ -6,7 +6,7 @@ use Rattle.login_edge.specs.Faults.{Rose}
 use Rattle.login_model.specs.Full.{full}
 use Rattle.login_model.specs.Legal.{events_of}
 use Rattle.login_model.specs.Stopping.{stop_from}
-use Rattle.login_model.specs.declared.count.Count.{Count}
+use Rattle.login_model.specs.declared.fullness.Fullness.{Fullness}
 use Rattle.login_model.specs.declared.event.Event.{Event}
 use Rattle.login_model.specs.declared.event.Event.TheVariants.{Hardware as Happens, Stop}
 use Rattle.login_model.specs.declared.hardware.Hardware.{Hardware}
@@ -94,7 +94,7 @@ pub record HasRead (v w : View Setup Entry) (all left : Option (List ℕ)) (was 
 
 -- behind a front of what was seen, which had no stop, and all that this pass had made, the journal was full for the event of
 -- the next line
-pub record WasFull (U : Setup) (before number : ℕ) (seen : List (Numbered Entry)) (made : List Event) (xs : List Hardware) (all : Option (List ℕ)) (count : Count) : Type 0 where
+pub record WasFullFor (U : Setup) (before number : ℕ) (seen : List (Numbered Entry)) (made : List Event) (xs : List Hardware) (all : Option (List ℕ)) (count : Fullness) : Type 0 where
   pub next : Hardware
   pub there : IfSome all (λ text. CutAt text xs before next)
   pub front : List (Numbered Entry)
@@ -106,7 +106,7 @@ pub record WasFull (U : Setup) (before number : ℕ) (seen : List (Numbered Entr
 
 -- where reading ended as full, the journal was so by this count; where it found the stop, that was there
 abbrev pub WhyEnded : ReaderEnd → (before : ℕ) → (v w : View Setup Entry) → Option (List ℕ) → List Hardware → Type 0
-WhyEnded (end.Full count) before v w all xs = (U : Setup) × (v.setup ≡ Some U) × WasFull U before w.number w.seen (events_of v.mine ++ map Happens xs) xs all count
+WhyEnded (end.Full count) before v w all xs = (U : Setup) × (v.setup ≡ Some U) × WasFullFor U before w.number w.seen (events_of v.mine ++ map Happens xs) xs all count
 WhyEnded end.Stopped before v w all xs = IsSome (stop_from 1 (entries w.seen))
 WhyEnded _ before v w all xs = Unit {0}
 

@@ -24,7 +24,7 @@ use Rattle.login_prog.specs.Outcome.{BothTold, Change, IsOpened, IsSteady}
 use Rattle.login_prog.specs.Served.{link_lines}
 use Rattle.login_prog.specs.inner.Endings.{EndsSo, ReportsEnd, status_of}
 use Rattle.login_prog.specs.inner.House.{Door, Far, KeepsAt, Since, no_troubles, with_end}
-use Rattle.login_prog.specs.inner.House.{WasRead as WasClocked}
+use Rattle.login_prog.specs.inner.House.{WasClocked}
 use Rattle.login_prog.specs.inner.Input.{WasRead}
 use Rattle.login_prog.specs.declared.serve.accepting.House.{House}
 use Rattle.login_prog.specs.declared.serve.reader_job.ReaderEnd.{ReaderEnd}

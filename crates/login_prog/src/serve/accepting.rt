@@ -3,7 +3,7 @@
 ghost use Rattle.std.specs.Prelude.{◌≡◌, ◌+◌, ◌<◌, ◌≤◌, ◌⊎◌, ◌∷◌, [], ℕ, Bool, List, Option, IfOk, None, true, false, vec_len, vec_capacity};
 ghost use Rattle.link_serve.specs.Turned.{StopTells};
 ghost use Rattle.login_prog.specs.Served.{most_links, tick_length};
-ghost use Rattle.login_prog.specs.inner.House.{Accepts, Comes, Door, Far, HasCome, HasKept, HasReturned, HasTurning, Held, IsBegun, IsClock, Keeps, MayStop, Reads, Returns, Since, TickGives, Turned, Turning, asked_once, failing, stopped_now};
+ghost use Rattle.login_prog.specs.inner.House.{Accepts, Comes, Door, Far, HasCome, HasKept, HasReturned, HasTurning, Held, IsBegun, IsClock, Keeps, MayStopAfter, Reads, Returns, Since, TickGives, Turned, Turning, asked_once, failing, stopped_now};
 
 use crate::serve::link_job::{DoneBell, LinkJob, LinkNote, LinkOut};
 use crate::serve::troubles::Troubles;
@@ -256,7 +256,7 @@ impl<L: Link, N: Listener<Link = L>, P: Spawner> House<L, N, P> {
         ensures desk { self.new.pass.desk ≡ self.old.pass.desk }
         ensures same { self.new ≡ record self.old { pass = self.new.pass } }
         ensures stops { StopTells self.old.pass.view self.new.pass.view }
-        ensures keeps { (x : Since L) (t : Far) → MayStop self.old.troubles t.is_alone self.old.pass.view.seen
+        ensures keeps { (x : Since L) (t : Far) → MayStopAfter self.old.troubles t.is_alone self.old.pass.view.seen
             → Keeps L.number L.talk L.left L.faults P.faults N.told N.given N.faults x t [] self.old
             → Keeps L.number L.talk L.left L.faults P.faults N.told N.given N.faults x (stopped_now t) [] self.new }
     {

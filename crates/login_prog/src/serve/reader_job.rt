@@ -10,7 +10,7 @@ use desk::Desk;
 use link_serve::{CoreAtDesk, PassOfCore, step_event, stop};
 use login_core::Refused;
 use login_edge::{Gate, Job, Source};
-use login_model::{Count, Event, Hardware};
+use login_model::{Event, Fullness, Hardware};
 use recording::{Line, LineReader};
 use replay::{Cause, Early, MOST_LINES, next_line, read_past};
 use std::alloc::Global;
@@ -26,7 +26,7 @@ pub enum ReaderEnd {
     /// The line with this number is refused for this cause.
     Script(u32, Cause),
     /// The journal is full for the event of the next line, by this count.
-    Full(Count),
+    Full(Fullness),
     /// Somebody else has made the stop.
     Stopped,
     ReadFault,

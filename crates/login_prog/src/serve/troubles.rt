@@ -5,7 +5,7 @@ ghost use Rattle.login_prog.specs.inner.Endings.{EndsSo, with_reading, with_refu
 
 use crate::serve::reader_job::ReaderEnd;
 use login_core::Refused;
-use login_model::Count;
+use login_model::Fullness;
 use replay::Cause;
 
 /// What went wrong, in the order in which the status tells it.
@@ -14,7 +14,7 @@ pub struct Troubles {
     pub no_memory: bool,
     pub read_fault: bool,
     pub refused_line: Option<(u32, Cause)>,
-    pub full: Option<Count>,
+    pub full: Option<Fullness>,
     pub listener_or_clock: bool,
     pub spawn_fault: bool,
     pub write_fault: bool,
@@ -27,7 +27,7 @@ pub enum ServeEnd {
     NoMemory,
     ReadFault,
     Script(u32, Cause),
-    Full(Count),
+    Full(Fullness),
     ListenerOrClockFault,
     SpawnFault,
     WriteFault,

@@ -5,7 +5,7 @@ use crate::lines::{play, play_all, played, refusal};
 use crate::playing::{close, finish};
 use login_base::ConnId;
 use login_core::{Core, Refused};
-use login_model::{Count, Key, Look};
+use login_model::{Fullness, Key, Look};
 use std::alloc::Global;
 use std::test::Fail;
 
@@ -35,7 +35,7 @@ fn links_can_still_end_when_the_journal_is_full(rt: HostRuntime) -> Result<(), F
     assert!(rt; tick(rt.alloc(), &mut core, 199_986));
     assert!(rt; play_all(rt.alloc(), &mut core, &CONNECTS));
     assert_eq!(rt; core.journal().len(), 199_995);
-    let full = Some(Refused::Full(Count::Entries(200_001)));
+    let full = Some(Refused::Full(Fullness::Entries(200_001)));
     assert_eq!(rt; refusal(rt.alloc(), &mut core, TICK), full);
     for number in 1..4 {
         assert!(rt; close(&mut core, ConnId(number)));

@@ -4,7 +4,7 @@ use Rattle.login_base.specs.declared.ids.ConnId.{ConnId}
 use Rattle.login_base.specs.declared.ids.Uid.{Uid}
 use Rattle.login_core.specs.State.{CoreState, IsReady}
 use Rattle.login_edge.specs.Texts.{Gains, GainsFront}
-use Rattle.login_model.specs.declared.count.Count.{Count}
+use Rattle.login_model.specs.declared.fullness.Fullness.{Fullness}
 use Rattle.login_model.specs.declared.event.Event.{Event}
 use Rattle.login_model.specs.declared.event.Event.TheVariants as event
 use Rattle.login_model.specs.declared.event.Request.{Request}
@@ -19,7 +19,7 @@ use Rattle.login_office.specs.Offices.{OfficeState}
 use Rattle.login_office.specs.declared.end.LinkEnd.{LinkEnd}
 use Rattle.login_office.specs.declared.end.LinkEnd.TheVariants.{TooMany}
 use Rattle.recording.specs.Print.{blocks}
-use Rattle.replay.specs.Recording.{HasRoomAfter}
+use Rattle.replay.specs.Recording.{IsNeverFullAfter}
 use Rattle.replay.specs.declared.early.Early.{Early}
 use Rattle.replay.specs.declared.early.Early.TheVariants.{Full, WriteFault, NoMemory}
 
@@ -34,7 +34,7 @@ MakesRoom old new e (Err _) = ⊥
 pub record AreMade (U : Setup) (before : List Entry) (events : List Event) (made : List Entry) (more : List Event) : Type 0 where
   pub are : events ≡ events_of made ++ more
   pub legal : IsLegalAfter U before made
-  pub room : HasRoomAfter U before made
+  pub room : IsNeverFullAfter U before made
 
 -- the blocks of entries behind a journal
 abbrev pub blocks_behind : List Entry → List Entry → List ℕ
@@ -50,7 +50,7 @@ pub record AllMade (old : OfficeState) (events : List Event) (new : OfficeState)
   pub wrote : Gains held now (blocks_behind old.core.journal made)
 
 -- one of them finds the journal full by this count, and those before it were made and written
-pub record FullFor (count : Count) (old : OfficeState) (events : List Event) (held now : Option (List ℕ)) : Type 0 where
+pub record FullFor (count : Fullness) (old : OfficeState) (events : List Event) (held now : Option (List ℕ)) : Type 0 where
   pub made : List Entry
   pub event : Event
   pub more : List Event

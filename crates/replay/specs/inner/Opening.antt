@@ -30,19 +30,19 @@ pub record SaySo (lines : List Line) (p : Preamble) : Type 0 where
   pub actions : p.action_lines ≡ action_lines 2 lines
 
 -- a line behind so many is added, or the preamble ends, or the line may not come next
-abbrev pub Takes : ℕ → Preamble → Line → Preamble → Said → Type 0
-Takes number old line new Row =
+abbrev pub HasTaken : ℕ → Preamble → Line → Preamble → Said → Type 0
+HasTaken number old line new Row =
     (lines : List Line) → number ≡ length lines + 1 → SaySo lines old → SaySo (lines ++ line ∷ []) new × MayFollow lines line
-Takes number old line new Go = (line ≡ GoLine) × (new ≡ old)
-Takes number old line new Refused = (lines : List Line) → SaySo lines old → takes_at headed lines [] line → ⊥
+HasTaken number old line new Go = (line ≡ GoLine) × (new ≡ old)
+HasTaken number old line new Refused = (lines : List Line) → SaySo lines old → takes_at headed lines [] line → ⊥
 
 -- the same, where there may be no memory
 abbrev pub TakesLine : {E : Type 0} → ℕ → Preamble → Line → Preamble → Result Said E → Type 0
-TakesLine number old line new (Ok taken) = Takes number old line new taken
+TakesLine number old line new (Ok taken) = HasTaken number old line new taken
 TakesLine number old line new (Err e) = Unit {0}
 
 -- what the lines said is the setup, with what is wrong with those of the configuration
-pub record Makes (p : Preamble) (s : Setup) (wrong : List Diagnostic) : Type 0 where
+pub record IsSetupOf (p : Preamble) (s : Setup) (wrong : List Diagnostic) : Type 0 where
   pub guid : s.guid ≡ guid_or_default p.guid
   pub users : s.users ≡ p.users
   pub conf : s.conf ≡ conf_of p.conf.items
@@ -59,7 +59,7 @@ pub record IsRefusedAt (p : Preamble) (number : ℕ) : Type 0 where
 
 -- the lines make a setup; or their table is refused, or there is no memory
 abbrev pub MakesSetup : Preamble → Result (Setup × List Diagnostic) Early → Type 0
-MakesSetup p (Ok made) = Makes p made.0 made.1
+MakesSetup p (Ok made) = IsSetupOf p made.0 made.1
 MakesSetup p (Err (Script number BadAction)) = IsRefusedAt p number
 MakesSetup p (Err NoMemory) = Unit {0}
 MakesSetup p (Err _) = ⊥

@@ -1,7 +1,7 @@
 -- What the playing of a line does.
 use Rattle.std.specs.Prelude.{ℕ, ◌≡◌, ◌⊎◌, List, [], ◌∷◌, ◌++◌, Option, Some, Result, Ok, Err}
 use Rattle.login_edge.specs.Texts.{Gains, GainsFront}
-use Rattle.login_model.specs.declared.count.Count.{Count}
+use Rattle.login_model.specs.declared.fullness.Fullness.{Fullness}
 use Rattle.login_model.specs.declared.event.Event.{Event}
 use Rattle.login_model.specs.declared.mark.Entry.{Entry}
 use Rattle.login_model.specs.declared.setup.Setup.{Setup}
@@ -11,7 +11,7 @@ use Rattle.recording.specs.declared.line.Line.{Line}
 use Rattle.recording.specs.Lines.{IsLine}
 use Rattle.replay.specs.Links.{line_events}
 use Rattle.replay.specs.Played.{Played, journal_of, played_lines}
-use Rattle.replay.specs.Recording.{HasRoom, IsTurn, MayCome}
+use Rattle.replay.specs.Recording.{IsNeverFull, IsTurn, MayCome}
 use Rattle.replay.specs.Transcript.{entries_text, turn_text}
 use Rattle.replay.specs.declared.early.Early.{Early}
 use Rattle.replay.specs.declared.early.Early.TheVariants.{Full, WriteFault, NoMemory}
@@ -30,13 +30,13 @@ pub record ComesNext (player : PlayerState) (line : Line) : Type 0 where
 pub record MadeSoFar (U : Setup) (before : List Played) (line : Line) (made : List Entry) (more : List Event) : Type 0 where
   pub events : line_events U before line ≡ events_of made ++ more
   pub legal : IsLegal U (journal_of before ++ made)
-  pub room : HasRoom U (journal_of before) → HasRoom U (journal_of before ++ made)
+  pub room : IsNeverFull U (journal_of before) → IsNeverFull U (journal_of before ++ made)
 
 -- a line with all of its entries, each made with room
 pub record IsMade (U : Setup) (before : List Played) (line : Line) (made : List Entry) : Type 0 where
   pub turn : IsTurn U before (record { line = line; made = made })
   pub legal : IsLegal U (journal_of (before ++ record { line = line; made = made } ∷ []))
-  pub room : HasRoom U (journal_of before) → HasRoom U (journal_of (before ++ record { line = line; made = made } ∷ []))
+  pub room : IsNeverFull U (journal_of before) → IsNeverFull U (journal_of (before ++ record { line = line; made = made } ∷ []))
 
 -- the entries of the line were made and written, and this it brought about on its link
 pub record LineMade (U : Setup) (before : List Played) (line : Line) (new : PlayerState) (own : Option Own) (held now : Option (List ℕ)) : Type 0 where
@@ -59,7 +59,7 @@ pub record LinePlayed (U : Setup) (before : List Played) (line : Line) (new : Pl
   pub wrote : Gains held now (turn_text U before (record { line = line; made = made }))
 
 -- an event of the line finds the journal full by this count, and the entries before it were written
-pub record LineFull (count : Count) (U : Setup) (before : List Played) (line : Line) (held now : Option (List ℕ)) : Type 0 where
+pub record LineFull (count : Fullness) (U : Setup) (before : List Played) (line : Line) (held now : Option (List ℕ)) : Type 0 where
   pub made : List Entry
   pub event : Event
   pub more : List Event
