@@ -10,7 +10,8 @@ use Rattle.bus_auth.specs.declared.step.AuthState.TheVariants.{Going, Ended as e
 use Rattle.bus_auth.specs.Cutting.{cut}
 use Rattle.bus_auth.specs.Greeting.{Greeting, State, WaitingForNul, Talking, Begun, Ended, behind_replies, run, first_talk, greet}
 use Rattle.bus_auth.specs.inner.Greeting.{resume}
-use Rattle.bus_auth.specs.Standing.{Handshake, kept, open_line}
+use Rattle.bus_auth.specs.Standing.{Handshake, kept}
+use Rattle.bus_auth.specs.inner.Standing.{open_line}
 use Rattle.bus_auth.specs.Hearing.{HasHeard, Tells, greeting, shown}
 use Rattle.bus_auth.specs.inner.Hearing.{Gives}
 use Rattle.bus_auth.proofs.GreetingLaws.{greet-append}

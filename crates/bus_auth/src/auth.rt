@@ -3,7 +3,8 @@
 ghost use Rattle.std.specs.Prelude.{◌≡◌, ◌≢◌, ◌↔◌, ◌++◌, List, ℕ, [], IsTrue, IsOk, IfOk, OnOk, OnErr, ◌<◌};
 ghost use Rattle.bus_auth.specs.Greeting.{WaitingForNul, Begun, Ended, greet, run};
 ghost use Rattle.bus_auth.specs.inner.Greeting.{resume};
-ghost use Rattle.bus_auth.specs.Standing.{ending_of, kept, state_of, open_line, IsKept};
+ghost use Rattle.bus_auth.specs.Standing.{ending_of, kept};
+ghost use Rattle.bus_auth.specs.inner.Standing.{state_of, open_line, IsKept};
 ghost use Rattle.bus_auth.specs.Hearing.{HasHeard, Hears, shown, Tells, IsEnded};
 ghost use Rattle.bus_auth.specs.inner.Hearing.{Gives};
 ghost use Rattle.bus_auth.specs.Cutting.{cut};
@@ -27,7 +28,8 @@ pub struct Auth {
 }
 
 impl Model for Auth {
-    ghost use Rattle.bus_auth.specs.Standing.{Handshake, state_of, IsKept};
+    ghost use Rattle.bus_auth.specs.Standing.{Handshake};
+    ghost use Rattle.bus_auth.specs.inner.Standing.{state_of, IsKept};
 
     ghost Value = { Handshake };
 

@@ -10,8 +10,8 @@ use Rattle.bus_message.specs.declared.cutting.Next.{Next}
 use Rattle.bus_message.specs.declared.cutting.Next.TheVariants as next
 use Rattle.bus_message.specs.declared.cutting.Pieces.{Pieces}
 use Rattle.bus_message.specs.Cutting.{Whole, front, Cutting, cut_from, cut}
-use Rattle.bus_message.specs.Feeding.{Stream, kept, HasFed, Feeds, IsKept}
-use Rattle.bus_message.specs.inner.Feeding.{Shows}
+use Rattle.bus_message.specs.Feeding.{Stream, kept, HasFed, Feeds}
+use Rattle.bus_message.specs.inner.Feeding.{IsKept, Shows}
 use Rattle.bus_message.specs.inner.Outcomes.{before, ended, cut_at, LeavesOpen, IsCutFrom, AnswersCut}
 use Rattle.bus_message.specs.Laws.{MalformedForGood}
 use Rattle.bus_message.proofs.Zeros.{reported_small}

@@ -23,7 +23,7 @@ use Rattle.bus_message.specs.declared.fault.Fault.{Fault}
 use Rattle.bus_message.specs.declared.header.Header.{Header}
 use Rattle.bus_message.specs.declared.message.Message.{Message}
 use Rattle.bus_message.specs.Faults.{and_then, for_cause}
-use Rattle.bus_message.specs.Headers.{order_letter, order_of, fields_end, body_start, size, most, stated, header_by, header_of}
+use Rattle.bus_message.specs.Headers.{order_letter, order_of, fields_end, body_start, size, most_cut, stated, header_by, header_of}
 use Rattle.bus_value.specs.Fields.{field_type, list_type, listed, elements, fields_in}
 use Rattle.bus_message.specs.Fields.{bad_field, has_required, handles, signature}
 use Rattle.bus_message.specs.Checks.{Tells}
@@ -71,7 +71,7 @@ record IsHeader (bytes : List ℕ) (h : Header) : Type 0 where
   kind : 0 < h.kind
   version : get_or bytes 3 0 ≡ 1
   serial : 0 < h.serial
-  small : size h ≤ most
+  small : size h ≤ most_cut
 
 header_in : (bytes : List ℕ) (o : Option Order) (h : Header) → order_of (get_or bytes 0 0) ≡ o → header_by bytes o ≡ Ok h → IsHeader bytes h
 header_in bytes None h e is = absurd (let k : ⊥ = cc in k)
@@ -80,7 +80,7 @@ header_in bytes (Some o) h e is =
     let a = passed (eqb s.kind 0) _ _ h is in
     let b = passed (not (eqb (get_or bytes 3 0) 1)) _ _ h a.1 in
     let c = passed (eqb s.serial 0) _ _ h b.1 in
-    let d = passed (ltb most (size s)) _ _ h c.1 in
+    let d = passed (ltb most_cut (size s)) _ _ h c.1 in
     let same : s ≡ h = let k : Ok s ≡ Ok h = d.1 in cc in
     let order : o ≡ h.order = ap (λ (x : Header). x.order) same in
     record {

@@ -19,7 +19,7 @@ use Rattle.bus_message.specs.declared.fault.MessageFault.TheVariants.{BadField, 
 use Rattle.bus_message.specs.declared.header.Header.{Header}
 use Rattle.bus_message.specs.declared.message.Message.{Message}
 use Rattle.bus_message.specs.Faults.{and_then, for_cause}
-use Rattle.bus_message.specs.Headers.{order_letter, order_of, fields_end, body_start, size, most, stated, accepted, header_by, header_of}
+use Rattle.bus_message.specs.Headers.{order_letter, order_of, fields_end, body_start, size, most_cut, stated, accepted, header_by, header_of}
 use Rattle.bus_value.specs.Fields.{list_type, listed, fields_in}
 use Rattle.bus_message.specs.Fields.{has_required, handles, signature}
 use Rattle.bus_message.specs.Checks.{Tells}
@@ -42,11 +42,11 @@ sixteen o kind flags body serial fields =
 abbrev said : Order → ℕ → ℕ → ℕ → ℕ → ℕ → Header
 said o kind flags body serial fields = record { order = o; kind = kind; flags = flags; serial = serial; fields = fields; body = body }
 
-accepts : (bytes : List ℕ) (h : Header) → 0 < h.kind → get_or bytes 3 0 ≡ 1 → 0 < h.serial → size h ≤ most → accepted bytes h ≡ Ok h
+accepts : (bytes : List ℕ) (h : Header) → 0 < h.kind → get_or bytes 3 0 ≡ 1 → 0 < h.serial → size h ≤ most_cut → accepted bytes h ≡ Ok h
 accepts bytes h kind version serial small =
     let a : eqb h.kind 0 ≡ false = grind (arith, nat_tests) in
     let b : eqb h.serial 0 ≡ false = grind (arith, nat_tests) in
-    let c : ltb most (size h) ≡ false = grind (arith, nat_tests) in
+    let c : ltb most_cut (size h) ≡ false = grind (arith, nat_tests) in
     rw (a, version, b, c) refl
 
 stated_by : (o : Order) (bytes : List ℕ) (kind flags body serial fields : ℕ) → get_or bytes 1 0 ≡ kind → get_or bytes 2 0 ≡ flags
@@ -73,7 +73,7 @@ order_back Little = refl
 order_back Big = refl
 
 header_spelled : (o : Order) (kind flags body serial fields : ℕ) → 0 < kind → 0 < serial → body < 2 ^ 32 → serial < 2 ^ 32 → fields < 2 ^ 32
-    → size (said o kind flags body serial fields) ≤ most → header_of (sixteen o kind flags body serial fields) ≡ Ok (said o kind flags body serial fields)
+    → size (said o kind flags body serial fields) ≤ most_cut → header_of (sixteen o kind flags body serial fields) ≡ Ok (said o kind flags body serial fields)
 unfolding header_of
 header_spelled o kind flags body serial fields k s a b c small =
     let bytes : List ℕ = sixteen o kind flags body serial fields in

@@ -1,14 +1,9 @@
 -- What the checks of a message's fields are told.
-use Rattle.std.specs.Prelude.{ℕ, ◌≡◌, ◌+◌, List}
+use Rattle.std.specs.Prelude.{◌≡◌, List}
 use Rattle.bus_names.specs.Reading.{interface_fault, member_fault, bus_name_fault}
-use Rattle.bus_value.specs.Spelling.{pad_size}
 use Rattle.bus_value.specs.Values.{Val}
 use Rattle.bus_message.specs.declared.message.Message.{Message}
 use Rattle.bus_message.specs.Fields.{found, path_at, name_at, u32_at}
-
--- the next boundary of 8
-abbrev pub behind_padding : ℕ → ℕ
-behind_padding at = at + pad_size at 8
 
 -- the message has what the fields tell
 pub record Tells (m : Message) (fs : List Val) : Type 0 where

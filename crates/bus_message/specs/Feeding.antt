@@ -7,7 +7,7 @@ use Rattle.bus_message.specs.declared.fault.Malformed.{Malformed}
 use Rattle.bus_message.specs.declared.message.Message.{Message}
 use Rattle.bus_message.specs.declared.cutter.Cut.{Cut}
 use Rattle.bus_message.specs.Grammar.{IsMessage}
-use Rattle.bus_message.specs.Cutting.{Open, front, Cutting, cut}
+use Rattle.bus_message.specs.Cutting.{Cutting, cut}
 
 -- what is kept between two pieces: the place behind the messages, as it is reported; the bytes from there on, of a
 -- message that is not whole; and what is wrong there
@@ -38,11 +38,6 @@ pub data WasFed : Stream → List (List ℕ) → List Message → Option Malform
   new : {stream : Stream} → HasFed stream [] → WasFed stream [] [] None
   fed : {old new : Stream} {pieces : List (List ℕ)} {piece : List ℕ} {messages : List Message} {malformed : Option Malformed} {answer : Cut}
       → WasFed old pieces messages malformed → Feeds old piece new answer → WasFed new (pieces ++ piece ∷ []) (messages ++ answer.messages) answer.malformed
-
--- behind a fault nothing is kept; else no whole message is, and none that shows a fault
-abbrev pub IsKept : Option Malformed → List ℕ → Type 0
-IsKept None rest = front rest ≡ Open
-IsKept (Some place) rest = rest ≡ []
 
 -- the answer of a stream that is malformed
 abbrev pub IsEnded : Result Cut NoMemory → Malformed → Type 0

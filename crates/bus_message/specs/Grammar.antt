@@ -6,7 +6,7 @@ use Rattle.bus_message.specs.declared.message.Message.{Message}
 use Rattle.bus_message.specs.Checks.{Tells}
 use Rattle.bus_value.specs.Fields.{list_type}
 use Rattle.bus_message.specs.Fields.{bad_field, has_required, handles, signature}
-use Rattle.bus_message.specs.Headers.{most}
+use Rattle.bus_message.specs.Headers.{most_cut}
 use Rattle.bus_message.specs.Spelling.{list_of, behind_list, assembled}
 
 -- each is a byte
@@ -19,8 +19,8 @@ pub record HasNumbers (m : Message) : Type 0 where
   pub flags : m.flags < 2 ^ 8
   pub serial : (0 < m.serial) × (m.serial < 2 ^ 32)
 
--- Each known field stands there once at most and holds what it is to hold. The message is what the fields tell, has those
--- that its kind requires, and comes with no file descriptor.
+-- Each known field stands there once at most and holds what it is to hold. The message is what the fields tell, has
+-- those that its kind requires, and comes with no file descriptor.
 pub record HasFields (m : Message) (fs : List Val) : Type 0 where
   pub known : bad_field m.order [] 16 fs ≡ None
   pub tells : Tells m fs
@@ -42,4 +42,4 @@ pub record IsSpelled (bytes : List ℕ) (m : Message) : Type 0 where
 -- the same, and they are not too many
 pub record IsMessage (bytes : List ℕ) (m : Message) : Type 0 where
   pub spelled : IsSpelled bytes m
-  pub short : length bytes ≤ most
+  pub short : length bytes ≤ most_cut

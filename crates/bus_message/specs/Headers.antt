@@ -28,8 +28,8 @@ abbrev pub size : Header → ℕ
 size h = body_start h + h.body
 
 -- how many bytes a message has at most that is cut, and one that is written
-abbrev pub most : ℕ
-most = 1048576
+abbrev pub most_cut : ℕ
+most_cut = 1048576
 
 abbrev pub most_written : ℕ
 most_written = 2 ^ 27
@@ -51,7 +51,7 @@ accepted bytes h =
     if h.kind == 0 then is_at BadKind 1 else
     (if not (slice_index bytes 3 == 1) then is_at BadVersion 3 else
     (if h.serial == 0 then is_at ZeroSerial 8 else
-    (if nat_lt most (size h) then is_at TooLong 4 else Ok h)))
+    (if nat_lt most_cut (size h) then is_at TooLong 4 else Ok h)))
 
 abbrev pub header_by : List ℕ → Option Order → Result Header Fault
 header_by bytes None = is_at BadOrder 0

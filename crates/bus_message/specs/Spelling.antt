@@ -5,11 +5,10 @@ use Rattle.bus_value.specs.declared.basic_value.BasicValue.{BasicValue}
 use Rattle.bus_value.specs.declared.basic_value.BasicValue.TheVariants.{Byte, U32, Str, Path, Sig}
 use Rattle.bus_value.specs.declared.order.Order.{Order}
 use Rattle.bus_value.specs.Values.{Val, vals, shapes, basic, array, struct, variant, none, more}
-use Rattle.bus_value.specs.Spelling.{padding, spellings}
+use Rattle.bus_value.specs.Spelling.{next_boundary, padding, spellings}
 use Rattle.bus_value.specs.Numbers.{number_bytes}
 use Rattle.bus_message.specs.declared.message.Message.{Message}
 use Rattle.bus_message.specs.Headers.{order_letter}
-use Rattle.bus_message.specs.Checks.{behind_padding}
 use Rattle.bus_value.specs.Fields.{field_type}
 
 -- the first twelve bytes
@@ -56,7 +55,7 @@ list_bytes o fs = spellings o 12 (vals (list_of fs))
 
 -- where a body starts, behind so many bytes of fields
 abbrev pub behind_list : ℕ → ℕ
-behind_list count = behind_padding (12 + count)
+behind_list count = next_boundary (12 + count)
 
 -- a message whose fields and body have these bytes
 abbrev pub assembled : Message → List ℕ → List ℕ → List ℕ

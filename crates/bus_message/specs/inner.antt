@@ -1,4 +1,5 @@
--- What serves private functions: the fields that are kept and the names in them, and what readers and cutters of messages answer.
+-- What serves private functions and models: the fields that are kept and the names in them, what readers and cutters of
+-- messages answer, and what a cutter keeps.
 pub mod KnownFields
 pub mod Named
 pub mod Names

@@ -3,7 +3,8 @@
 ghost use Rattle.std.specs.Prelude.{◌≡◌, ◌≤◌, ℕ, [], length, drop, None, Some, Ok, OnErr, IfOk};
 ghost use Rattle.std.specs.Fn.{FnOnceReturnsAt};
 ghost use Rattle.bus_value.specs.Faults.{reported};
-ghost use Rattle.bus_message.specs.Feeding.{AreMessages, Feeds, HasFed, IsEnded, IsKept};
+ghost use Rattle.bus_message.specs.Feeding.{AreMessages, Feeds, HasFed, IsEnded};
+ghost use Rattle.bus_message.specs.inner.Feeding.{IsKept};
 ghost use Rattle.bus_message.specs.inner.Outcomes.{IsCutFrom, AnswersCut, ended, cut_at};
 
 use crate::cutting::{Pieces, cut_messages};
@@ -16,7 +17,8 @@ use std::marker::Model;
 /// A stream of messages. Its buffer grows by what is fed, and never by what a header says.
 #[derive(Drop)]
 pub struct Cutter {
-    /// Where the message that is not whole stands in the stream. A place that is above the last `u64` is reported as that.
+    /// Where the message that is not whole stands in the stream. A place that is above the last `u64` is reported as
+    /// that.
     place: u64,
     /// The bytes of the message that is not whole.
     buffer: Vec<u8>,
@@ -24,7 +26,8 @@ pub struct Cutter {
 }
 
 impl Model for Cutter {
-    ghost use Rattle.bus_message.specs.Feeding.{Stream, IsKept};
+    ghost use Rattle.bus_message.specs.Feeding.{Stream};
+    ghost use Rattle.bus_message.specs.inner.Feeding.{IsKept};
 
     ghost Value = { Stream };
 

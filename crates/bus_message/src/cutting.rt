@@ -3,7 +3,7 @@
 ghost use Rattle.std.specs.Prelude.{◌≤◌, length, IfOk, Ok};
 ghost use Rattle.bus_message.specs.Cutting.{front, front_by};
 ghost use Rattle.bus_message.specs.inner.Feeding.{Finds, Shows};
-ghost use Rattle.bus_message.specs.Headers.{most, size};
+ghost use Rattle.bus_message.specs.Headers.{most_cut, size};
 ghost use Rattle.bus_message.specs.inner.Outcomes.{IsCutFrom};
 
 use crate::fault::{Fault, Refusal};
@@ -35,7 +35,7 @@ pub(crate) struct Pieces {
 
 /// The message of this header, where the text has all its bytes.
 fn whole(alloc: Global, header: Header, text: &[u8]) -> Result<Next, Refusal>
-    requires { size header ≤ most }
+    requires { size header ≤ most_cut }
     ensures { Finds result (front_by text.now (Ok header)) (length text.now) }
 {
     let size = header.size();

@@ -250,7 +250,8 @@ fn assemble(alloc: Global, message: &Message, list: &[u8], body: &[u8]) -> Resul
 }
 
 /// The bytes of the message, with its fields in ascending order. The condition is that it has the fields that its kind
-/// requires, and that fields and body are within the limits of the D-Bus Specification; but the whole may be 2^27 bytes long.
+/// requires, and that fields and body are within the limits of the D-Bus Specification; but the whole may be 2^27 bytes
+/// long.
 #[tactic(auto, unfolding(crate::specs::Spelling::message_bytes))]
 pub fn encode(alloc: Global, message: &Message) -> Result<Bytes, NoMemory>
     requires kind { 0 < message.now.kind }

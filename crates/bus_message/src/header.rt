@@ -2,7 +2,7 @@
 
 ghost use Rattle.std.specs.Prelude.{◌≡◌, ◌≤◌, ◌<◌, length, IfOk};
 ghost use Rattle.bus_message.specs.inner.Faults.{Gives};
-ghost use Rattle.bus_message.specs.Headers.{order_of, stated, header_of, fields_end, body_start, size, most};
+ghost use Rattle.bus_message.specs.Headers.{order_of, stated, header_of, fields_end, body_start, size, most_cut};
 ghost use Rattle.bus_message.specs.inner.Headers.{HasShortLengths};
 
 use crate::fault::{MessageFault, Refusal, refuse};
@@ -86,7 +86,7 @@ fn stated(bytes: &[u8], order: Order) -> Header
 pub(crate) fn read_header(bytes: &[u8]) -> Result<Header, Refusal>
     requires { length bytes.now ≡ 16 }
     ensures value { Gives result (header_of bytes.now) }
-    ensures small { IfOk result (λ header. size header ≤ most) }
+    ensures small { IfOk result (λ header. size header ≤ most_cut) }
 {
     let Some(order) = order_of(bytes[0]) else {
         return refuse(MessageFault::BadOrder, 0);

@@ -2,8 +2,8 @@
 
 ghost use Rattle.bus_message.specs.Laws.{CutIsFront, InAnyPieces, MalformedForGood, MessageIsCut, NoContinuation, OneCut, OneMessage, PrefixFree};
 
-/// However the bytes come in pieces, what is given is the messages at the front of all bytes, each once and in order, and
-/// the place where they are malformed.
+/// However the bytes come in pieces, what is given is the messages at the front of all bytes, each once and in order,
+/// and the place where they are malformed.
 pub fn in_any_pieces()
     ensures { InAnyPieces }
 {}

@@ -25,14 +25,14 @@ use Rattle.bus_names.proofs.TypesRead.{state, types_read}
 use Rattle.bus_names.proofs.TypesSound.{parse_sound, start_fits}
 
 -- a text is read to its end
-pub record Reads (l : ℕ) (s : Parser) (at : ℕ) (front : List ℕ) : Type 0 where
+pub record ReadsTypes (l : ℕ) (s : Parser) (at : ℕ) (front : List ℕ) : Type 0 where
   pub types : List Shape
   pub same : parse_from l s at front ≡ Ok types
 
 -- some text is read to its end
 pub record Ends (l : ℕ) (s : Parser) (at : ℕ) : Type 0 where
   pub more : List ℕ
-  pub read : Reads l s at more
+  pub read : ReadsTypes l s at more
 
 goes_on : (l : ℕ) (s t : Parser) (at b : ℕ) → step l s b ≡ Ok t → Ends l t (at + 1) → Ends l s at
 goes_on l s t at b e h = record { more = b ∷ h.more; read = record { types = h.read.types; same = parse_from-ok l s at b h.more t e ∙ h.read.same } }
@@ -156,7 +156,7 @@ below : (n m : ℕ) → n < m → ltb n m ≡ true
 below n m h = grind (arith, nat_tests)
 
 -- a letter that is refused
-here : (l : ℕ) (s : Parser) (at b : ℕ) (bs : List ℕ) (r : Refusal) → step l s b ≡ Err r → IsFault (Reads l s at) (b ∷ bs) 0
+here : (l : ℕ) (s : Parser) (at b : ℕ) (bs : List ℕ) (r : Refusal) → step l s b ≡ Err r → IsFault (ReadsTypes l s at) (b ∷ bs) 0
 here l s at b bs r e =
     let h = can_end l s.done s.frames s.turn at in
     record {
@@ -166,35 +166,35 @@ here l s at b bs r e =
       refused = λ x. let y : parse_from l s at (b ∷ bs) ≡ Err (refused_at r at) = parse_from-err l s at b bs r e in let z = x.same in cc;
     }
 
-moves : (l : ℕ) (s t : Parser) (at b : ℕ) (bs : List ℕ) → step l s b ≡ Ok t → Reads l t (at + 1) bs → Reads l s at (b ∷ bs)
+moves : (l : ℕ) (s t : Parser) (at b : ℕ) (bs : List ℕ) → step l s b ≡ Ok t → ReadsTypes l t (at + 1) bs → ReadsTypes l s at (b ∷ bs)
 moves l s t at b bs e r = record { types = r.types; same = parse_from-ok l s at b bs t e ∙ r.same }
 
-back : (l : ℕ) (s t : Parser) (at b : ℕ) (bs : List ℕ) → step l s b ≡ Ok t → Reads l s at (b ∷ bs) → Reads l t (at + 1) bs
+back : (l : ℕ) (s t : Parser) (at b : ℕ) (bs : List ℕ) → step l s b ≡ Ok t → ReadsTypes l s at (b ∷ bs) → ReadsTypes l t (at + 1) bs
 back l s t at b bs e r = record { types = r.types; same = sym (parse_from-ok l s at b bs t e) ∙ r.same }
 
-later : (l : ℕ) (s t : Parser) (at b : ℕ) (bs : List ℕ) (k : ℕ) → step l s b ≡ Ok t → IsFault (Reads l t (at + 1)) bs k → IsFault (Reads l s at) (b ∷ bs) (suc k)
+later : (l : ℕ) (s t : Parser) (at b : ℕ) (bs : List ℕ) (k : ℕ) → step l s b ≡ Ok t → IsFault (ReadsTypes l t (at + 1)) bs k → IsFault (ReadsTypes l s at) (b ∷ bs) (suc k)
 later l s t at b bs k e h = record {
   within = let w = h.within in omega arith;
   begun = (h.begun.0, moves l s t at b _ e h.begun.1);
   stopped = λ i more r.
       let less : k < length bs = omega arith in
       let same : suc k + 1 ≡ suc (k + 1) = omega arith in
-      h.stopped less more (back l s t at b _ e (subst (λ (n : ℕ). Reads l s at (take n (b ∷ bs) ++ more)) same r));
+      h.stopped less more (back l s t at b _ e (subst (λ (n : ℕ). ReadsTypes l s at (take n (b ∷ bs) ++ more)) same r));
   refused = λ r. h.refused (back l s t at b bs e r);
 }
 
 -- a fault under each limit from l on
 abbrev pub BadAt : ℕ → Parser → ℕ → List ℕ → ℕ → Type 0
-BadAt l s at front k = (m : ℕ) → l ≤ m → IsFault (Reads m s at) front k
+BadAt l s at front k = (m : ℕ) → l ≤ m → IsFault (ReadsTypes m s at) front k
 
 -- an opening too many
 pub record DeepAt (l : ℕ) (s : Parser) (at : ℕ) (front : List ℕ) (k : ℕ) : Type 0 where
   pub letter : k < length front
-  pub fault : IsFault (Reads l s at) front k
+  pub fault : IsFault (ReadsTypes l s at) front k
   pub limit : ℕ
   pub above : l ≤ limit
   pub more : List ℕ
-  pub read : Reads limit s at (take (k + 1) front ++ more)
+  pub read : ReadsTypes limit s at (take (k + 1) front ++ more)
 
 abbrev pub Explained : ℕ → Parser → ℕ → List ℕ → NameFault → Type 0
 Explained l s at front f = (k : ℕ) × (((f ≡ BadSignature (at + k)) × BadAt l s at front k) ⊎ ((f ≡ TooDeep (at + k)) × DeepAt l s at front k))
@@ -255,7 +255,7 @@ continues l s t at b bs f e h = by h.1
               limit = d.limit;
               above = d.above;
               more = d.more;
-              read = subst (λ (n : ℕ). Reads d.limit s at (take n (b ∷ bs) ++ d.more)) (sym one) (moves d.limit s t at b _ up d.read);
+              read = subst (λ (n : ℕ). ReadsTypes d.limit s at (take n (b ∷ bs) ++ d.more)) (sym one) (moves d.limit s t at b _ up d.read);
             },
           ),
         )
@@ -269,22 +269,22 @@ explained l (b ∷ bs) s at f e = by (λ t. explained l bs t (at + 1) f) (step l
     by again (Err r) k = refuses l s at b bs f r k (let x : parse_from l s at (b ∷ bs) ≡ Err (refused_at r at) = parse_from-err l s at b bs r k in cc)
 
 -- what is read is a signature, and what is a signature is read
-is_signature : (l : ℕ) (t : List ℕ) → Reads l start 0 t → IsSignature l t
+is_signature : (l : ℕ) (t : List ℕ) → ReadsTypes l start 0 t → IsSignature l t
 is_signature l t r = let h = parse_sound l t start 0 r.types r.same in record { types = r.types; nested = h.nested (start_fits l); spelled = h.same }
 
-signature_reads : (l : ℕ) (t : List ℕ) → IsSignature l t → Reads l start 0 t
+signature_reads : (l : ℕ) (t : List ℕ) → IsSignature l t → ReadsTypes l start 0 t
 signature_reads l t h = record { types = h.types; same = ap (λ (x : List ℕ). parse_from l start 0 x) h.spelled ∙ types_read h.types l h.nested.in_arrays h.nested.in_structs 0 }
 
-is_unlimited : (l : ℕ) (t : List ℕ) → Reads l start 0 t → IsUnlimited t
+is_unlimited : (l : ℕ) (t : List ℕ) → ReadsTypes l start 0 t → IsUnlimited t
 is_unlimited l t r = let h = is_signature l t r in record { types = h.types; spelled = h.spelled }
 
-unlimited_reads : (t : List ℕ) → IsUnlimited t → (m : ℕ) × (32 ≤ m) × Reads m start 0 t
+unlimited_reads : (t : List ℕ) → IsUnlimited t → (m : ℕ) × (32 ≤ m) × ReadsTypes m start 0 t
 unlimited_reads t h =
     let m : ℕ = 32 + arrays_all h.types + structs_all h.types in
     (m, omega arith, signature_reads m t (record { types = h.types; nested = record { in_arrays = omega arith; in_structs = omega arith }; spelled = h.spelled }))
 
 -- where no continuation is read, none is a signature
-signature_fault : (text : List ℕ) (k : ℕ) → IsFault (Reads 32 start 0) text k → IsFault (IsSignature 32) text k
+signature_fault : (text : List ℕ) (k : ℕ) → IsFault (ReadsTypes 32 start 0) text k → IsFault (IsSignature 32) text k
 signature_fault text k f = record {
   within = f.within;
   begun = (f.begun.0, is_signature 32 _ f.begun.1);
@@ -294,7 +294,7 @@ signature_fault text k f = record {
 
 bad_law : (text : List ℕ) (k : ℕ) → BadAt 32 start 0 text k → IsBad text k
 bad_law text k h =
-    let f : IsFault (Reads 32 start 0) text k = h 32 (omega arith) in
+    let f : IsFault (ReadsTypes 32 start 0) text k = h 32 (omega arith) in
     record {
       fault = signature_fault text k f;
       whatever_depth = record {

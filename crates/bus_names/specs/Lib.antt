@@ -3,7 +3,6 @@ pub mod Grammar
 pub mod Reading
 pub mod Unescape
 pub mod Types
-pub mod Nodes
 pub mod Letters
 pub mod Frames
 pub mod Parsing

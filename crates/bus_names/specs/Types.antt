@@ -99,16 +99,3 @@ arrays_all (t ∷ ts) = max (arrays t) (arrays_all ts)
 abbrev pub structs_all : List Shape → ℕ
 structs_all [] = 0
 structs_all (t ∷ ts) = max (structs t) (structs_all ts)
-
-abbrev mutual
-  -- how many parts a type has
-  pub parts : Shape → ℕ
-  parts (basic b) = 1
-  parts variant = 1
-  parts (array t) = parts t + 1
-  parts (dict b t) = parts t + 1
-  parts (struct t ts) = parts t + parts_in ts + 1
-
-  pub parts_in : Shapes → ℕ
-  parts_in none = 0
-  parts_in (more t ts) = parts t + parts_in ts

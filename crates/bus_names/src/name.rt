@@ -173,8 +173,8 @@ impl Eq for ObjectPath {
 }
 
 impl Interface {
-    /// The text as the name of an interface or of an error; else `BadName` at the first byte with which no continuation is one, or at
-    /// the length.
+    /// The text as the name of an interface or of an error; else `BadName` at the first byte with which no continuation
+    /// is one, or at the length.
     pub fn read(alloc: Global, text: &[u8]) -> Result<Interface, NameFault>
         ensures value { Gives result text.now (interface_fault text.now) }
         ensures law { Explains IsInterface text.now (interface_fault text.now) }

@@ -43,14 +43,15 @@ pub enum Kind<'a> {
 }
 
 impl Model for Type {
-    ghost use Rattle.bus_names.specs.Types.{Shape, parts};
+    ghost use Rattle.bus_names.specs.Types.{Shape};
+    ghost use Rattle.bus_names.specs.inner.Parts.{parts};
     ghost use Rattle.bus_names.specs.inner.ShapeCode.{shape_code};
 
     ghost Value = { Shape };
 
     ghost coded = { shape_code };
 
-    ghost use Rattle.bus_names.specs.Nodes.{shape_of, HasField};
+    ghost use Rattle.bus_names.specs.inner.Nodes.{shape_of, HasField};
 
     ghost view = { λ a. shape_of a.node };
 

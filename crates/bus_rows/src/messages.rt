@@ -1,4 +1,5 @@
-// What no clause can show: that the calls succeed where there is memory, and what they answer to bytes of other programs.
+// What no clause can show: that the calls succeed where there is memory, and what they answer to bytes of other
+// programs.
 
 ghost use Rattle.std.specs.Prelude.{◌≡◌, [], None, Some};
 
@@ -44,7 +45,8 @@ fn shows(
     Ok(cut.messages.is_empty() && cut.malformed == wanted)
 }
 
-/// Whether the malformed message behind a whole one is shown with its byte of this number, counted from 1, and from then on.
+/// Whether the malformed message behind a whole one is shown with its byte of this number, counted from 1, and from
+/// then on.
 fn is_shown(alloc: Global, row: &Row, last: usize) -> Result<bool, NoMemory> {
     let mut cutter = Cutter::new(alloc);
     if cutter.feed(alloc, GET_SESSION)?.messages.len() != 1 {
@@ -232,8 +234,8 @@ fn are_in_one_piece(alloc: Global, all: &[Sent]) -> Result<bool, NoMemory> {
     Ok(cut.malformed.is_none() && are_sent(alloc, cut.messages.as_slice(), all)?)
 }
 
-/// Whether each is accepted, as a whole, in two pieces and byte by byte, and its fields are read apart; and whether all are
-/// accepted in one piece.
+/// Whether each is accepted, as a whole, in two pieces and byte by byte, and its fields are read apart; and whether all
+/// are accepted in one piece.
 fn are_accepted(alloc: Global, messages: &[Sent]) -> Result<bool, NoMemory> {
     for sent in messages {
         let ends = [sent.bytes.len()];
@@ -312,7 +314,8 @@ fn two_calls_in_any_pieces(rt: HostRuntime) -> Result<(), NoMemory> {
     Ok(())
 }
 
-/// A message of a front, the length of a text, and the text; behind its first four bytes stands a length that is so much more.
+/// A message of a front, the length of a text, and the text; behind its first four bytes stands a length that is so
+/// much more.
 fn with_text(
     alloc: Global,
     front: &[u8],

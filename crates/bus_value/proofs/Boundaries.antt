@@ -6,9 +6,9 @@ use Rattle.bus_value.specs.declared.values.Spelled.{Spelled}
 use Rattle.bus_value.specs.declared.values.Held.TheVariants.{Read}
 use Rattle.bus_value.specs.Alignment.{alignment, boundary, IsAlignment}
 use Rattle.bus_value.specs.BasicValues.{kind_of}
-use Rattle.bus_value.specs.Held.{read_in, values_in, IsHeld}
+use Rattle.bus_value.specs.inner.Held.{read_in, values_in, IsHeld}
 use Rattle.bus_value.specs.Numbers.{number_bytes}
-use Rattle.bus_value.specs.Spelling.{pad_size, padding, basic_bytes, basic_spelling, behind_length, first_element, array_bytes, signature_bytes, key_at, value_at, pair_bytes, spelling, spellings, entry_spellings}
+use Rattle.bus_value.specs.Spelling.{pad_size, padding, basic_bytes, basic_spelling, behind_length, first_element, array_bytes, signature_bytes, next_boundary, value_at, pair_bytes, spelling, spellings, entry_spellings}
 use Rattle.bus_value.specs.Values.{Val, Vals, Entries, basic, array, struct, dict, variant, none, more, no_entries, entry, shape, vals}
 use Rattle.bus_value.proofs.BasicRules.{at_4, at_8, alignment_valid, boundary_valid}
 use Rattle.bus_value.proofs.HeldLaws.{held_sound}
@@ -45,13 +45,13 @@ same_array o at bt align xs ys valid h e =
 value_place : (o : Order) (at bt : ℕ) (a : BasicValue) → at % 8 ≡ bt % 8 → value_at o at a % 8 ≡ value_at o bt a % 8
 value_place o at bt a h =
     let key = padded at bt 8 at_8 h in
-    ap (λ (xs : List ℕ). (key_at at + length xs) % 8) (same_basic o (key_at at) (key_at bt) a key)
-    ∙ moved (length (basic_spelling o (key_at bt) a)) (key_at at) (key_at bt) key
+    ap (λ (xs : List ℕ). (next_boundary at + length xs) % 8) (same_basic o (next_boundary at) (next_boundary bt) a key)
+    ∙ moved (length (basic_spelling o (next_boundary bt) a)) (next_boundary at) (next_boundary bt) key
 
 same_pair : (o : Order) (at bt : ℕ) (a : BasicValue) (xs ys : List ℕ) → at % 8 ≡ bt % 8 → xs ≡ ys → pair_bytes o at a xs ≡ pair_bytes o bt a ys
 same_pair o at bt a xs ys h e =
-    ap (λ (n : ℕ). replicate n 0 ++ (basic_spelling o (key_at at) a ++ xs)) (same_pad at bt 8 at_8 h)
-    ∙ ap (λ (zs : List ℕ). padding bt 8 ++ (zs ++ xs)) (same_basic o (key_at at) (key_at bt) a (padded at bt 8 at_8 h))
+    ap (λ (n : ℕ). replicate n 0 ++ (basic_spelling o (next_boundary at) a ++ xs)) (same_pad at bt 8 at_8 h)
+    ∙ ap (λ (zs : List ℕ). padding bt 8 ++ (zs ++ xs)) (same_basic o (next_boundary at) (next_boundary bt) a (padded at bt 8 at_8 h))
     ∙ ap (λ (zs : List ℕ). pair_bytes o bt a zs) e
 
 mutual

@@ -7,7 +7,7 @@ use Rattle.bus_value.specs.declared.fault.ValueFault.{ValueFault}
 use Rattle.bus_value.specs.declared.order.Order.{Order}
 use Rattle.bus_value.specs.declared.values.Spelled.{Spelled}
 use Rattle.bus_value.specs.Faults.{and_then}
-use Rattle.bus_value.specs.Held.{read_in, values_in}
+use Rattle.bus_value.specs.inner.Held.{read_in, values_in}
 use Rattle.bus_value.specs.inner.Nesting.{nesting_all}
 use Rattle.bus_value.specs.Reading.{Answer, Reading, made, in_turn, read, levels, read_all}
 use Rattle.bus_value.specs.Values.{Val}

@@ -8,7 +8,7 @@ use Rattle.bus_value.specs.declared.fault.ValueFault.{ValueFault}
 use Rattle.bus_value.specs.Values.{Val, vals, shapes}
 use Rattle.bus_value.specs.declared.order.Order.{Order}
 use Rattle.bus_value.specs.Reading.{read_all}
-use Rattle.bus_value.specs.Held.{read_in, values_in, held_in, are_bytes, IsHeld}
+use Rattle.bus_value.specs.inner.Held.{read_in, values_in, held_in, are_bytes, IsHeld}
 use Rattle.bus_value.specs.declared.values.Held.{Held}
 use Rattle.bus_value.specs.declared.values.Held.TheVariants.{Read}
 use Rattle.bus_value.specs.declared.values.Spelled.{Spelled}

@@ -9,7 +9,7 @@ use Rattle.bus_value.specs.declared.order.Order.{Order}
 use Rattle.bus_value.specs.BasicValues.{kind_of}
 use Rattle.bus_value.specs.Values.{Val, Vals, Entries, basic, array, struct, dict, variant, none, more, no_entries, entry, shape, vals}
 use Rattle.bus_value.specs.Numbers.{number_bytes}
-use Rattle.bus_value.specs.Spelling.{pad_size, padding, signature_bytes, basic_bytes, basic_spelling, behind_length, first_element, array_bytes, key_at, value_at, pair_bytes, spelling, spellings, entry_spellings}
+use Rattle.bus_value.specs.Spelling.{pad_size, padding, signature_bytes, basic_bytes, basic_spelling, behind_length, first_element, array_bytes, next_boundary, value_at, pair_bytes, spelling, spellings, entry_spellings}
 use Rattle.bus_value.specs.Alignment.{alignment, boundary}
 use Rattle.bus_value.specs.Lengths.{basic_size, basic_end, value_end, values_end, entries_end}
 use Rattle.bus_value.proofs.NumberLaws.{width_2, width_4, width_8}
@@ -80,7 +80,7 @@ mutual
   entries_ends : (es : Entries) (o : Order) (at : ℕ) → at + length (entry_spellings o at es) ≡ entries_end at es
   entries_ends no_entries o at = omega arith
   entries_ends (entry a v es) o at =
-      let key : List ℕ = basic_spelling o (key_at at) a in
+      let key : List ℕ = basic_spelling o (next_boundary at) a in
       let inner : List ℕ = spelling o (value_at o at a) v in
       let one : List ℕ = pair_bytes o at a inner in
       let next : ℕ = at + length one in
@@ -92,7 +92,7 @@ mutual
       let here : next ≡ value_end (value_at o at a) v = omega (arith, p, l1, l2, i) in
       let k : next + length (entry_spellings o next es) ≡ entries_end next es = entries_ends es o next in
       let whole : at + length (one ++ entry_spellings o next es) ≡ entries_end next es = omega (arith, l3, k) in
-      whole ∙ ap (λ (m : ℕ). entries_end m es) (here ∙ ap (λ (m : ℕ). value_end m v) (basic_ends o (key_at at) a))
+      whole ∙ ap (λ (m : ℕ). entries_end m es) (here ∙ ap (λ (m : ℕ). value_end m v) (basic_ends o (next_boundary at) a))
 
 -- the bytes end where their values do
 pub spelled_length : (o : Order) (start : ℕ) (vs : List Val) (bytes : List ℕ) → bytes ≡ spellings o start (vals vs) → start + length bytes ≡ values_end start (vals vs)

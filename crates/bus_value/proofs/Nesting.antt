@@ -4,11 +4,12 @@ use Rattle.std.specs.Prelude.{nat_le}
 use Rattle.std.proofs.lemmas.Bool.Decides.{nat_tests}
 use Rattle.std.proofs.lemmas.List.{take_all}
 use Rattle.bus_names.specs.Signatures.{IsWithin}
-use Rattle.bus_names.specs.Types.{Shape, Shapes, basic, variant, array, dict, struct, none, more, struct_of, fields_of, parts, parts_in, arrays, arrays_in, arrays_all, structs, structs_in, structs_all}
+use Rattle.bus_names.specs.Types.{Shape, Shapes, basic, variant, array, dict, struct, none, more, struct_of, fields_of, arrays, arrays_in, arrays_all, structs, structs_in, structs_all}
+use Rattle.bus_names.specs.inner.Parts.{parts, parts_in}
 use Rattle.bus_value.specs.Nesting.{nesting, nesting_in}
 use Rattle.bus_value.specs.inner.Nesting.{nesting_all}
 use Rattle.bus_value.specs.Reading.{variant_type}
-use Rattle.bus_value.specs.inner.Reading.{is_variant_type}
+use Rattle.bus_value.specs.inner.VariantTypes.{is_variant_type}
 use Rattle.bus_value.specs.declared.fault.ValueFault.TheVariants.{BadVariant}
 use Rattle.bus_value.specs.Faults.{reported}
 

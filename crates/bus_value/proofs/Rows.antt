@@ -11,7 +11,7 @@ use Rattle.bus_value.specs.declared.order.Order.{Order}
 use Rattle.bus_value.specs.declared.order.Order.TheVariants.{Little, Big}
 use Rattle.bus_value.specs.Values.{Val, vals, entries, array, dict, parts, parts_in, parts_of}
 use Rattle.bus_value.specs.Numbers.{number_bytes}
-use Rattle.bus_value.specs.Spelling.{pad_size, padding, array_bytes, first_element, behind_length, basic_spelling, spelling, spellings, entry_spellings, pair_bytes, value_at, key_at}
+use Rattle.bus_value.specs.Spelling.{pad_size, padding, array_bytes, first_element, behind_length, basic_spelling, spelling, spellings, entry_spellings, pair_bytes, value_at, next_boundary}
 use Rattle.bus_value.specs.inner.Spelling.{array_front}
 use Rattle.bus_value.specs.Alignment.{boundary}
 use Rattle.bus_value.specs.Limits.{Fits, AllFit, EntriesFit, HasShortLength}
@@ -153,9 +153,9 @@ entry_fits o start at first now n shown item place so less is f =
 pub value_place : (o : Order) (start : ℕ) (now padded keyed : List ℕ) (key : BasicValue) → padded ≡ now ++ padding (start + length now) 8 → keyed ≡ padded ++ basic_spelling o (start + length padded) key →
     start + length keyed ≡ value_at o (start + length now) key
 value_place o start now padded keyed key a b =
-    let place : start + length padded ≡ key_at (start + length now) = behind_padding start (start + length now) 8 now padded refl a in
-    let c : keyed ≡ padded ++ basic_spelling o (key_at (start + length now)) key = b ∙ ap (λ (m : ℕ). padded ++ basic_spelling o m key) place in
-    let long : length keyed ≡ length padded + length (basic_spelling o (key_at (start + length now)) key) = ap length c ∙ length-append padded _ in
+    let place : start + length padded ≡ next_boundary (start + length now) = behind_padding start (start + length now) 8 now padded refl a in
+    let c : keyed ≡ padded ++ basic_spelling o (next_boundary (start + length now)) key = b ∙ ap (λ (m : ℕ). padded ++ basic_spelling o m key) place in
+    let long : length keyed ≡ length padded + length (basic_spelling o (next_boundary (start + length now)) key) = ap length c ∙ length-append padded _ in
     omega (arith, place, long)
 
 pub entry_pushed : (o : Order) (start : ℕ) (first now padded keyed after : List ℕ) (n : ℕ) (shown : List (BasicValue × Val)) (item : BasicValue × Val) →
@@ -166,9 +166,9 @@ entry_pushed o start first now padded keyed after n shown item so less is a b c 
     let at : ℕ = start + length first in
     let q : ℕ = start + length now in
     let s : List ℕ = entry_spellings o at (entries (take n shown)) in
-    let place : start + length padded ≡ key_at q = behind_padding start q 8 now padded refl a in
+    let place : start + length padded ≡ next_boundary q = behind_padding start q 8 now padded refl a in
     let value : start + length keyed ≡ value_at o q item.0 = value_place o start now padded keyed item.0 a b in
-    let key : List ℕ = basic_spelling o (key_at q) item.0 in
+    let key : List ℕ = basic_spelling o (next_boundary q) item.0 in
     let inner : List ℕ = spelling o (value_at o q item.0) item.1 in
     let keyed_is : keyed ≡ now ++ (padding q 8 ++ key) = b ∙ ap (λ (m : ℕ). padded ++ basic_spelling o m item.0) place ∙ ap (λ (x : List ℕ). x ++ key) a ∙ append_assoc now (padding q 8) key in
     let one : take (n + 1) shown ≡ take n shown ++ item ∷ [] = rw (add-one n, take-suc shown n item less) (ap (λ (w : BasicValue × Val). take n shown ++ w ∷ []) (sym is)) in

@@ -14,7 +14,7 @@ use Rattle.bus_value.specs.Values as values
 use Rattle.bus_value.specs.Alignment.{alignment, boundary}
 use Rattle.bus_value.specs.Nesting.{nesting}
 use Rattle.bus_value.specs.Numbers.{number_bytes}
-use Rattle.bus_value.specs.Spelling.{pad_size, padding, signature_bytes, basic_spelling, behind_length, first_element, array_bytes, key_at, value_at, pair_bytes, spelling, spellings, entry_spellings}
+use Rattle.bus_value.specs.Spelling.{pad_size, padding, signature_bytes, basic_spelling, behind_length, first_element, array_bytes, next_boundary, value_at, pair_bytes, spelling, spellings, entry_spellings}
 use Rattle.bus_value.specs.Grammar.{IsPadding, IsBasic, IsSpelled, AreSpelled, Spells, basic, array, struct, dict, variant, none, more, pair_type, pairs}
 use Rattle.bus_value.proofs.BasicRules.{padding_size, padding_is, at_4, at_8, alignment_valid, boundary_valid, basic_is}
 use Rattle.bus_value.proofs.Typing.{HasType, AllHave, EachHas, EntriesHave, IsComputed}
@@ -31,7 +31,7 @@ all_of_each (values.more v vs) (suc n) o d at t e h =
 
 -- a dict entry is spelled as a struct
 pub pair_spelled_so : (o : Order) (at : ℕ) (a : BasicValue) (v : Val) → spelling o at (values.struct (values.more (values.basic a) (values.more v values.none))) ≡ pair_bytes o at a (spelling o (value_at o at a) v)
-pair_spelled_so o at a v = ap (λ (x : List ℕ). padding at 8 ++ (basic_spelling o (key_at at) a ++ x)) (append-nil (spelling o (value_at o at a) v))
+pair_spelled_so o at a v = ap (λ (x : List ℕ). padding at 8 ++ (basic_spelling o (next_boundary at) a ++ x)) (append-nil (spelling o (value_at o at a) v))
 
 pub pairs_spelled : (es : Entries) (o : Order) (at : ℕ) → spellings o at (pairs es) ≡ entry_spellings o at es
 pairs_spelled values.no_entries o at = refl

@@ -11,7 +11,7 @@ use Rattle.bus_value.specs.BasicValues.{kind_of}
 use Rattle.bus_value.specs.Values.{Val, Vals, Entries, shape, shapes, vals, count}
 use Rattle.bus_value.specs.Values as values
 use Rattle.bus_value.specs.Alignment.{alignment, boundary}
-use Rattle.bus_value.specs.Spelling.{pad_size, padding, signature_bytes, basic_spelling, behind_length, first_element, array_bytes, key_at, value_at, pair_bytes, spelling, spellings, entry_spellings}
+use Rattle.bus_value.specs.Spelling.{pad_size, padding, signature_bytes, basic_spelling, behind_length, first_element, array_bytes, next_boundary, value_at, pair_bytes, spelling, spellings, entry_spellings}
 use Rattle.bus_value.specs.Grammar.{IsPadding, IsSpelled, AreSpelled, Spells, basic, array, struct, dict, variant, none, more, pair_type, pairs}
 use Rattle.bus_value.proofs.BasicRules.{is_padding, at_4, at_8, alignment_valid, boundary_valid, is_basic}
 use Rattle.bus_value.proofs.Typing.{IsLegal, HasType, AllHave, EachHas, EntriesHave, IsComputed}
@@ -46,9 +46,9 @@ pair_holds o d at b t a v inner key legal h =
     let value : AreSpelled o (d + 1 + 1) (value_at o at a) (t ∷ []) (values.more v values.none) inner =
     subst (λ (x : List ℕ). AreSpelled o (d + 1 + 1) (value_at o at a) (t ∷ []) (values.more v values.none) x) (append-nil inner) (more (subst (λ (m : ℕ). IsSpelled o m (value_at o at a) t v inner) two h) none) in
     let kind : types.basic (kind_of a) ≡ types.basic b = ap (λ (c : Basic). types.basic c) (sym key) in
-    let named : IsSpelled o (d + 1 + 1) (key_at at) (types.basic b) (values.basic a) (basic_spelling o (key_at at) a) =
-    subst (λ (u : Shape). IsSpelled o (d + 1 + 1) (key_at at) u (values.basic a) (basic_spelling o (key_at at) a)) kind (basic_holds o (d + 1 + 1) (key_at at) a legal) in
-    struct_holds o (d + 1) at (types.basic b ∷ t ∷ []) (values.more (values.basic a) (values.more v values.none)) (basic_spelling o (key_at at) a ++ inner) (omega arith) (more named value)
+    let named : IsSpelled o (d + 1 + 1) (next_boundary at) (types.basic b) (values.basic a) (basic_spelling o (next_boundary at) a) =
+    subst (λ (u : Shape). IsSpelled o (d + 1 + 1) (next_boundary at) u (values.basic a) (basic_spelling o (next_boundary at) a)) kind (basic_holds o (d + 1 + 1) (next_boundary at) a legal) in
+    struct_holds o (d + 1) at (types.basic b ∷ t ∷ []) (values.more (values.basic a) (values.more v values.none)) (basic_spelling o (next_boundary at) a ++ inner) (omega arith) (more named value)
 
 mutual
   pub value_holds : (v : Val) (o : Order) (d at : ℕ) (t : Shape) → HasType o d at t v → IsSpelled o d at t v (spelling o at v)

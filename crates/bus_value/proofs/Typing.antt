@@ -33,8 +33,8 @@ IsLegal (Sig ts) = IsWithin ts
 IsLegal (Handle n) = n < 2 ^ 32
 
 abbrev mutual
-  -- The value has the type, where it stands at an offset in so many containers. An array has up to 2^26 bytes of elements;
-  -- a variant's signature is one of the format, and up to 64 containers are open in it.
+  -- The value has the type, where it stands at an offset in so many containers. An array has up to 2^26 bytes of
+  -- elements; a variant's signature is one of the format, and up to 64 containers are open in it.
   pub HasType : Order → ℕ → ℕ → Shape → Val → Type 0
   HasType o depth at t (basic a) = (t ≡ types.basic (kind_of a)) × IsLegal a
   HasType o depth at t (array u vs) =

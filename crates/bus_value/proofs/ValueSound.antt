@@ -15,7 +15,7 @@ use Rattle.bus_value.specs.declared.order.Order.{Order}
 use Rattle.bus_value.specs.BasicValues.{kind_of}
 use Rattle.bus_value.specs.Values.{Val, basic, array, struct, dict, variant, shape, shapes, vals, entries}
 use Rattle.bus_value.specs.Numbers.{number_bytes, number}
-use Rattle.bus_value.specs.Spelling.{pad_size, padding, signature_bytes, basic_spelling, first_element, array_bytes, key_at, value_at, pair_bytes, spelling, spellings, entry_spellings}
+use Rattle.bus_value.specs.Spelling.{pad_size, padding, signature_bytes, basic_spelling, first_element, array_bytes, next_boundary, value_at, pair_bytes, spelling, spellings, entry_spellings}
 use Rattle.bus_value.specs.Alignment.{boundary}
 use Rattle.bus_value.specs.BasicReading.{body_size, types_in}
 use Rattle.bus_value.specs.Reading.{Reading, Answer, made, padded, read_basic, read_variant, read_array, read_elements, read_pair, element_bytes, read, read_entry, all_of, to_end, in_turn, variant_type, levels, ended, read_all}
@@ -255,14 +255,14 @@ pair_sound o around d b t f s at bytes p at2 rest h e =
     let g : Reading (BasicValue × Val) = λ at bytes. and_then (read_basic o around b at bytes) (λ k. made (λ v. (k.0, v)) (f k.1.0 k.1.1)) in
     let z = padded_sound around 8 at bytes g (p, (at2, rest)) e in
     let left : List ℕ = drop (pad_size at 8) bytes in
-    let q = and_then_ends (read_basic o around b (key_at at) left) (λ k. made (λ v. (k.0, v)) (f k.1.0 k.1.1)) (p, (at2, rest)) z.1 in
+    let q = and_then_ends (read_basic o around b (next_boundary at) left) (λ k. made (λ v. (k.0, v)) (f k.1.0 k.1.1)) (p, (at2, rest)) z.1 in
     let a : BasicValue = q.0.0 in
     let mid : ℕ = q.0.1.0 in
     let behind_key : List ℕ = q.0.1.1 in
-    let k : BasicFound o b (key_at at) left a mid behind_key = basic_sound o around b (key_at at) left a mid behind_key (bytes_drop (pad_size at 8) bytes h) q.1.0 in
+    let k : BasicFound o b (next_boundary at) left a mid behind_key = basic_sound o around b (next_boundary at) left a mid behind_key (bytes_drop (pad_size at 8) bytes h) q.1.0 in
     let w = made_ends (λ v. (a, v)) (f mid behind_key) p at2 rest q.1.1 in
     let v : Val = w.0 in
-    let key : List ℕ = basic_spelling o (key_at at) a in
+    let key : List ℕ = basic_spelling o (next_boundary at) a in
     let found : Found o d mid t behind_key v at2 rest = s mid behind_key v at2 rest (bytes_behind key behind_key left k.same (bytes_drop (pad_size at 8) bytes h)) w.1.0 in
     let here : Found o d (value_at o at a) t behind_key v at2 rest = subst (λ (m : ℕ). Found o d m t behind_key v at2 rest) k.behind found in
     let inner : List ℕ = spelling o (value_at o at a) v in

@@ -19,7 +19,7 @@ use Rattle.bus_value.specs.declared.order.Order.TheVariants.{Little, Big}
 use Rattle.bus_value.specs.BasicValues.{kind_of}
 use Rattle.bus_value.specs.Values.{Val, Vals, Entries, basic, array, struct, dict, variant, none, more, no_entries, entry, shape, shapes, vals, entries}
 use Rattle.bus_value.specs.Numbers.{number_bytes, number}
-use Rattle.bus_value.specs.Spelling.{pad_size, padding, signature_bytes, basic_bytes, basic_spelling, behind_length, first_element, array_bytes, key_at, value_at, pair_bytes, spelling, spellings, entry_spellings}
+use Rattle.bus_value.specs.Spelling.{pad_size, padding, signature_bytes, basic_bytes, basic_spelling, behind_length, first_element, array_bytes, next_boundary, value_at, pair_bytes, spelling, spellings, entry_spellings}
 use Rattle.bus_value.specs.Alignment.{alignment, boundary}
 use Rattle.bus_value.specs.BasicReading.{body_size, types_in}
 use Rattle.bus_value.specs.Reading.{Reading, Answer, made, padded, read_basic, read_variant, read_array, read_elements, read_pair, element_bytes, read, read_entry, all_of, to_end, in_turn, variant_type, levels, ended, read_all}
@@ -202,16 +202,16 @@ variant_spelled o around d at f t v inner rest within deep e =
 pub pair_some : (o : Order) (at : ℕ) (a : BasicValue) (value : List ℕ) → IsLegal a → 0 < length (pair_bytes o at a value)
 pair_some o at a value h =
     let k = basic_some o a h in
-    let key : List ℕ = basic_spelling o (key_at at) a in
+    let key : List ℕ = basic_spelling o (next_boundary at) a in
     let l1 = length-append (padding at 8) (key ++ value) in
     let l2 = length-append key value in
-    let l3 = length-append (padding (key_at at) (alignment (kind_of a))) (basic_bytes o a) in omega (arith, k, l1, l2, l3)
+    let l3 = length-append (padding (next_boundary at) (alignment (kind_of a))) (basic_bytes o a) in omega (arith, k, l1, l2, l3)
 
 pair_spelled : (o : Order) (around : Option ℕ) (at : ℕ) (a : BasicValue) (v : Val) (inner rest : List ℕ) (f : Reading Val) → IsLegal a →
     f (value_at o at a) (inner ++ rest) ≡ Ok (v, (value_at o at a + length inner, rest)) → read_pair o around (kind_of a) f at (pair_bytes o at a inner ++ rest) ≡ Ok ((a, v), (at + length (pair_bytes o at a inner), rest))
 unfolding read_pair
 pair_spelled o around at a v inner rest f h e =
-    let key : List ℕ = basic_spelling o (key_at at) a in
+    let key : List ℕ = basic_spelling o (next_boundary at) a in
     let b : Basic = kind_of a in
     let g : Reading (BasicValue × Val) = λ at bytes. and_then (read_basic o around b at bytes) (λ k. made (λ v. (k.0, v)) (f k.1.0 k.1.1)) in
     let p : length (padding at 8) ≡ pad_size at 8 = length-replicate _ _ in
@@ -220,7 +220,7 @@ pair_spelled o around at a v inner rest f h e =
     let last : value_at o at a + length inner ≡ at + length (pair_bytes o at a inner) = omega (arith, p, l1, l2) in
     ap (λ (x : List ℕ). padded around 8 g at x) (append_assoc (padding at 8) (key ++ inner) rest ∙ ap (λ (x : List ℕ). padding at 8 ++ x) (append_assoc key inner rest))
     ∙ padded_spelled around 8 at (key ++ (inner ++ rest)) g
-    ∙ and_then_ok (read_basic o around b (key_at at) (key ++ (inner ++ rest))) (a, (value_at o at a, inner ++ rest)) (λ k. made (λ v. (k.0, v)) (f k.1.0 k.1.1)) (basic_spelled o around a (key_at at) (inner ++ rest) h)
+    ∙ and_then_ok (read_basic o around b (next_boundary at) (key ++ (inner ++ rest))) (a, (value_at o at a, inner ++ rest)) (λ k. made (λ v. (k.0, v)) (f k.1.0 k.1.1)) (basic_spelled o around a (next_boundary at) (inner ++ rest) h)
     ∙ ap (λ (r : Answer Val). made (λ v. (a, v)) r) e ∙ ap (λ (m : ℕ). Ok ((a, v), (m, rest))) last
 
 mutual

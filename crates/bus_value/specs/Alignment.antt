@@ -1,5 +1,5 @@
--- The boundaries of the format.
-use Rattle.std.specs.Prelude.{ℕ, ◌≡◌, ◌⊎◌}
+-- The boundaries of the format, and its limit on arrays.
+use Rattle.std.specs.Prelude.{ℕ, ◌≡◌, ◌^◌, ◌⊎◌}
 use Rattle.bus_names.specs.declared.basic.Basic.{Basic}
 use Rattle.bus_names.specs.declared.basic.Basic.TheVariants as kinds
 use Rattle.bus_names.specs.Types.{Shape}
@@ -27,6 +27,10 @@ boundary types.variant = 1
 boundary (types.array t) = 4
 boundary (types.dict b t) = 4
 boundary (types.struct t ts) = 8
+
+-- how many bytes the elements of an array have at most
+abbrev pub most_element_bytes : ℕ
+most_element_bytes = 2 ^ 26
 
 abbrev pub IsAlignment : ℕ → Type 0
 IsAlignment align = (align ≡ 1) ⊎ ((align ≡ 2) ⊎ ((align ≡ 4) ⊎ (align ≡ 8)))

@@ -1,5 +1,5 @@
--- Which bytes spell which values, by a rule for each type: the D-Bus Specification, "Marshaling (Wire Format)", with its
--- limits on lengths and depth.
+-- Which bytes spell which values, by a rule for each type: the D-Bus Specification, "Marshaling (Wire Format)", with
+-- its limits on lengths and depth.
 use Rattle.std.specs.Prelude.{ℕ, ◌≡◌, ◌≤◌, ◌<◌, ◌+◌, ◌%◌, ◌^◌, List, [], ◌∷◌, ◌++◌, length, replicate, true, FitsSigned, if◌then◌else◌}
 use Rattle.std.specs.Int.{w16, w32, w64, cast_unsigned}
 use Rattle.login_base.specs.Names.{IsPath}
@@ -13,7 +13,7 @@ use Rattle.bus_value.specs.declared.basic_value.BasicValue.TheVariants.{Byte, Bo
 use Rattle.bus_value.specs.declared.order.Order.{Order}
 use Rattle.bus_value.specs.Values.{Val, Vals, Entries, vals, count}
 use Rattle.bus_value.specs.Values as values
-use Rattle.bus_value.specs.Alignment.{alignment, boundary}
+use Rattle.bus_value.specs.Alignment.{alignment, boundary, most_element_bytes}
 use Rattle.bus_value.specs.Limits.{most_open}
 use Rattle.bus_value.specs.Nesting.{nesting}
 use Rattle.bus_value.specs.Numbers.{number_bytes}
@@ -55,14 +55,16 @@ pairs values.no_entries = values.none
 pairs (values.entry a v es) = values.more (values.struct (values.more (values.basic a) (values.more v values.none))) (pairs es)
 
 mutual
-  -- In an order of bytes and in so many open containers, the bytes, which stand from an offset on, spell a value of the type.
+  -- In an order of bytes and in so many open containers, the bytes, which stand from an offset on, spell a value of the
+  -- type.
   pub data IsSpelled (o : Order) : ℕ → ℕ → Shape → Val → List ℕ → Type 0 where
     -- A basic type: padding to its boundary, and the value.
     basic : {depth at : ℕ} {b : Basic} {a : BasicValue} {zeros body : List ℕ} → IsPadding at (alignment b) zeros → IsBasic o b a body →
         IsSpelled o depth at (types.basic b) (values.basic a) (zeros ++ body)
-    -- An array: padding to 4, a length, padding to the boundary of the elements' type, and the elements, all of this type.
-    -- The length is that of the elements alone, and at most 2^26.
-    array : {depth at : ℕ} {t : Shape} {vs : Vals} {zeros gap elements : List ℕ} → IsPadding at 4 zeros → IsPadding (at + length zeros + 4) (boundary t) gap → length elements ≤ 2 ^ 26 →
+    -- An array: padding to 4, a length, padding to the boundary of the elements' type, and the elements, all of this
+    -- type.
+    -- The length is that of the elements alone, and limited.
+    array : {depth at : ℕ} {t : Shape} {vs : Vals} {zeros gap elements : List ℕ} → IsPadding at 4 zeros → IsPadding (at + length zeros + 4) (boundary t) gap → length elements ≤ most_element_bytes →
         AreSpelled o (depth + 1) (at + length zeros + 4 + length gap) (replicate (count vs) t) vs elements →
         IsSpelled o depth at (types.array t) (values.array t vs) (zeros ++ (number_bytes o 4 (length elements) ++ (gap ++ elements)))
     -- A struct: padding to 8, and the fields.

@@ -5,7 +5,7 @@ use Rattle.bus_value.specs.declared.basic_value.BasicValue.{BasicValue}
 use Rattle.bus_value.specs.declared.basic_value.BasicValue.TheVariants.{Byte, Bool, I16, U16, I32, U32, I64, U64, Double, Str, Path, Sig, Handle}
 use Rattle.bus_value.specs.BasicValues.{kind_of}
 use Rattle.bus_value.specs.Values.{Val, Vals, Entries, basic, array, struct, dict, variant, none, more, no_entries, entry, shape}
-use Rattle.bus_value.specs.Spelling.{pad_size, first_element, key_at}
+use Rattle.bus_value.specs.Spelling.{pad_size, first_element, next_boundary}
 use Rattle.bus_value.specs.Alignment.{alignment, boundary}
 
 -- how many bytes a basic value has behind its padding
@@ -45,4 +45,4 @@ abbrev mutual
   -- the same of dict entries
   pub entries_end : ℕ → Entries → ℕ
   entries_end at no_entries = at
-  entries_end at (entry a v es) = entries_end (value_end (basic_end (key_at at) a) v) es
+  entries_end at (entry a v es) = entries_end (value_end (basic_end (next_boundary at) a) v) es

@@ -1,6 +1,5 @@
 pub mod BasicValues
 pub mod Values
-pub mod Nodes
 pub mod Kinds
 pub mod Spelling
 pub mod Alignment
@@ -10,7 +9,7 @@ pub mod Fields
 pub mod BasicReading
 pub mod Reading
 pub mod Answers
-pub mod Held
+pub mod Listed
 pub mod Nesting
 pub mod Numbers
 pub mod Grammar

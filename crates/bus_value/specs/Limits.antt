@@ -6,7 +6,7 @@ use Rattle.bus_value.specs.declared.basic_value.BasicValue.TheVariants.{Byte, Bo
 use Rattle.bus_value.specs.declared.order.Order.{Order}
 use Rattle.bus_value.specs.Values.{Val, Vals, Entries, basic, array, struct, dict, variant, none, more, no_entries, entry, shape}
 use Rattle.bus_value.specs.Spelling.{pad_size, first_element, spelling, spellings, entry_spellings, signature_bytes, pair_bytes, value_at}
-use Rattle.bus_value.specs.Alignment.{boundary}
+use Rattle.bus_value.specs.Alignment.{boundary, most_element_bytes}
 
 -- how many containers are open at most in a variant's value, the variant among them
 abbrev pub most_open : ℕ
@@ -40,9 +40,9 @@ abbrev mutual
   -- a value's texts, arrays and signatures are within the limits, where it stands at an offset
   pub Fits : Order → ℕ → Val → Type 0
   Fits o at (basic a) = HasShortLength a
-  Fits o at (array t vs) = (length (spellings o (first_element at (boundary t)) vs) ≤ 2 ^ 26) × AllFit o (first_element at (boundary t)) vs
+  Fits o at (array t vs) = (length (spellings o (first_element at (boundary t)) vs) ≤ most_element_bytes) × AllFit o (first_element at (boundary t)) vs
   Fits o at (struct vs) = AllFit o (at + pad_size at 8) vs
-  Fits o at (dict b t es) = (length (entry_spellings o (first_element at 8) es) ≤ 2 ^ 26) × EntriesFit o (first_element at 8) es
+  Fits o at (dict b t es) = (length (entry_spellings o (first_element at 8) es) ≤ most_element_bytes) × EntriesFit o (first_element at 8) es
   Fits o at (variant v) = IsWithin (shape v ∷ []) × Fits o (at + length (signature_bytes (shape v ∷ []))) v
 
   pub AllFit : Order → ℕ → Vals → Type 0

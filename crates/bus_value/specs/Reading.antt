@@ -1,5 +1,5 @@
 -- How values are read, from the left: the values, or the first fault that the reading meets.
-use Rattle.std.specs.Prelude.{ℕ, zero, suc, ◌+◌, ◌-◌, ◌^◌, ◌&&◌, ◌||◌, nat_lt, nat_le, List, [], ◌∷◌, length, take, drop, Option, Some, None, is_some, Result, Ok, Err, if◌then◌else◌}
+use Rattle.std.specs.Prelude.{ℕ, zero, suc, ◌+◌, ◌-◌, ◌&&◌, ◌||◌, nat_lt, nat_le, List, [], ◌∷◌, length, take, drop, Option, Some, None, is_some, Result, Ok, Err, if◌then◌else◌}
 use Rattle.bus_names.specs.declared.basic.Basic.{Basic}
 use Rattle.bus_names.specs.declared.basic.Basic.TheVariants as kinds
 use Rattle.bus_names.specs.Types.{Shape, basic, variant, array, dict, struct, listed}
@@ -8,7 +8,7 @@ use Rattle.bus_value.specs.declared.fault.ValueFault.{ValueFault}
 use Rattle.bus_value.specs.declared.fault.ValueFault.TheVariants.{BadLength, BadVariant, NoMemory}
 use Rattle.bus_value.specs.declared.order.Order.{Order}
 use Rattle.bus_value.specs.Spelling.{pad_size}
-use Rattle.bus_value.specs.Alignment.{alignment, boundary}
+use Rattle.bus_value.specs.Alignment.{alignment, boundary, most_element_bytes}
 use Rattle.bus_value.specs.Limits.{most_open, most_depth}
 use Rattle.bus_value.specs.Nesting.{nesting}
 use Rattle.bus_value.specs.Numbers.{number}
@@ -49,7 +49,7 @@ element_bytes o around align at bytes =
     let pad = pad_size (at + 4) align in
     let short = nat_lt (length bytes) (4 + pad + count) in
     if nat_lt (length bytes) 4 || (is_some around && short) then Err (cut_off around at) else
-    (if nat_lt (2 ^ 26) count then Err (BadLength (reported at)) else
+    (if nat_lt most_element_bytes count then Err (BadLength (reported at)) else
     (if short then Err (cut_off around at) else and_then (zeros (at + 4) (take pad (drop 4 bytes))) (λ u. Ok count)))
 
 -- an array: its elements are read from their own bytes alone

@@ -57,16 +57,17 @@ first_element at align = behind_length at + pad_size (behind_length at) align
 abbrev pub array_bytes : Order → ℕ → ℕ → List ℕ → List ℕ
 array_bytes o at align elements = padding at 4 ++ (number_bytes o 4 (length elements) ++ (padding (behind_length at) align ++ elements))
 
--- the offsets of the key and of the value of a dict entry
-abbrev pub key_at : ℕ → ℕ
-key_at at = at + pad_size at 8
+-- the next boundary of 8, on which structs begin, and the key of a dict entry
+abbrev pub next_boundary : ℕ → ℕ
+next_boundary at = at + pad_size at 8
 
+-- the offset of the value of a dict entry
 abbrev pub value_at : Order → ℕ → BasicValue → ℕ
-value_at o at a = key_at at + length (basic_spelling o (key_at at) a)
+value_at o at a = next_boundary at + length (basic_spelling o (next_boundary at) a)
 
 -- a dict entry, as a struct of its key and its value
 abbrev pub pair_bytes : Order → ℕ → BasicValue → List ℕ → List ℕ
-pair_bytes o at a value = padding at 8 ++ (basic_spelling o (key_at at) a ++ value)
+pair_bytes o at a value = padding at 8 ++ (basic_spelling o (next_boundary at) a ++ value)
 
 abbrev mutual
   -- a value at an offset

@@ -1,5 +1,8 @@
--- What serves private functions and the proofs of models: how arrays are opened, rows of numbers, plain texts, how values are told apart, and what readers of parts answer.
+-- What serves private functions and models: what a node of a value is, what values that bytes spell are, how arrays are
+-- opened, rows of numbers, plain texts, how values are told apart, and what readers of parts answer.
+pub mod Nodes
 pub mod NodeFalls
+pub mod Held
 pub mod Opening
 pub mod Plain
 pub mod PlainText
@@ -8,5 +11,5 @@ pub mod Answers
 pub mod Fields
 pub mod BasicReading
 pub mod Nesting
-pub mod Reading
+pub mod VariantTypes
 pub mod Spelling

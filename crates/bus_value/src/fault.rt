@@ -13,10 +13,11 @@ pub enum ValueFault {
     Padding(usize),
     /// The boolean at this offset is neither 0 nor 1.
     BadBool(usize),
-    /// The text at this offset is not UTF-8, or has a zero byte inside or none behind it, or is no path or no signature.
+    /// The text at this offset is not UTF-8, or has a zero byte inside or none behind it, or is no path or no
+    /// signature.
     BadText(usize),
-    /// The length of an array stands at this offset, and is above 2^26, or its elements do not fill it; or the first byte
-    /// behind the last value.
+    /// The length of an array stands at this offset, and is above 2^26, or its elements do not fill it; or the first
+    /// byte behind the last value.
     BadLength(usize),
     /// The variant at this offset has a signature of no type or of several, or is nested too deep.
     BadVariant(usize),

@@ -22,8 +22,8 @@ pub struct Field {
     pub value: Option<BasicValue>,
 }
 
-/// Those of the numbered variants in an array, of type `a(yv)`, whose number is at most `most`; else the first fault. All
-/// are checked, and no others are kept.
+/// Those of the numbered variants in an array, of type `a(yv)`, whose number is at most `most`; else the first fault.
+/// All are checked, and no others are kept.
 pub fn read_fields(
     alloc: Global,
     order: Order,

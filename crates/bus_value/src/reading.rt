@@ -56,8 +56,8 @@ fn check_values(
     Ok(())
 }
 
-/// The values of these types that the bytes spell, which stand from the offset `start` on; else the first fault, reading
-/// from the left.
+/// The values of these types that the bytes spell, which stand from the offset `start` on; else the first fault,
+/// reading from the left.
 pub fn read_values(
     alloc: Global,
     order: Order,

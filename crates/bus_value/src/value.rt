@@ -51,7 +51,7 @@ impl Model for Value {
 
     ghost coded = { value_code };
 
-    ghost use Rattle.bus_value.specs.Nodes.{value_of, HasField};
+    ghost use Rattle.bus_value.specs.inner.Nodes.{value_of, HasField};
 
     ghost view = { λ a. value_of a.node };
 

@@ -5,7 +5,8 @@ ghost use Rattle.bus_names.specs.Parsing.{signature_of};
 ghost use Rattle.bus_names.specs.Signatures.{IsWithin};
 ghost use Rattle.bus_names.specs.Types.{signature_text};
 ghost use Rattle.bus_value.specs.Limits.{AllFit};
-ghost use Rattle.bus_value.specs.Held.{IsHeld, listed, read_in, values_in};
+ghost use Rattle.bus_value.specs.Listed.{listed};
+ghost use Rattle.bus_value.specs.inner.Held.{IsHeld, read_in, values_in};
 ghost use Rattle.bus_value.specs.Reading.{read_all};
 ghost use Rattle.bus_value.specs.Spelling.{spellings};
 ghost use Rattle.bus_value.specs.Values.{shapes, vals};
@@ -49,7 +50,7 @@ impl Model for Values {
     ghost use Rattle.std.specs.Coded.{coded_list};
     ghost use Rattle.bus_value.specs.Values.{Val};
     ghost use Rattle.bus_value.specs.inner.ValueCode.{value_code};
-    ghost use Rattle.bus_value.specs.Held.{held_in, IsHeld};
+    ghost use Rattle.bus_value.specs.inner.Held.{held_in, IsHeld};
 
     ghost Value = { List Val };
 
@@ -101,8 +102,8 @@ impl Spelled {
         self.order == order && self.start % 8 == start % 8
     }
 
-    /// The bytes of the values, which are to stand from the offset `start` on: those that are kept, where they stand so;
-    /// else the values are made.
+    /// The bytes of the values, which are to stand from the offset `start` on: those that are kept, where they stand
+    /// so; else the values are made.
     fn written(&self, alloc: Global, order: Order, start: usize) -> Result<Bytes, NoMemory>
         requires held { IsHeld (Read self.now) }
         requires fit { AllFit order start (vals (values_in (read_in self.now))) }
@@ -156,7 +157,7 @@ pub enum Listed<'a> {
 }
 
 impl Listed<'_> {
-    ghost use Rattle.bus_value.specs.Held.{listed};
+    ghost use Rattle.bus_value.specs.Listed.{listed};
 
     /// The values in order.
     pub fn as_slice(&self) -> &[Value]

@@ -1,5 +1,4 @@
 pub mod Limits
-pub mod Padded
 pub mod Number
 pub mod SessionId
 pub mod Seat

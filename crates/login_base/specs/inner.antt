@@ -1,2 +1,3 @@
--- What serves private functions: what a reader of numerals looks at first.
+-- What serves private functions and models: what a reader of numerals looks at first, and how a seat's name is kept.
 pub mod Plain
+pub mod Padded

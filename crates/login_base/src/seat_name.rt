@@ -33,7 +33,7 @@ pub struct SeatName {
 impl Model for SeatName {
     ghost use Rattle.std.specs.Prelude.{List, ℕ, length, take, replicate, ◌++◌, ◌-◌};
     ghost use Rattle.login_base.specs.Limits.{most_seat_name};
-    ghost use Rattle.login_base.specs.Padded.{IsPadded, length_of_name, padded_again};
+    ghost use Rattle.login_base.specs.inner.Padded.{IsPadded, length_of_name, padded_again};
 
     ghost Value = { List ℕ };
 

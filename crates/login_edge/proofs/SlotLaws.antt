@@ -7,7 +7,7 @@ use Rattle.std.specs.Option.{option_map}
 use mathlib.Core.List.{map}
 use Rattle.login_edge.specs.LinkInMemory.{LinkState}
 use Rattle.login_edge.specs.Register.{Arrived, Register, back_behind}
-use Rattle.login_edge.specs.Slots.{arrived}
+use Rattle.login_edge.specs.inner.Slots.{arrived}
 use Rattle.login_edge.specs.declared.mem_listener.Slot.{Slot}
 
 abbrev put_back : Slot → LinkState → Slot

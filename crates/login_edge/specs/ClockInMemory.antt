@@ -11,7 +11,8 @@ pub record ClockState : Type 0 where
   pub fails : List ℕ
   pub faults : ℕ
 
--- the reading behind so many others: the next one of the script, or its last one (the moment 0 is that of an empty script)
+-- the reading behind so many others: the next one of the script, or its last one (the moment 0 is that of an empty
+-- script)
 abbrev pub reading_at : List Millis → ℕ → Millis
 reading_at script n = slice_index_or script (min (length script - 1) n) (record { 0 = 0 })
 

@@ -1,4 +1,5 @@
--- What a read and a write of a link answer, and what they do to its talk, to what is left to come, and to the count of faults.
+-- What a read and a write of a link answer, and what they do to its talk, to what is left to come, and to the count of
+-- faults.
 use Rattle.std.specs.Prelude.{ℕ, ◌≡◌, ◌<◌, ◌≤◌, List, [], ◌∷◌, ◌++◌, length, take, Option, IfSome}
 use Rattle.std.specs.Option.{option_map}
 use Rattle.login_edge.specs.Faults.{Rose}
@@ -17,7 +18,8 @@ HearTells old new hears.Quiet buf = Grew old new (quiet ∷ [])
 HearTells old new hears.End buf = Grew old new (ended ∷ [])
 HearTells old new hears.Failed buf = new ≡ old
 
--- what was left to come is what was put into the front of buf, and then what is left now; the end comes where nothing is left
+-- what was left to come is what was put into the front of buf, and then what is left now; the end comes where nothing
+-- is left
 abbrev pub HearGives : Option (List ℕ) → Option (List ℕ) → Heard → List ℕ → Type 0
 HearGives old new (hears.Bytes n) buf = old ≡ option_map (λ rest. take n buf ++ rest) new
 HearGives old new hears.Quiet buf = new ≡ old

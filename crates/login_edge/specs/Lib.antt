@@ -12,7 +12,6 @@ pub mod Scripts
 pub mod Notes
 pub mod LinkInMemory
 pub mod ListenerInMemory
-pub mod Slots
 pub mod ClockInMemory
 pub mod SpawnerInMemory
 pub mod HeldInMemory

@@ -15,12 +15,3 @@ abbrev pub bytes_due : List Turn → List ℕ
 bytes_due [] = []
 bytes_due (Piece bs ∷ turns) = bs ++ bytes_due turns
 bytes_due (Quiet ∷ turns) = bytes_due turns
-
--- what is left of the piece that is under way, and the turns behind it
-pub record ScriptState : Type 0 where
-  pub piece : List ℕ
-  pub turns : List Turn
-
--- what is left of a script
-abbrev pub left_of : ScriptState → List Turn
-left_of s = due (Piece s.piece ∷ s.turns)

@@ -1,4 +1,5 @@
-//! The outside of the program: sources, sinks, links, listeners, clocks and spawners, which count their faults, gates, and those in memory.
+//! The outside of the program: sources, sinks, links, listeners, clocks and spawners, which count their faults, gates,
+//! and those in memory.
 #![tactic(auto)]
 
 mod bell;

@@ -6,7 +6,8 @@ ghost use Rattle.login_edge.specs.Notes.{mark_of};
 ghost use Rattle.login_edge.specs.Hearing.{HearTells, HearGives, HearCause, SayTells};
 ghost use Rattle.login_edge.specs.Edge.{WriteCause};
 ghost use Rattle.login_edge.specs.Faults.{one_more};
-ghost use Rattle.login_edge.specs.Scripts.{due, bytes_due, left_of};
+ghost use Rattle.login_edge.specs.Scripts.{due, bytes_due};
+ghost use Rattle.login_edge.specs.inner.Scripts.{left_of};
 ghost use Rattle.login_edge.specs.LinkInMemory.{SameLink, size_due, IsTooMuch, Follows, with_number};
 
 use crate::Took;
@@ -38,7 +39,7 @@ pub struct MemLink {
 
 impl Model for MemLink {
     ghost use Rattle.login_edge.specs.LinkInMemory.{LinkState};
-    ghost use Rattle.login_edge.specs.Scripts.{left_of};
+    ghost use Rattle.login_edge.specs.inner.Scripts.{left_of};
 
     ghost Value = { LinkState };
 

@@ -55,7 +55,7 @@ pub struct MemListener {
 impl Model for MemListener {
     ghost use Rattle.std.specs.Prelude.{map, length, ◌+◌, ◌≤◌, vec_len, vec_capacity};
     ghost use Rattle.login_edge.specs.ListenerInMemory.{ListenerState};
-    ghost use Rattle.login_edge.specs.Slots.{arrived};
+    ghost use Rattle.login_edge.specs.inner.Slots.{arrived};
 
     ghost Value = { ListenerState };
 

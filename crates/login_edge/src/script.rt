@@ -35,7 +35,7 @@ pub(crate) struct Script {
 
 impl Model for Script {
     ghost use Rattle.std.specs.Prelude.{drop, length, ◌≤◌};
-    ghost use Rattle.login_edge.specs.Scripts.{ScriptState};
+    ghost use Rattle.login_edge.specs.inner.Scripts.{ScriptState};
 
     ghost Value = { ScriptState };
 

@@ -1,5 +1,5 @@
 -- A reader of std as a source, and a writer as a sink, as callers see them.
-use Rattle.std.specs.Prelude.{ℕ, ◌≡◌, ◌+◌, ◌<◌, ◌^◌, List, Option, Some, None, IsSome}
+use Rattle.std.specs.Prelude.{ℕ, ◌≡◌, ◌+◌, ◌<◌, ◌^◌, List, Option}
 use Rattle.login_edge.specs.declared.Got.{Got}
 use Rattle.login_edge.specs.declared.Got.TheVariants as got
 
@@ -18,16 +18,6 @@ pub record SinkState : Type 0 where
 -- so many bytes are read at most: a tebibyte
 abbrev pub most_bytes : ℕ
 most_bytes = 2 ^ 40
-
--- what is told now, where something was told at first
-abbrev pub told_since : Option (List ℕ) → Option (List ℕ) → Option (List ℕ)
-told_since None now = None
-told_since (Some first) now = now
-
--- who told something at first tells something now
-abbrev pub TellsOn : Option (List ℕ) → Option (List ℕ) → Type 0
-TellsOn None now = Unit {0}
-TellsOn (Some first) now = IsSome now
 
 -- the bytes that came are taken from those that may be read; where none may, the read fails
 abbrev pub ReadSpends : ℕ → ℕ → Got → Type 0

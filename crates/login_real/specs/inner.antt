@@ -1,2 +1,3 @@
--- What serves private functions: what calls answer that do not wait.
+-- What serves private functions and models: what calls answer that do not wait, and what a stream of std tells.
 pub mod Sockets
+pub mod Streams

@@ -27,8 +27,8 @@ fn is_root() -> bool {
     geteuid() == ROOT
 }
 
-/// A folder that is the program's own, which nobody else enters until it is opened to all. It is locked, so that no other
-/// run takes it over while this one lasts.
+/// A folder that is the program's own, which nobody else enters until it is opened to all. It is locked, so that no
+/// other run takes it over while this one lasts.
 #[derive(Drop)]
 pub(crate) struct Folder {
     file: File,
@@ -50,8 +50,8 @@ fn is_own(folder: &Metadata) -> bool {
     folder.is_dir() && folder.uid() == geteuid() && folder.mode() & SHARED_FOLDER == 0
 }
 
-/// The folder at this place, locked and entered by nobody else, where it is the program's own and no other run has it. What a
-/// symbolic link leads to is not at this place.
+/// The folder at this place, locked and entered by nobody else, where it is the program's own and no other run has it.
+/// What a symbolic link leads to is not at this place.
 fn take_over<R: Files<File = File>>(rt: &R, path: &str) -> io::Result<File> {
     let place = fs::symlink_metadata(rt, path)?;
     let file = File::open(rt, path)?;

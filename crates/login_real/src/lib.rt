@@ -1,5 +1,5 @@
-//! The outside of the program for real: what std reads and writes, as sources and sinks; Unix sockets as a listener and its
-//! links, with what wakes them; the machine's clock, and its threads.
+//! The outside of the program for real: what std reads and writes, as sources and sinks; Unix sockets as a listener and
+//! its links, with what wakes them; the machine's clock, and its threads.
 #![tactic(auto)]
 
 mod clock;

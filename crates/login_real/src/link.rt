@@ -24,8 +24,8 @@ const WAKER: Token = Token(1);
 /// How many milliseconds a read waits at most. The waker ends it where there may be mail, and at the stop.
 const READ_WAIT: u64 = 1000;
 
-/// How many milliseconds a write waits for room at once, and how often at most: a client that reads nothing for some five
-/// seconds fails its link.
+/// How many milliseconds a write waits for room at once, and how often at most: a client that reads nothing for some
+/// five seconds fails its link.
 const WRITE_WAIT: u64 = 1000;
 
 const WRITE_WAITS: u32 = 5;

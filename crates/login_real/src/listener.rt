@@ -20,14 +20,15 @@ use std::time::Clock as SystemClock;
 
 /// A listener with a Unix socket `uid-N` for each user N, in a folder. It tells of no link.
 ///
-/// The folder is made, if it is not there, and has to be the program's own. While the sockets come into being nobody else
-/// can enter it. Where root runs the program, each socket is its user's, with the mode 600, and the folder has the mode
-/// 711 then, so that the users, and root, can connect to their own sockets; where somebody else does, the sockets and the
-/// folder are that one's alone, who may play every user. A socket that an earlier run left behind is replaced; one that
-/// somebody serves, and anything else at its place, is a fault, and so is a folder that another run has.
+/// The folder is made, if it is not there, and has to be the program's own. While the sockets come into being nobody
+/// else can enter it. Where root runs the program, each socket is its user's, with the mode 600, and the folder has the
+/// mode
+/// 711 then, so that the users, and root, can connect to their own sockets; where somebody else does, the sockets and
+/// the folder are that one's alone, who may play every user. A socket that an earlier run left behind is replaced; one
+/// that somebody serves, and anything else at its place, is a fault, and so is a folder that another run has.
 ///
-/// `accept` waits for 100 ms at most. A connection that is gone before it is taken is passed over, and one for which the
-/// machine has no room waits or is hung up on.
+/// `accept` waits for 100 ms at most. A connection that is gone before it is taken is passed over, and one for which
+/// the machine has no room waits or is hung up on.
 #[derive(Drop)]
 pub struct SocketListener<'r, R> {
     rt: &'r R,

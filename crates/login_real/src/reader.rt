@@ -24,7 +24,8 @@ pub struct ReaderSource<R: Read> {
 }
 
 impl<R: Read> Model for ReaderSource<R> {
-    ghost use Rattle.login_real.specs.Streams.{SourceState, told_since, TellsOn};
+    ghost use Rattle.login_real.specs.Streams.{SourceState};
+    ghost use Rattle.login_real.specs.inner.Streams.{told_since, TellsOn};
 
     ghost Value = { SourceState };
 

@@ -23,7 +23,8 @@ use std::thread::{Promise, Scope, Threads};
 use std::time::{Clock as SystemClock, Duration};
 use std::{env, fs, process, thread};
 
-/// A folder that no other test and no other run has, which is not there yet, the sockets of its two users, and one more place.
+/// A folder that no other test and no other run has, which is not there yet, the sockets of its two users, and one more
+/// place.
 #[derive(Drop)]
 struct Place {
     dir: String,
@@ -220,8 +221,8 @@ fn sockets_have_modes_and_owners(rt: HostRuntime) -> Result<(), Fail> {
 /// How many users the listener of the next test has.
 const MANY: u32 = 300;
 
-/// Whether somebody else could have connected to a socket that is meant for a user alone, when it was looked at: the folder was
-/// open, and the socket was then not yet the user's alone.
+/// Whether somebody else could have connected to a socket that is meant for a user alone, when it was looked at: the
+/// folder was open, and the socket was then not yet the user's alone.
 fn was_open_to_others<F: Files>(files: &F, dir: &str, socket: &str, owner: u32) -> bool {
     let Ok(folder) = fs::symlink_metadata(files, dir) else {
         return false;
@@ -247,7 +248,8 @@ fn watch<F: Files>(files: &F, dir: &str, socket: &str, owner: u32, is_over: &Ato
     times
 }
 
-/// Opens a listener while its last socket is watched. Whether it was opened, and how often the socket was open to others.
+/// Opens a listener while its last socket is watched. Whether it was opened, and how often the socket was open to
+/// others.
 fn open_watched<R: Threads + Wait + Sync>(
     rt: &R,
     host: &HostRuntime,
@@ -339,8 +341,8 @@ fn take_places<R: Abort + Alloc + Files<File = File> + Net + SystemClock>(
     Ok(())
 }
 
-/// A socket that an earlier run has left is replaced; one that is served, and anything else, is left as it is, and then nothing
-/// else is left in the folder. A folder that was there stays.
+/// A socket that an earlier run has left is replaced; one that is served, and anything else, is left as it is, and then
+/// nothing else is left in the folder. A folder that was there stays.
 #[test]
 fn places_that_are_taken_are_left(rt: HostRuntime) -> Result<(), Fail> {
     let place = new_place(&rt, "places")?;
@@ -560,7 +562,8 @@ fn be_woken<R: Abort + Files<File = File> + Net + SystemClock + Threads + Wait +
     woken
 }
 
-/// A read waits about a second; one that the waker ends does not, also where the waker was rung more often than its streams hold.
+/// A read waits about a second; one that the waker ends does not, also where the waker was rung more often than its
+/// streams hold.
 #[test]
 fn waker_ends_waits(rt: HostRuntime) -> Result<(), Fail> {
     let place = new_place(&rt, "wakes")?;

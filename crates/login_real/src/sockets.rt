@@ -53,8 +53,8 @@ fn is_out_of_room(fault: &io::Error) -> bool {
     )
 }
 
-/// A connection that was gone before it was taken, or for which there is no room just now, is no fault. Where there is no room,
-/// this waits, unless that was done already.
+/// A connection that was gone before it was taken, or for which there is no room just now, is no fault. Where there is
+/// no room, this waits, unless that was done already.
 fn pass_over<R: SystemClock>(
     rt: &R,
     fault: io::Error,

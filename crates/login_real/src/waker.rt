@@ -13,10 +13,11 @@ use std::os::unix::net::UnixStream;
 /// How many reads empty a pair of streams at most. Each takes as many bytes as a buffer has.
 const MOST_READS: u32 = 1024;
 
-/// A pair of streams: each link that waits watches the near one, and a byte that is written to the far one ends all waits.
+/// A pair of streams: each link that waits watches the near one, and a byte that is written to the far one ends all
+/// waits.
 ///
-/// No link reads these bytes, so none takes them from another. Where no byte more fits they are read, and one is written
-/// anew: a stream that is watched tells of each byte as it comes, not of those that lie there.
+/// No link reads these bytes, so none takes them from another. Where no byte more fits they are read, and one is
+/// written anew: a stream that is watched tells of each byte as it comes, not of those that lie there.
 #[derive(Drop)]
 struct WakingPair {
     far: UnixStream,
@@ -51,8 +52,8 @@ impl WakingPair {
     }
 }
 
-/// What ends the waits of all links at once. Where the machine has nothing for it, links look for mail when their own waits
-/// are over.
+/// What ends the waits of all links at once. Where the machine has nothing for it, links look for mail when their own
+/// waits are over.
 #[derive(Drop)]
 pub struct LinkWaker {
     pair: Option<WakingPair>,

@@ -19,7 +19,8 @@ pub struct WriterSink<W: Write> {
 }
 
 impl<W: Write> Model for WriterSink<W> {
-    ghost use Rattle.login_real.specs.Streams.{SinkState, told_since, TellsOn};
+    ghost use Rattle.login_real.specs.Streams.{SinkState};
+    ghost use Rattle.login_real.specs.inner.Streams.{told_since, TellsOn};
 
     ghost Value = { SinkState };
 

@@ -2,11 +2,12 @@
 use Rattle.std.specs.Prelude.{◌≤◌, ◌<◌, ◌+◌, List, [], ◌∷◌, max, length}
 use Rattle.std.proofs.Common.{arith}
 use denote.Param.Weighed.{most}
-use Rattle.bus_names.specs.Types.{Shape, struct_of, fields_of, parts, parts_in}
+use Rattle.bus_names.specs.Types.{Shape, struct_of, fields_of}
 use Rattle.bus_names.specs.declared.types.Node.{Node}
 use Rattle.bus_names.specs.declared.types.Node.TheVariants.{Basic, Variant, Array, Dict, Struct}
 use Rattle.bus_names.specs.declared.types.Type.TheDeep.{deep-Node}
-use Rattle.bus_names.specs.Nodes.{shape_of, HasField}
+use Rattle.bus_names.specs.inner.Nodes.{shape_of, HasField}
+use Rattle.bus_names.specs.inner.Parts.{parts, parts_in}
 
 most_fields : (ts : List Shape) → most (λ t. parts t + 1) ts ≤ parts_in (fields_of ts) + 1
 most_fields [] = omega arith

@@ -5,8 +5,8 @@ use bus_value::{BasicValue, Field, Order, ValueFault, read_fields, read_u32};
 use login_base::NoMemory;
 use std::alloc::Global;
 
-/// The numbers and the offsets of the fields in busctl's call of Hello: each field begins on a boundary of 8, and has its
-/// number, a signature, the length of a text, the text and a zero byte.
+/// The numbers and the offsets of the fields in busctl's call of Hello: each field begins on a boundary of 8, and has
+/// its number, a signature, the length of a text, the text and a zero byte.
 const PLACES: [(u8, usize); 4] = [(1, 16), (3, 48), (2, 64), (6, 96)];
 
 fn order_of(bytes: &[u8]) -> Order {

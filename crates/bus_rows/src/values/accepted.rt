@@ -1,5 +1,5 @@
-// Bytes of values in each place, at the limits too, as jeepney 0.8.0 wrote them. Those in little order from the offset 0 on
-// are also as dbus-next 0.2.3 wrote them, but for the index of a file descriptor, which is 0 in jeepney's.
+// Bytes of values in each place, at the limits too, as jeepney 0.8.0 wrote them. Those in little order from the offset
+// 0 on are also as dbus-next 0.2.3 wrote them, but for the index of a file descriptor, which is 0 in jeepney's.
 
 use bus_value::Order::{self, Big, Little};
 

@@ -1,5 +1,5 @@
-// Each fault in each place that can have it, in both orders of bytes. A row is laid out by the rules of reading: the bytes of
-// a container up to a value, so that the value's offset is known, and a fault of this value.
+// Each fault in each place that can have it, in both orders of bytes. A row is laid out by the rules of reading: the
+// bytes of a container up to a value, so that the value's offset is known, and a fault of this value.
 
 mod ends;
 mod lengths;

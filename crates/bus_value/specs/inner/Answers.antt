@@ -5,7 +5,8 @@ use Rattle.bus_value.specs.declared.fault.ValueFault.TheVariants.{NoMemory}
 use Rattle.bus_value.specs.Spelling.{pad_size}
 use Rattle.bus_value.specs.Reading.{Answer}
 
--- what the definition says of bytes that stand from an offset on, with the place behind what was read, unless there was no memory
+-- what the definition says of bytes that stand from an offset on, with the place behind what was read, unless there was
+-- no memory
 abbrev pub Reads : {A : Type 0} → Result (A × ℕ) ValueFault → ℕ → List ℕ → Answer A → Type 0
 Reads (Ok r) start bytes found = (found ≡ Ok (r.0, (start + r.1, drop r.1 bytes))) × (r.1 ≤ length bytes)
 Reads (Err e) start bytes found = (e ≡ NoMemory) ⊎ (found ≡ Err e)

@@ -7,7 +7,7 @@ use Rattle.bus_value.specs.Values.{Val, vals, entries, parts, parts_in, parts_of
 use Rattle.bus_value.specs.declared.value.Node.{Node}
 use Rattle.bus_value.specs.declared.value.Node.TheVariants.{Basic, Array, Struct, Dict, Variant}
 use Rattle.bus_value.specs.declared.value.Value.TheDeep.{deep-Node}
-use Rattle.bus_value.specs.Nodes.{value_of}
+use Rattle.bus_value.specs.inner.Nodes.{value_of}
 
 most_values : (vs : List Val) → most (λ v. parts v + 1) vs ≤ parts_in (vals vs) + 1
 most_values [] = omega arith

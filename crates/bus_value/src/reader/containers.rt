@@ -4,7 +4,7 @@ ghost use Rattle.std.specs.Prelude.{◌≡◌, ◌≤◌, ◌<◌, ◌+◌, ◌-
 ghost use Rattle.bus_names.specs.Types.{variant, array, dict, struct_of};
 ghost use Rattle.bus_value.specs.Alignment.{IsAlignment};
 ghost use Rattle.bus_value.specs.Reading.{element_bytes, levels, read, read_entry, to_end, in_turn};
-ghost use Rattle.bus_value.specs.inner.Reading.{is_variant_type};
+ghost use Rattle.bus_value.specs.inner.VariantTypes.{is_variant_type};
 ghost use Rattle.bus_value.specs.Limits.{most_depth, most_open};
 ghost use Rattle.bus_value.specs.Nesting.{nesting};
 ghost use Rattle.bus_value.specs.inner.Nesting.{nesting_all};

@@ -1,9 +1,19 @@
--- What a script gives next.
-use Rattle.std.specs.Prelude.{◌≡◌, ◌≤◌, [], ◌∷◌, length}
-use Rattle.login_edge.specs.declared.script.Turn.TheVariants.{Quiet}
+-- How a script is kept, and what it gives next.
+use Rattle.std.specs.Prelude.{ℕ, ◌≡◌, ◌≤◌, List, [], ◌∷◌, length}
+use Rattle.login_edge.specs.declared.script.Turn.{Turn}
+use Rattle.login_edge.specs.declared.script.Turn.TheVariants.{Piece, Quiet}
 use Rattle.login_edge.specs.declared.script.Next.{Next}
 use Rattle.login_edge.specs.declared.script.Next.TheVariants as next
-use Rattle.login_edge.specs.Scripts.{ScriptState, left_of}
+use Rattle.login_edge.specs.Scripts.{due}
+
+-- what is left of the piece that is under way, and the turns behind it
+pub record ScriptState : Type 0 where
+  pub piece : List ℕ
+  pub turns : List Turn
+
+-- what is left of a script
+abbrev pub left_of : ScriptState → List Turn
+left_of s = due (Piece s.piece ∷ s.turns)
 
 -- what comes next: a piece, which is under way then, or a turn without bytes, or nothing
 abbrev pub Finds : ScriptState → ScriptState → Next → Type 0

@@ -1,6 +1,7 @@
 use Rattle.std.proofs.Common.{rules, ◌≡◌, ℕ, ◌≤◌, ◌∷◌, List, Some, length, take, drop, ap, sym, ◌∙◌, refl, arith, length-take-le}
 use Rattle.std.proofs.lemmas.List.{take_at}
-use Rattle.login_edge.specs.Scripts.{due, bytes_due, left_of}
+use Rattle.login_edge.specs.Scripts.{due, bytes_due}
+use Rattle.login_edge.specs.inner.Scripts.{left_of}
 use Rattle.login_edge.specs.LinkInMemory.{size_due}
 use Rattle.login_edge.proofs.Dues.{bytes_due-due, bytes_due-piece}
 use Rattle.login_edge.specs.declared.script.Turn.TheVariants.{Piece}

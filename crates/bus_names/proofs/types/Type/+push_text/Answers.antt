@@ -1,5 +1,5 @@
 use Rattle.std.proofs.Common.{subst, sym, ap, ◌∙◌}
-use Rattle.bus_names.specs.Nodes.{HasField, shape_of}
+use Rattle.bus_names.specs.inner.Nodes.{HasField, shape_of}
 use Rattle.bus_names.proofs.Fronts.{kept_behind, on_err}
 use Rattle.bus_names.proofs.Structs.{struct_pushed}
 use Rattle.bus_names.proofs.types.Type.+push_text.Goals as goal

@@ -1,6 +1,6 @@
 use Rattle.std.proofs.Common.{◌≡◌, ℕ, ◌+◌, ◌-◌, sym, ◌∙◌, arith, ap, rules, subst, Ok, Err, List, inr, true, false, drop, take}
 use Rattle.bus_value.specs.Reading.{read, read_entry, levels, to_end, in_turn, made, read_basic, variant_type}
-use Rattle.bus_value.specs.inner.Reading.{is_variant_type}
+use Rattle.bus_value.specs.inner.VariantTypes.{is_variant_type}
 use Rattle.bus_value.specs.Nesting.{nesting}
 use Rattle.bus_value.specs.BasicReading.{types_in}
 use Rattle.bus_value.specs.declared.fault.ValueFault.TheVariants.{BadVariant}

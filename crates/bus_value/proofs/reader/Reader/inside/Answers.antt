@@ -3,7 +3,7 @@ use Rattle.bus_names.specs.Types.{variant}
 use Rattle.bus_value.specs.declared.fault.ValueFault.TheVariants.{BadVariant}
 use Rattle.bus_value.specs.BasicReading.{types_in}
 use Rattle.bus_value.specs.Reading.{read, levels, variant_type}
-use Rattle.bus_value.specs.inner.Reading.{is_variant_type}
+use Rattle.bus_value.specs.inner.VariantTypes.{is_variant_type}
 use Rattle.bus_value.specs.Values as values
 use Rattle.bus_value.proofs.Nesting.{is_variant, no_variant}
 use Rattle.bus_value.proofs.Containers.{onward, and_then_err, variant_fails, variant_types, variant_value}

@@ -1,6 +1,6 @@
 use Rattle.std.proofs.Common.{◌-◌, ◌≤◌, take}
 use Rattle.bus_value.specs.inner.Nesting.{nesting_all}
-use Rattle.bus_names.specs.Types.{parts}
+use Rattle.bus_names.specs.inner.Parts.{parts}
 use Rattle.bus_value.proofs.reader.containers.+nests_within.Given as goal
 
 abbrev pub invariant-loop-field : goal.invariant-loop-field

@@ -1,7 +1,7 @@
 use Rattle.std.proofs.Common.{rules, arith, subst, sym, ap, ◌∙◌, refl, ◌≡◌, ℕ, List, length, ◌+◌, ◌++◌, ◌-◌, take, drop}
 use Rattle.bus_value.specs.declared.basic_value.BasicValue.{BasicValue}
 use Rattle.bus_value.specs.Values.{Val, vals, entries, array, struct, dict, parts}
-use Rattle.bus_value.specs.Nodes.{value_of}
+use Rattle.bus_value.specs.inner.Nodes.{value_of}
 use Rattle.bus_value.specs.Alignment.{boundary}
 use Rattle.bus_value.specs.Spelling.{first_element, pad_size}
 use Rattle.bus_value.specs.inner.Spelling.{array_front}

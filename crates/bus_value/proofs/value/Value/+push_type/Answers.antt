@@ -1,5 +1,5 @@
 use Rattle.std.proofs.Common.{subst, sym, ap, ◌∙◌}
-use Rattle.bus_value.specs.Nodes.{HasField, value_of}
+use Rattle.bus_value.specs.inner.Nodes.{HasField, value_of}
 use Rattle.bus_names.proofs.Fronts.{kept_behind, on_err}
 use Rattle.bus_value.proofs.Texts.{struct_pushed, field_pushed}
 use Rattle.bus_value.proofs.value.Value.+push_type.Goals as goal

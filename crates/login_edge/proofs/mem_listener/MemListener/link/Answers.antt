@@ -6,7 +6,7 @@ use mathlib.Core.List.{map}
 use Rattle.login_edge.specs.ListenerInMemory.{ListenerState}
 use Rattle.login_edge.specs.LinkInMemory.{LinkState}
 use Rattle.login_edge.specs.Register.{Arrived}
-use Rattle.login_edge.specs.Slots.{arrived}
+use Rattle.login_edge.specs.inner.Slots.{arrived}
 use Rattle.login_edge.proofs.SlotLaws.{slice_get-arrived}
 use Rattle.login_edge.proofs.mem_listener.MemListener.link.Goals as goal
 

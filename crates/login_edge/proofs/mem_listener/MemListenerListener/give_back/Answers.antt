@@ -5,7 +5,7 @@ use mathlib.Core.List.{map}
 use Rattle.login_edge.specs.ListenerInMemory.{ListenerState}
 use Rattle.login_edge.specs.Register.{Arrived, given_back}
 use Rattle.login_edge.specs.LinkInMemory.{LinkState}
-use Rattle.login_edge.specs.Slots.{arrived}
+use Rattle.login_edge.specs.inner.Slots.{arrived}
 use Rattle.login_edge.proofs.SlotLaws.{map-put_back, register, slot_within}
 use Rattle.login_edge.proofs.mem_listener.MemListenerListener.give_back.Goals as goal
 

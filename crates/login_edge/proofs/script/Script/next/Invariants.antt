@@ -1,5 +1,5 @@
 use Rattle.std.proofs.Common.{length, drop, ◌≤◌, ◌≡◌}
-use Rattle.login_edge.specs.Scripts.{left_of}
+use Rattle.login_edge.specs.inner.Scripts.{left_of}
 use Rattle.login_edge.proofs.script.Script.next.Given as goal
 
 abbrev pub invariant-loop-self : goal.invariant-loop-self

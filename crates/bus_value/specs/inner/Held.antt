@@ -1,11 +1,9 @@
--- Values that were made, or that bytes spell.
+-- What values are that were made, or that bytes spell.
 use Rattle.std.specs.Prelude.{ℕ, ◌<◌, ◌&&◌, nat_lt, Bool, List, [], Result, Ok, Err, IsTrue, is_ok}
 use Rattle.std.specs.List.{list_all}
 use Rattle.bus_value.specs.declared.fault.ValueFault.{ValueFault}
 use Rattle.bus_value.specs.declared.values.Held.{Held}
 use Rattle.bus_value.specs.declared.values.Held.TheVariants.{Made, Read}
-use Rattle.bus_value.specs.declared.values.Listed.{Listed}
-use Rattle.bus_value.specs.declared.values.Listed.TheVariants as as_list
 use Rattle.bus_value.specs.declared.values.Spelled.{Spelled}
 use Rattle.bus_value.specs.Values.{Val}
 use Rattle.bus_value.specs.Reading.{read_all}
@@ -30,8 +28,3 @@ are_bytes bytes = list_all (λ b. nat_lt b 256) bytes
 abbrev pub IsHeld : Held → Type 0
 IsHeld (Made vs) = 0 < 1
 IsHeld (Read s) = IsTrue (is_ok (read_in s) && are_bytes s.bytes)
-
--- values that are there, or that were made
-abbrev pub listed : Listed → List Val
-listed (as_list.There vs) = vs.now
-listed (as_list.Made vs) = vs
