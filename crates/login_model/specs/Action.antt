@@ -81,6 +81,10 @@ qualifier_place Plain = 0
 qualifier_place MultipleSessions = 1
 qualifier_place IgnoreInhibit = 2
 
+-- how many actions there are
+abbrev pub action_count : ℕ
+action_count = 29
+
 -- where an action stands among all
 abbrev pub place : Action → ℕ
 place ChangeVt = 0

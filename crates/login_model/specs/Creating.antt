@@ -9,6 +9,7 @@ use Rattle.login_model.specs.declared.fact.Key.TheVariants.{Sess, Owner}
 use Rattle.login_model.specs.declared.fact.Fact.TheVariants as fact
 use Rattle.login_model.specs.declared.fact.Owner.TheVariants.{Fifo}
 use Rattle.login_model.specs.declared.session.Session.{Session}
+use Rattle.login_model.specs.declared.session.SessionTexts.{SessionTexts}
 use Rattle.login_model.specs.declared.session.Phase.TheVariants.{Open}
 use Rattle.login_model.specs.declared.call.Creation.{Creation}
 use Rattle.login_model.specs.declared.mark.Notice.TheVariants.{SessionNew, Active}
@@ -26,6 +27,17 @@ seat_of text = if is_seat_name text then Some text else None
 abbrev pub leader_of : ConnId → ℕ → ConnId
 leader_of c process = if process == 0 then c else record { 0 = process }
 
+-- the texts with which a session is created
+abbrev pub session_texts : Creation → SessionTexts
+session_texts x = record {
+  service = x.service;
+  desktop = x.desktop;
+  tty = x.tty;
+  display = x.display;
+  remote_user = x.remote_user;
+  remote_host = x.remote_host;
+}
+
 -- the session that a call creates
 abbrev pub created_session : ConnId → Creation → HandleNo → Session
 created_session c x fifo = record {
@@ -38,14 +50,7 @@ created_session c x fifo = record {
   leader = leader_of c x.process;
   fifo = fifo;
   remote = x.remote;
-  texts = record {
-    service = x.service;
-    desktop = x.desktop;
-    tty = x.tty;
-    display = x.display;
-    remote_user = x.remote_user;
-    remote_host = x.remote_host;
-  };
+  texts = session_texts x;
 }
 
 -- a new session of seat0 is active where its terminal is the current one, and all are told so; on

@@ -151,9 +151,13 @@ direct_call U c call.BadArguments t = t
 unfoldable pub controlled_by : Trail → ConnId → List SessId
 controlled_by t c = filter (controls t c) (sessions t)
 
+-- whether a connection owns the fifo of a session
+abbrev pub owns_fifo : Trail → ConnId → SessId → Bool
+owns_fifo t c s = is_fifo_of c (value t (key.Owner (fifo_in (value t (key.Sess s)))))
+
 -- the open sessions whose fifo a connection owns, in order
 unfoldable pub kept_open_by : Trail → ConnId → List SessId
-kept_open_by t c = filter (λ s. is_fifo_of c (value t (key.Owner (fifo_in (value t (key.Sess s)))))) (open_sessions t)
+kept_open_by t c = filter (owns_fifo t c) (open_sessions t)
 
 -- the locks of a connection, in order
 unfoldable pub locks_of : Trail → ConnId → List LockNo

@@ -133,6 +133,10 @@ abbrev pub is_seated_of : ℕ → Fact → Bool
 is_seated_of uid (fact.Session x) = is_open_of uid (fact.Session x) && is_some x.seat
 is_seated_of uid _ = false
 
+-- the user of an open session that has a seat
+abbrev pub seated_user : Fact → Option ℕ
+seated_user x = if is_open_fact x && is_some (seat_in_fact x) then Some (user_or_root x).0 else None
+
 abbrev pub is_user_class : Class → Bool
 is_user_class class.User = true
 is_user_class _ = false
@@ -219,6 +223,11 @@ abbrev pub is_fifo_of : ConnId → Fact → Bool
 is_fifo_of c (fact.Owned (owner.Fifo b s)) = b.0 == c.0
 is_fifo_of c _ = false
 
+-- whose a handle is that keeps a session open
+abbrev pub fifo_owner : Fact → Option ConnId
+fifo_owner (fact.Owned (owner.Fifo c s)) = Some c
+fifo_owner _ = None
+
 -- the session that a handle keeps open
 abbrev pub fifo_session : Fact → Option SessId
 fifo_session (fact.Owned (owner.Fifo c s)) = Some s
@@ -291,6 +300,10 @@ abbrev pub is_this_number : ℕ → Fact → Bool
 is_this_number v (fact.Number n) = v == n
 is_this_number v _ = false
 
+-- the virtual terminal of an open session of seat0
+abbrev pub terminal_in : Fact → Option ℕ
+terminal_in x = if is_open_fact x && is_seat0 (seat_in_fact x) then Some (vt_in x) else None
+
 -- an open session of seat0 on the virtual terminal that the other fact names
 abbrev pub is_on_terminal : Fact → Fact → Bool
 is_on_terminal terminal (fact.Session x) = is_open_phase x.phase && is_seat0 x.seat && is_this_number x.vt terminal
@@ -319,6 +332,11 @@ abbrev pub is_device_fact : Fact → Bool
 is_device_fact (fact.Device kind seat) = true
 is_device_fact _ = false
 
+-- an input device, which alone can be read
+abbrev pub is_evdev : Fact → Bool
+is_evdev (fact.Device Evdev seat) = true
+is_evdev _ = false
+
 -- the seat of a graphics device
 abbrev pub graphics_seat : Fact → Option (List ℕ)
 graphics_seat (fact.Device Drm seat) = Some seat
@@ -343,6 +361,11 @@ is_other_kind kind _ = false
 abbrev pub lock_in_fact : Fact → Option Lock
 lock_in_fact (fact.Lock l) = Some l
 lock_in_fact _ = None
+
+-- whose a lock is
+abbrev pub lock_holder : Fact → Option ConnId
+lock_holder (fact.Lock l) = Some l.holder
+lock_holder _ = None
 
 -- a lock that stands
 abbrev pub is_lock_fact : Fact → Bool

@@ -37,5 +37,4 @@ pub mod Stopping
 pub mod Legal
 pub mod Full
 pub mod Setups
-pub mod Held
 pub mod inner

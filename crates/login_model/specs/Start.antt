@@ -1,5 +1,5 @@
 -- What holds before the first mark.
-use Rattle.std.specs.Prelude.{false, if◌then◌else◌, List, [], ◌∷◌}
+use Rattle.std.specs.Prelude.{false, if◌then◌else◌}
 use Rattle.std.specs.Str.{bytes_eq}
 use Rattle.login_model.specs.declared.fact.Key.{Key}
 use Rattle.login_model.specs.declared.fact.Key.TheVariants as key
@@ -24,7 +24,3 @@ start_fact key.Op = Operation Idle
 start_fact key.Docked = Flag false
 start_fact key.Now = Moment (record { 0 = 0 })
 start_fact _ = Absent
-
--- each fact that stands under some key then
-abbrev pub start_facts : List Fact
-start_facts = Absent ∷ Flag false ∷ Number 0 ∷ Number 1 ∷ Present ∷ Moment (record { 0 = 0 }) ∷ Operation Idle ∷ []

@@ -1,5 +1,5 @@
 -- Who is where.
-use Rattle.std.specs.Prelude.{ℕ, ◌&&◌, ◌||◌, not, if◌then◌else◌, Bool, false, Option, Some, None, List, filter, find}
+use Rattle.std.specs.Prelude.{ℕ, ◌&&◌, ◌||◌, not, if◌then◌else◌, Bool, false, Option, Some, None, List, filter, find, option_and_then}
 use Rattle.std.specs.Str.{bytes_eq}
 use Rattle.login_base.specs.declared.ids.SessId.{SessId}
 use Rattle.login_base.specs.declared.ids.Uid.{Uid}
@@ -8,12 +8,12 @@ use Rattle.login_base.specs.declared.ids.DevNo.{DevNo}
 use Rattle.login_base.specs.declared.ids.LockNo.{LockNo}
 use Rattle.login_model.specs.declared.fact.Key.TheVariants as key
 use Rattle.login_model.specs.declared.fact.Fact.{Fact}
-use Rattle.login_model.specs.declared.fact.Fact.TheVariants.{Session, Active, Number}
+use Rattle.login_model.specs.declared.fact.Fact.TheVariants.{Number}
 use Rattle.login_model.specs.Trail.{Trail, value}
 use Rattle.login_model.specs.Start.{seat0}
 use Rattle.login_model.specs.Names.{names, insert, session_lt, conn_lt, user_lt, seat_lt, device_lt, lock_lt, session_in, conn_in, user_in, seat_in, device_in, lock_in}
-use Rattle.login_model.specs.Fresh.{is_open_phase, is_open_fact}
-pub use Rattle.login_model.specs.Facts.{is_connected_fact, is_gone_phase, is_session_fact, is_user_fact, is_seat_fact, is_device_fact, is_lock_fact, is_seat0, is_this_seat, is_this_number, is_on_terminal, number_or_zero, seat_in_fact, is_acting_fact, is_session_of, is_set, moment_or_zero}
+use Rattle.login_model.specs.Fresh.{is_open_fact}
+pub use Rattle.login_model.specs.Facts.{is_connected_fact, is_gone_phase, is_session_fact, is_user_fact, is_seat_fact, is_device_fact, is_lock_fact, is_seat0, is_this_seat, is_this_number, is_on_terminal, number_or_zero, seat_in_fact, active_in, is_acting_fact, is_session_of, is_set, moment_or_zero}
 
 -- whether a client is connected
 abbrev pub is_connected : Trail → ConnId → Bool
@@ -85,8 +85,7 @@ session_on t v = find (λ s. is_on_terminal (Number v) (value t (key.Sess s))) (
 
 -- the session that was made active on a seat without virtual terminals, if it is open
 abbrev pub acting : Trail → Fact → Option SessId
-acting t (Active s) = if is_open t s then Some s else None
-acting t _ = None
+acting t x = option_and_then (λ s. if is_open t s then Some s else None) (active_in x)
 
 -- the session that is active on a seat: on seat0 that of the current virtual terminal
 unfoldable pub active_on : Trail → List ℕ → Option SessId
@@ -98,8 +97,7 @@ is_acting_on t s (Some seat) = not (bytes_eq seat seat0) && is_acting_fact s (va
 
 -- whether a session of this fact was made active on its seat, which has no virtual terminals
 abbrev pub is_acting : Trail → SessId → Fact → Bool
-is_acting t s (Session x) = is_open_phase x.phase && is_acting_on t s x.seat
-is_acting t s _ = false
+is_acting t s x = is_open_fact x && is_acting_on t s (seat_in_fact x)
 
 -- whether a session is active on its seat: it is open; on seat0 its terminal is the current one, and
 -- another seat has it as its active session

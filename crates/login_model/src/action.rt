@@ -115,7 +115,7 @@ fn first_named(actions: &[Action], text: &[u8]) -> Option<Action>
 
 impl Action {
     ghost use Rattle.login_model.specs.declared.action.Action.{Action};
-    ghost use Rattle.login_model.specs.Action.{actions, first_named, name, place};
+    ghost use Rattle.login_model.specs.Action.{action_count, actions, first_named, name, place};
 
     /// All actions, in the order of a table's rows.
     pub const ALL: [Action; 29] = [
@@ -186,7 +186,7 @@ impl Action {
     /// The place of its row in a table.
     pub fn place(self) -> usize
         ensures value { result ≡ place self }
-        ensures bound { result < 29 }
+        ensures bound { result < action_count }
     {
         match self {
             Action::ChangeVt => 0,

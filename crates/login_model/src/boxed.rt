@@ -1,7 +1,7 @@
 // A value in memory of its own.
 
 ghost use Rattle.std.specs.Prelude.{◌≡◌, IfOk, IsTrue, is_some};
-ghost use Rattle.login_model.specs.Held.{held};
+ghost use Rattle.login_model.specs.inner.Held.{held};
 
 use login_base::NoMemory;
 use std::alloc::Global;

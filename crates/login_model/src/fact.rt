@@ -146,7 +146,7 @@ fn is_session_on(session: &Session, terminal: &Fact) -> bool
 
 /// What a fact says. Each call answers None, no or 0 of a fact of another kind.
 impl Fact {
-    ghost use Rattle.login_model.specs.Facts.{is_absent, client_in, is_connected_fact, is_client_of, client_or, session_in_fact, is_session_fact, is_open_fact, is_closing_fact, user_or_root, is_session_of, seat_in_fact, vt_in, fifo_in, leader_in, is_open_of, is_other_user, is_seated_of, is_on_terminal, is_set, controller_in, is_controlled_fact, is_controller_fact, is_known, is_user_fact, is_overdue_fact, owner_in, is_owned_fact, holder_in, is_fifo_of, fifo_session, handle_device, handle_in, is_handle_fact, is_this_handle, is_seat_fact, active_in, is_acting_fact, number_in_fact, number_or_zero, is_number_fact, is_this_number, moment_in_fact, moment_or_zero, device_kind_in, is_device_fact, graphics_seat, lock_in_fact, is_lock_fact, is_lock_of, holds_back, handles_key, inhibited_in, operation_in, under_way_in, running_in};
+    ghost use Rattle.login_model.specs.Facts.{is_absent, client_in, is_connected_fact, is_client_of, client_or, session_in_fact, is_session_fact, is_open_fact, is_closing_fact, user_or_root, is_session_of, seat_in_fact, vt_in, fifo_in, leader_in, is_open_of, is_other_user, is_seated_of, seated_user, terminal_in, is_on_terminal, is_set, controller_in, is_controlled_fact, is_controller_fact, is_known, is_user_fact, is_overdue_fact, owner_in, is_owned_fact, holder_in, is_fifo_of, fifo_owner, fifo_session, handle_device, handle_in, is_handle_fact, is_this_handle, is_seat_fact, active_in, is_acting_fact, number_in_fact, number_or_zero, is_number_fact, is_this_number, moment_in_fact, moment_or_zero, device_kind_in, is_device_fact, is_evdev, graphics_seat, lock_in_fact, lock_holder, is_lock_fact, is_lock_of, holds_back, handles_key, inhibited_in, operation_in, under_way_in, running_in};
 
     /// Whether nothing is there.
     pub fn is_absent(&self) -> bool
@@ -256,6 +256,17 @@ impl Fact {
         self.is_open_of(uid) && self.seat().is_some()
     }
 
+    /// The user of an open session that has a seat.
+    pub fn seated_user(&self) -> Option<u32>
+        ensures { result ≡ seated_user self.now }
+    {
+        if self.is_open() && self.seat().is_some() {
+            Some(self.user_or_root().0)
+        } else {
+            None
+        }
+    }
+
     /// The seat of a session.
     pub fn seat(&self) -> Option<SeatName>
         ensures { result ≡ seat_in_fact self.now }
@@ -282,6 +293,22 @@ impl Fact {
         ensures { result ≡ leader_in self.now }
     {
         Some(self.session()?.leader)
+    }
+
+    /// The virtual terminal of an open session of seat0.
+    pub fn terminal(&self) -> Option<u32>
+        ensures { result ≡ terminal_in self.now }
+    {
+        match self.seat() {
+            Some(seat) => {
+                if self.is_open() && seat.is_seat0() {
+                    Some(self.vt())
+                } else {
+                    None
+                }
+            }
+            None => None,
+        }
     }
 
     /// Whether it is that of an open session of seat0 on the terminal that the other fact names.
@@ -379,6 +406,16 @@ impl Fact {
         ensures { result ≡ is_fifo_of who self.now }
     {
         matches!(self.owner(), Some(Owner::Fifo(other, _)) if other == who)
+    }
+
+    /// The connection that keeps a session open with a handle.
+    pub fn fifo_owner(&self) -> Option<ConnId>
+        ensures { result ≡ fifo_owner self.now }
+    {
+        match self {
+            Fact::Owned(Owner::Fifo(who, _)) => Some(*who),
+            _ => None,
+        }
     }
 
     /// The session that a handle keeps open.
@@ -514,6 +551,13 @@ impl Fact {
         matches!(self, Fact::Device(_, _))
     }
 
+    /// Whether it is that of an input device, which alone can be read.
+    pub fn is_evdev(&self) -> bool
+        ensures { result ≡ is_evdev self.now }
+    {
+        self.device_kind() == Some(DevKind::Evdev)
+    }
+
     /// The seat of a graphics device that is present.
     pub fn graphics_seat(&self) -> Option<SeatName>
         ensures { result ≡ graphics_seat self.now }
@@ -532,6 +576,13 @@ impl Fact {
             Fact::Lock(lock) => Some(lock.get()),
             _ => None,
         }
+    }
+
+    /// The connection whose lock it is.
+    pub fn lock_holder(&self) -> Option<ConnId>
+        ensures { result ≡ lock_holder self.now }
+    {
+        Some(self.lock()?.holder)
     }
 
     /// Whether it is that of a lock that stands.

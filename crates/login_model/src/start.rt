@@ -1,7 +1,8 @@
 // The facts before the first mark, kept so that they can be answered by reference.
 
 ghost use Rattle.std.specs.Prelude.{◌≡◌};
-ghost use Rattle.login_model.specs.Start.{start_fact, start_facts};
+ghost use Rattle.login_model.specs.Start.{start_fact};
+ghost use Rattle.login_model.specs.inner.Start.{start_facts};
 
 use crate::fact::{Fact, Key};
 use crate::operation::Operation;

@@ -12,7 +12,7 @@ use Rattle.login_model.specs.Names.{is_above}
 use Rattle.login_model.proofs.Keys.{same_key-true, test}
 use Rattle.login_table.specs.KeyOrder.{key_lt}
 use Rattle.login_table.specs.Rows.{as_trail, Ascend, AscendFrom}
-use Rattle.login_table.specs.inner.Rows.{IsFront}
+use Rattle.login_table.specs.inner.Fronts.{IsFront}
 use Rattle.login_table.specs.declared.rows.Row.{Row}
 use Rattle.login_table.proofs.Standing.{value-set, value-start}
 use Rattle.login_table.proofs.KeyOrder.{key_order, no-test, below-apart, above-apart, above}

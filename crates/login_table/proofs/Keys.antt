@@ -8,7 +8,7 @@ use Rattle.login_model.proofs.Keys.{test}
 use Rattle.login_table.specs.KeyOrder.{key_lt, rank_of}
 use Rattle.login_table.specs.inner.Keys.{has, KeysAscend, KeysAscendFrom}
 use Rattle.login_table.specs.Listed.{first}
-use Rattle.login_table.specs.inner.Rows.{IsFront}
+use Rattle.login_table.specs.inner.Fronts.{IsFront}
 use Rattle.login_table.proofs.KeyOrder.{key_order, rank-below, no-test, below-apart, above-apart, above}
 
 -- ascending keys, opened

@@ -11,7 +11,7 @@ use Rattle.login_model.proofs.Keys.{same_key-true, test}
 use Rattle.login_model.proofs.Values.{key-refl}
 use Rattle.login_table.specs.KeyOrder.{key_lt, rank_of}
 use Rattle.login_table.specs.inner.Keys.{first_named, has, is_passed, KeysAscendFrom}
-use Rattle.login_table.specs.inner.Rows.{IsFront}
+use Rattle.login_table.specs.inner.Fronts.{IsFront}
 use Rattle.login_table.proofs.KeyOrder.{same-rank, rank-above, no-test}
 use Rattle.login_table.proofs.Keys.{keys-lower, keys-anyhow}
 

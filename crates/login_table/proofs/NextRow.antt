@@ -19,7 +19,7 @@ use Rattle.login_table.specs.inner.Nearest.{nearer}
 use Rattle.login_table.specs.inner.Places.{key_at, keys_at, PlacesAscend, put_place, raised}
 use Rattle.login_table.specs.Nearest.{is_lower}
 use Rattle.login_table.specs.Rows.{Ascend, as_trail, says_there}
-use Rattle.login_table.specs.inner.Rows.{IsFront}
+use Rattle.login_table.specs.inner.Fronts.{IsFront}
 use Rattle.login_table.specs.declared.rows.Row.{Row}
 use Rattle.login_table.proofs.Ascending.{exchanged-at, opened, closed, put_row, put-ascends, put-is}
 use Rattle.login_table.proofs.KeyOrder.{no-test}

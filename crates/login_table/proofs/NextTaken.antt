@@ -15,7 +15,7 @@ use Rattle.login_model.proofs.Values.{key-refl}
 use Rattle.login_table.specs.KeyOrder.{key_lt, pair_lt}
 use Rattle.login_table.specs.inner.Keys.{has, is_taken_passed, KeysAscendFrom}
 use Rattle.login_table.specs.Listed.{first}
-use Rattle.login_table.specs.inner.Rows.{IsFront}
+use Rattle.login_table.specs.inner.Fronts.{IsFront}
 use Rattle.login_table.proofs.KeyOrder.{no-test}
 use Rattle.login_table.proofs.Keys.{keys-lower, keys-anyhow}
 use Rattle.login_table.proofs.NextKey.{no-some, some-is}

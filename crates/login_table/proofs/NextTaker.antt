@@ -14,7 +14,7 @@ use Rattle.login_table.specs.declared.key_order.TheConstants.{TAKES}
 use Rattle.login_table.specs.KeyOrder.{key_lt, pair_lt}
 use Rattle.login_table.specs.inner.Keys.{has, holder_in, is_held_by, is_holder, is_holder_passed, KeysAscendFrom}
 use Rattle.login_table.specs.Listed.{first}
-use Rattle.login_table.specs.inner.Rows.{IsFront}
+use Rattle.login_table.specs.inner.Fronts.{IsFront}
 use Rattle.login_table.proofs.KeyOrder.{rank-below, no-test}
 use Rattle.login_table.proofs.Keys.{keys-lower}
 use Rattle.login_table.proofs.NextKey.{no-some, some-is}

@@ -11,7 +11,7 @@ use Rattle.login_model.specs.Start.{start_fact}
 use Rattle.login_model.specs.Trail.{Trail, value}
 use Rattle.login_model.proofs.Keys.{same_key-true, test}
 use Rattle.login_table.specs.KeyOrder.{rank_of}
-use Rattle.login_table.specs.Parts.{in_front, is_of_kind, is_of_others, joined}
+use Rattle.login_table.specs.inner.Parts.{in_front, is_of_kind, is_of_others, joined}
 use Rattle.login_table.specs.Rows.{RowList}
 use Rattle.login_table.proofs.KeyOrder.{no-test}
 use Rattle.login_table.proofs.Standing.{value-set, value-start}

@@ -15,7 +15,7 @@ use Rattle.login_table.specs.inner.Keys.{has, KeysAscend, KeysAscendFrom}
 use Rattle.login_table.specs.inner.Places.{key_at, keys_at, PlacesAscend, PlacesFrom, put_place, raised, raised_by, with_front}
 use Rattle.login_table.specs.Listed.{first}
 use Rattle.login_table.specs.Rows.{Ascend, AscendFrom}
-use Rattle.login_table.specs.inner.Rows.{IsFront}
+use Rattle.login_table.specs.inner.Fronts.{IsFront}
 use Rattle.login_table.specs.declared.rows.Row.{Row}
 use Rattle.login_table.proofs.Ascending.{opened, lower}
 use Rattle.login_table.proofs.KeyOrder.{below-apart}

@@ -4,6 +4,5 @@ pub mod inner
 pub mod KeyOrder
 pub mod Listed
 pub mod Nearest
-pub mod Parts
 pub mod Rows
 pub mod Stands

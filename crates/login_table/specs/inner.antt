@@ -1,5 +1,7 @@
--- What serves private functions: the keys of what is there, the places of their rows, and fronts of lists.
+-- What serves private functions and models: the keys of what is there, the places of their rows, fronts of lists, and
+-- facts in several rows.
 pub mod Keys
 pub mod Nearest
 pub mod Places
-pub mod Rows
+pub mod Fronts
+pub mod Parts

@@ -8,7 +8,7 @@ ghost use Rattle.login_table.specs.KeyOrder.{key_lt, rank_of};
 ghost use Rattle.login_table.specs.inner.Keys.{KeysAscend, first_named, has, holder_in, is_holder, is_holder_passed, is_passed, is_taken_passed};
 ghost use Rattle.login_table.specs.inner.Places.{PlacesAscend, key_at, key_or, keys_at, put_place, raised};
 ghost use Rattle.login_table.specs.Listed.{first};
-ghost use Rattle.login_table.specs.inner.Rows.{IsFront};
+ghost use Rattle.login_table.specs.inner.Fronts.{IsFront};
 
 use crate::key_order::{TAKES, is_key_below, rank_of};
 use crate::name::{Name, is_above};
@@ -26,7 +26,7 @@ pub(crate) struct Places {
 
 impl Model for Places {
     ghost use Rattle.std.specs.Prelude.{◌-◌, vec_len, vec_capacity};
-    ghost use Rattle.login_table.specs.inner.Rows.{PlaceList};
+    ghost use Rattle.login_table.specs.inner.Places.{PlaceList};
 
     ghost Value = { PlaceList };
 

@@ -8,7 +8,7 @@ ghost use Rattle.login_model.specs.declared.fact.Key.{Key as AnyKey};
 ghost use Rattle.login_model.specs.declared.mark.Mark.TheVariants.{Set};
 ghost use Rattle.login_table.specs.KeyOrder.{key_lt};
 ghost use Rattle.login_table.specs.Rows.{Ascend, says_there};
-ghost use Rattle.login_table.specs.inner.Rows.{IsFront};
+ghost use Rattle.login_table.specs.inner.Fronts.{IsFront};
 ghost use Rattle.login_table.specs.declared.rows.Row.{Row as AnyRow};
 
 use crate::key_order::is_key_below;

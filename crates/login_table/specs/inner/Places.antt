@@ -5,6 +5,11 @@ use Rattle.login_model.specs.declared.fact.Key.TheVariants.{Vt}
 use Rattle.login_model.specs.declared.fact.Fact.TheVariants.{Absent}
 use Rattle.login_table.specs.declared.rows.Row.{Row}
 
+-- what the places of rows are seen as: the numbers in order, and how many more go in without memory
+pub record PlaceList : Type 0 where
+  pub list : List ℕ
+  pub spare : ℕ
+
 -- the key of the row at a place, or another where there is no row
 abbrev pub key_or : List Row → ℕ → Key → Key
 key_or rows p k = (slice_index_or rows p (record { key = k; fact = Absent })).key

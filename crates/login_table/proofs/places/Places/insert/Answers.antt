@@ -1,5 +1,5 @@
 use Rattle.std.proofs.Common.{◌-◌, ◌^◌, ◌∙◌, ap, true}
-use Rattle.login_table.specs.inner.Rows.{PlaceList}
+use Rattle.login_table.specs.inner.Places.{PlaceList}
 use Rattle.login_table.proofs.RowPlaces.{place-missed, stays-in}
 use Rattle.login_table.proofs.places.Places.insert.Goals as goal
 

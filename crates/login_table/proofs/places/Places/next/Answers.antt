@@ -1,8 +1,7 @@
 use Rattle.std.proofs.Common.{◌∙◌, sym, ap, subst, None, List}
 use Rattle.login_model.specs.declared.fact.Key.{Key}
 use Rattle.login_table.specs.inner.Keys.{first_named, KeysAscendFrom}
-use Rattle.login_table.specs.inner.Places.{keys_at}
-use Rattle.login_table.specs.inner.Rows.{PlaceList}
+use Rattle.login_table.specs.inner.Places.{PlaceList, keys_at}
 use Rattle.login_table.proofs.Keys.{keys-opened, keys-closed}
 use Rattle.login_table.proofs.NextKey.{next-key, rest-ascends}
 use Rattle.login_table.proofs.RowPlaces.{keys-of-slice, rest-keys}

@@ -2,8 +2,7 @@ use Rattle.std.proofs.Common.{◌∙◌, ℕ, ap, subst, List}
 use Rattle.login_model.specs.declared.fact.Key.TheVariants.{Taken}
 use Rattle.login_model.specs.Names.{IsNext, device_lt}
 use Rattle.login_table.specs.inner.Keys.{has}
-use Rattle.login_table.specs.inner.Places.{keys_at}
-use Rattle.login_table.specs.inner.Rows.{PlaceList}
+use Rattle.login_table.specs.inner.Places.{PlaceList, keys_at}
 use Rattle.login_table.proofs.RowPlaces.{keys-of-slice}
 use Rattle.login_table.proofs.places.Places.next_taken.Goals as goal
 

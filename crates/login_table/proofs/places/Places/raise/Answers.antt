@@ -1,6 +1,6 @@
 use Rattle.std.proofs.Common.{◌≡◌, ◌-◌, ◌^◌, ◌∙◌, ℕ, sym, ap, subst, nat_lt, length, List, vec_len}
-use Rattle.login_table.specs.inner.Places.{PlacesAscend, raised}
-use Rattle.login_table.specs.inner.Rows.{PlaceList, IsFront}
+use Rattle.login_table.specs.inner.Places.{PlaceList, PlacesAscend, raised}
+use Rattle.login_table.specs.inner.Fronts.{IsFront}
 use Rattle.login_table.proofs.RowPlaces.{raised-whole, rest-ascend}
 use Rattle.login_table.proofs.places.Places.raise.Goals as goal
 

@@ -1,5 +1,5 @@
 use Rattle.std.proofs.Common.{◌-◌, ◌^◌, ◌∙◌, ap, false}
-use Rattle.login_table.specs.inner.Rows.{PlaceList}
+use Rattle.login_table.specs.inner.Places.{PlaceList}
 use Rattle.login_table.proofs.RowPlaces.{place-found, stays-out}
 use Rattle.login_table.proofs.places.Places.remove.Goals as goal
 

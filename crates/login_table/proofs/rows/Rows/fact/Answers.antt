@@ -1,7 +1,7 @@
 use Rattle.std.proofs.Common.{◌≡◌, ◌<◌, ◌∙◌, sym, ap, subst, None, arith, length, List, vec_len}
 use Rattle.login_model.specs.Trail.{value}
 use Rattle.login_table.specs.Rows.{RowList}
-use Rattle.login_table.specs.inner.Rows.{IsFront}
+use Rattle.login_table.specs.inner.Fronts.{IsFront}
 use Rattle.login_table.specs.KeyOrder.{key_lt}
 use Rattle.login_table.specs.declared.rows.Row.{Row}
 use Rattle.login_table.proofs.Ascending.{opened, found-at, missed, missed-at}

@@ -2,7 +2,7 @@ use Rattle.std.proofs.Common.{◌≡◌, ◌<◌, ◌≤◌, ◌-◌, ◌^◌, �
 use Rattle.login_model.specs.Trail.{value}
 use Rattle.login_model.specs.declared.mark.Mark.TheVariants.{Set}
 use Rattle.login_table.specs.Rows.{RowList, as_trail}
-use Rattle.login_table.specs.inner.Rows.{IsFront}
+use Rattle.login_table.specs.inner.Fronts.{IsFront}
 use Rattle.login_table.specs.KeyOrder.{key_lt}
 use Rattle.login_table.specs.inner.Places.{PlacesAscend, put_place}
 use Rattle.login_table.specs.declared.rows.Row.{Row}

@@ -1,5 +1,5 @@
 -- The value that is held.
-use Rattle.std.specs.Prelude.{Bool, IsTrue, Option, Some, None, is_some}
+use Rattle.std.specs.Prelude.{IsTrue, Option, Some, None, is_some}
 use Rattle.std.proofs.Common.{true≢false, sym}
 
 -- the value of an option that has one
