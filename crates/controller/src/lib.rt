@@ -5,12 +5,8 @@
 ghost use Rattle.std.specs.Prelude.{◌≡◌};
 ghost use Rattle.login_table.specs.Home.{is_home};
 ghost use Rattle.login_table.specs.declared.home.Home.TheVariants.{Controls};
-ghost use Rattle.login_model.specs.Names.{IsNext, conn_lt};
-ghost use Rattle.login_model.specs.Trail.{Trail};
-ghost use Rattle.login_model.specs.Where.{is_connected};
-ghost use Rattle.login_table.specs.Stands.{Stands};
 
-use login_base::{ConnId, NoMemory};
+use login_base::NoMemory;
 use login_model::{Fact, Key};
 use login_table::{CONNECTIONS, Home, Rows, Table, rank_of};
 use std::alloc::Global;
@@ -25,7 +21,7 @@ pub struct Controller {
 }
 
 impl Model for Controller {
-    ghost use Rattle.login_table.specs.Parts.{joined};
+    ghost use Rattle.login_table.specs.inner.Parts.{joined};
     ghost use Rattle.login_table.specs.Rows.{RowList};
     ghost use Rattle.login_table.specs.declared.key_order.TheConstants.{CONNECTIONS};
 
@@ -34,7 +30,7 @@ impl Model for Controller {
     ghost view = { λ t. joined CONNECTIONS t.connections t.controls };
 }
 
-#[tactic(auto, unfolding(login_table::specs::Parts::joined))]
+#[tactic(auto, unfolding(login_table::specs::inner::Parts::joined))]
 impl Table for Controller {
     ghost owns = { is_home Controls };
 
@@ -70,14 +66,5 @@ impl Table for Controller {
         } else {
             self.controls.set(key, fact);
         }
-    }
-}
-
-impl Controller {
-    /// The least connection above that one that is connected.
-    pub fn next_conn(&self, above: Option<ConnId>) -> Option<ConnId>
-        ensures { (t : Trail) → Stands (is_home Controls) self.now.trail t → IsNext conn_lt (is_connected t) above result }
-    {
-        self.next(above)
     }
 }

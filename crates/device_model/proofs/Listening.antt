@@ -8,7 +8,7 @@ use Rattle.login_model.specs.declared.answer.Input.{Input}
 use Rattle.login_model.specs.Reading.{last_few}
 use Rattle.login_model.specs.Same.{same_device}
 use Rattle.login_model.proofs.Keys.{test}
-use Rattle.login_table.specs.inner.Rows.{IsFront}
+use Rattle.login_table.specs.inner.Fronts.{IsFront}
 use Rattle.device_model.specs.Ears.{is_ear_of, heard_of, hears, AreOnce}
 use Rattle.device_model.specs.inner.Ears.{hear_ear}
 use Rattle.device_model.specs.declared.ears.Ear.{Ear}

@@ -1,2 +1,2 @@
--- What serves private functions.
+-- What serves private functions and models: the handles that listen.
 pub mod Ears

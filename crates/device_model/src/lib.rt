@@ -8,9 +8,7 @@ ghost use Rattle.login_table.specs.Home.{is_home};
 ghost use Rattle.login_table.specs.declared.home.Home.TheVariants.{Devices};
 ghost use Rattle.login_base.specs.declared.ids.DevNo.{DevNo as AnyDevice};
 ghost use Rattle.login_base.specs.declared.ids.HandleNo.{HandleNo as AnyHandle};
-ghost use Rattle.login_model.specs.Names.{IsNext, device_lt};
 ghost use Rattle.login_model.specs.Trail.{Trail, value};
-ghost use Rattle.login_model.specs.Where.{is_device};
 ghost use Rattle.login_model.specs.declared.answer.Input.{Input as AnyInput};
 ghost use Rattle.login_model.specs.declared.fact.Key.{Key as AnyKey};
 ghost use Rattle.login_model.specs.declared.mark.Mark.TheVariants.{Set};
@@ -101,13 +99,6 @@ impl Table for DeviceModel {
 }
 
 impl DeviceModel {
-    /// The least device above that one that is there.
-    pub fn next_device(&self, above: Option<DevNo>) -> Option<DevNo>
-        ensures { (t : Trail) → Stands (is_home Devices) self.now.trail t → IsNext device_lt (is_device t) above result }
-    {
-        self.next(above)
-    }
-
     /// Makes at least so many spare rings, each for 64 inputs.
     pub fn rings(&mut self, rings: usize) -> Result<(), NoMemory>
         ensures ok { OnOk result (rings ≤ self.new.rings) }

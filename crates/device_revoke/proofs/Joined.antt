@@ -4,7 +4,7 @@ use Rattle.login_model.specs.declared.fact.Key.{Key}
 use Rattle.login_model.specs.declared.fact.Fact.{Fact}
 use Rattle.login_model.specs.Trail.{value}
 use Rattle.login_table.specs.KeyOrder.{rank_of}
-use Rattle.login_table.specs.Parts.{joined, is_of_kind}
+use Rattle.login_table.specs.inner.Parts.{joined, is_of_kind}
 use Rattle.login_table.specs.Rows.{RowList}
 use Rattle.login_table.proofs.Parts.{Sets, joined-one, joined-other, joined-none, set-one, set-other}
 

@@ -30,7 +30,7 @@ pub struct DeviceRevoke {
 }
 
 impl Model for DeviceRevoke {
-    ghost use Rattle.login_table.specs.Parts.{joined};
+    ghost use Rattle.login_table.specs.inner.Parts.{joined};
     ghost use Rattle.login_table.specs.Rows.{RowList};
     ghost use Rattle.login_table.specs.declared.key_order.TheConstants.{LIVES, OWNERS, TAKES};
 
@@ -39,7 +39,7 @@ impl Model for DeviceRevoke {
     ghost view = { λ t. joined OWNERS t.owners (joined LIVES t.lives (joined TAKES t.takes t.awaits)) };
 }
 
-#[tactic(auto, unfolding(login_table::specs::Parts::joined))]
+#[tactic(auto, unfolding(login_table::specs::inner::Parts::joined))]
 impl Table for DeviceRevoke {
     ghost owns = { is_home Takes };
 

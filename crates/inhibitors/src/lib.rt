@@ -4,12 +4,8 @@
 ghost use Rattle.std.specs.Prelude.{◌≡◌};
 ghost use Rattle.login_table.specs.Home.{is_home};
 ghost use Rattle.login_table.specs.declared.home.Home.TheVariants.{Locks};
-ghost use Rattle.login_model.specs.Names.{IsNext, lock_lt};
-ghost use Rattle.login_model.specs.Trail.{Trail};
-ghost use Rattle.login_model.specs.Where.{is_lock};
-ghost use Rattle.login_table.specs.Stands.{Stands};
 
-use login_base::{LockNo, NoMemory};
+use login_base::NoMemory;
 use login_model::{Fact, Key};
 use login_table::{Home, Rows, Table};
 use std::alloc::Global;
@@ -54,14 +50,5 @@ impl Table for Inhibitors {
 
     fn set(&mut self, key: Key, fact: Fact) {
         self.rows.set(key, fact);
-    }
-}
-
-impl Inhibitors {
-    /// The least lock above that one that stands.
-    pub fn next_lock(&self, above: Option<LockNo>) -> Option<LockNo>
-        ensures { (t : Trail) → Stands (is_home Locks) self.now.trail t → IsNext lock_lt (is_lock t) above result }
-    {
-        self.next(above)
     }
 }

@@ -21,7 +21,7 @@ pub struct Sessions {
 }
 
 impl Model for Sessions {
-    ghost use Rattle.login_table.specs.Parts.{joined};
+    ghost use Rattle.login_table.specs.inner.Parts.{joined};
     ghost use Rattle.login_table.specs.Rows.{RowList};
     ghost use Rattle.login_table.specs.declared.key_order.TheConstants.{SESSIONS};
 
@@ -30,7 +30,7 @@ impl Model for Sessions {
     ghost view = { λ t. joined SESSIONS t.sessions t.hints };
 }
 
-#[tactic(auto, unfolding(login_table::specs::Parts::joined))]
+#[tactic(auto, unfolding(login_table::specs::inner::Parts::joined))]
 impl Table for Sessions {
     ghost owns = { is_home Sessions };
 

@@ -1,5 +1,5 @@
-// The marks of a request for a terminal, of acknowledging a pause, of giving a device back, of settling a switch, and of
-// a session's devices that are taken by force and come back.
+// The marks of a request for a terminal, of acknowledging a pause, of giving a device back, of settling a switch, and
+// of a session's devices that are taken by force and come back.
 
 ghost use Rattle.std.specs.Prelude.{◌≡◌};
 ghost use Rattle.login_laws.specs.Sound.{Awaits};

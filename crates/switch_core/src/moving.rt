@@ -64,7 +64,8 @@ impl<'a, F: Look> Ahead<'a, F> {
         self.arrive(old);
     }
 
-    /// The terminal changes: the session that is active loses its devices, and the one that is on the terminal gets its.
+    /// The terminal changes: the session that is active loses its devices, and the one that is on the terminal gets
+    /// its.
     pub fn move_now(&mut self, conf: &Conf, vt: u32)
         requires stays { Keeps is_switching self.old.before self.old.trail }
         requires numbered { IsNumbered (move_to conf.now vt (active_on self.old.trail seat0) self.old.trail) }

@@ -12,8 +12,8 @@ fn tell_connections(rt: &impl Abort, controller: &mut Controller) -> Result<(), 
     controller.apply(Key::Conn(ConnId(7)), Fact::Connected(Uid(1000)));
     controller.apply(Key::Conn(ConnId(2)), Fact::Connected(Uid(0)));
     controller.apply(Key::Conn(ConnId(7)), Fact::Absent);
-    assert!(rt; controller.next_conn(None) == Some(ConnId(2)));
-    assert!(rt; controller.next_conn(Some(ConnId(2))) == None);
+    assert!(rt; controller.next::<ConnId>(None) == Some(ConnId(2)));
+    assert!(rt; controller.next::<ConnId>(Some(ConnId(2))) == None);
     Ok(())
 }
 
@@ -34,7 +34,7 @@ fn a_session_has_its_controller(rt: HostRuntime) -> Result<(), NoMemory> {
         Some(fact) => assert!(rt; fact.is_controller(ConnId(2))),
         None => assert!(rt; false),
     }
-    assert!(rt; controller.next_conn(None).is_none());
+    assert!(rt; controller.next::<ConnId>(None).is_none());
     assert!(rt; controller.look(&Key::Vt).is_none());
     Ok(())
 }

@@ -33,10 +33,10 @@ fn tell_devices(
         Fact::Device(DevKind::Evdev, Boxed::new(rt.alloc(), SeatName::SEAT0)?),
     );
     devices.apply(Key::Mode(CARD), Fact::Number(7));
-    assert!(rt; devices.next_device(None) == Some(MOUSE));
-    assert!(rt; devices.next_device(Some(MOUSE)) == Some(CARD));
+    assert!(rt; devices.next::<DevNo>(None) == Some(MOUSE));
+    assert!(rt; devices.next::<DevNo>(Some(MOUSE)) == Some(CARD));
     devices.apply(Key::Dev(CARD), Fact::Absent);
-    assert!(rt; devices.next_device(Some(MOUSE)) == None);
+    assert!(rt; devices.next::<DevNo>(Some(MOUSE)) == None);
     match devices.look(&Key::Mode(CARD)) {
         Some(fact) => assert!(rt; matches!(fact, Fact::Number(7))),
         None => assert!(rt; false),

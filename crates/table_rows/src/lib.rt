@@ -1,5 +1,5 @@
-//! Tests of the tables of facts, of the table of actions, of configurations, of switches, and of texts of ids and seats,
-//! through public calls.
+//! Tests of the tables of facts, of the table of actions, of configurations, of switches, and of texts of ids and
+//! seats, through public calls.
 //!
 //! They stand in a crate of their own, since a crate with tests is proved a second time with them.
 #![tactic(auto)]

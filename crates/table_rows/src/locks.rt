@@ -35,10 +35,10 @@ fn tell_locks(rt: &(impl Abort + AllocGlobal), locks: &mut Inhibitors) -> Result
     locks.room(3)?;
     locks.apply(Key::Lock(LockNo(7)), delay(rt.alloc())?);
     locks.apply(Key::Lock(LockNo(2)), delay(rt.alloc())?);
-    assert!(rt; locks.next_lock(None) == Some(LockNo(2)));
-    assert!(rt; locks.next_lock(Some(LockNo(2))) == Some(LockNo(7)));
+    assert!(rt; locks.next::<LockNo>(None) == Some(LockNo(2)));
+    assert!(rt; locks.next::<LockNo>(Some(LockNo(2))) == Some(LockNo(7)));
     locks.apply(Key::Lock(LockNo(7)), Fact::Absent);
-    assert!(rt; locks.next_lock(Some(LockNo(2))) == None);
+    assert!(rt; locks.next::<LockNo>(Some(LockNo(2))) == None);
     assert!(rt; locks.look(&Key::Lock(LockNo(2))).is_some());
     assert!(rt; locks.look(&Key::Vt).is_none());
     Ok(())
