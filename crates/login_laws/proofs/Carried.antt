@@ -68,7 +68,8 @@ use Rattle.login_model.specs.declared.mark.Notice.{Notice}
 pub other : (k j : Key) (x : Fact) (t : Trail) → same_key k j ≡ false → value (put k x t) j ≡ value t j
 other k j x t e = value-put k j x t ∙ ap (λ (b : Bool). cond b x (value t j)) e
 
--- whether a setting is about no connection, session or lock, no clock and no operation, brings no device, and begins or ends no switch
+-- whether a setting is about no connection, session or lock, no clock and no operation, brings no device, and begins or
+-- ends no switch
 abbrev pub is_plain : Key → Fact → Bool
 is_plain (key.Conn c) x = false
 is_plain (key.Sess s) x = false
@@ -573,7 +574,8 @@ create-carried r k c x s h t =
     (r.trans t d e (r.trans t b d (put-behind r (key.Owner h) o refl t a (know-carried r x.uid t)) (k.sess s y b)) (r.say All (notice.SessionNew s) d))
     (appear_on-carried r (seat_of x.seat) s e)
 
--- What a granted event does by itself: what is carried, or a terminal asked for, an operation asked for, or one that is over.
+-- What a granted event does by itself: what is carried, or a terminal asked for, an operation asked for, or one that is
+-- over.
 pub direct-carried : (r : Carried) → Clocked r → Comes r → (Q : Trail → Type 0) (U : Setup) (e : Event) (t : Trail) → Arrives r t e → ((u : Trail) → r.R t u → Q u)
     → ((v : ℕ) → asked_vt t e ≡ Some v → Q (request v t)) → ((k : OpKind) → AsksFor U t e k → Q (ask_operation k (is_blocked t k) t)) → (e ≡ Happens JobDone → Q (job_done t)) → Q (direct U e t)
 unfolding direct disconnect asked_vt

@@ -32,7 +32,7 @@ use Rattle.login_laws.proofs.Tame.{Later, Tame, tame, tame-arrives, tame-clocked
 use Rattle.login_model.proofs.Values.{value-put, same-refl}
 
 -- a session comes, of these texts; no connection comes or goes, and no other session comes
-pub record Comes (s : SessId) (texts : SessionTexts) (t u : Trail) : Type 0 where
+pub record SessionComes (s : SessId) (texts : SessionTexts) (t u : Trail) : Type 0 where
   pub connections : (c : ConnId) → value u (key.Conn c) ≡ value t (key.Conn c)
   pub others : (r : SessId) → (s.0 == r.0) ≡ false → Later (value t (key.Sess r)) (value u (key.Sess r))
   pub own : texts_in (value u (key.Sess s)) ≡ Some texts
@@ -40,21 +40,21 @@ pub record Comes (s : SessId) (texts : SessionTexts) (t u : Trail) : Type 0 wher
 later-then : (x y z : Fact) → Later x y → Later y z → Later x z
 later-then x y z p q = record { opened = λ e. p.opened (q.opened e); here = λ e. p.here (q.here e); texts = q.texts ∙ p.texts }
 
-comes-then : (s : SessId) (texts : SessionTexts) (t u v : Trail) → Comes s texts t u → Tame u v → Comes s texts t v
+comes-then : (s : SessId) (texts : SessionTexts) (t u v : Trail) → SessionComes s texts t u → Tame u v → SessionComes s texts t v
 comes-then s texts t u v p q = record {
   connections = λ c. q.connections c ∙ p.connections c;
   others = λ r e. later-then (value t (key.Sess r)) (value u (key.Sess r)) (value v (key.Sess r)) (p.others r e) (q.sessions r);
   own = (q.sessions s).texts ∙ p.own;
 }
 
-comes-set : (s : SessId) (y : Fact) (texts : SessionTexts) (t u : Trail) → texts_in y ≡ Some texts → Tame t u → Comes s texts t (put (key.Sess s) y u)
+comes-set : (s : SessId) (y : Fact) (texts : SessionTexts) (t u : Trail) → texts_in y ≡ Some texts → Tame t u → SessionComes s texts t (put (key.Sess s) y u)
 comes-set s y texts t u e q = record {
   connections = λ c. other (key.Sess s) (key.Conn c) y u refl ∙ q.connections c;
   others = λ r n. subst (Later (value t (key.Sess r))) (sym (other (key.Sess s) (key.Sess r) y u n)) (q.sessions r);
   own = ap texts_in (value-put (key.Sess s) (key.Sess s) y u ∙ ap (λ (b : Bool). cond b y (value u (key.Sess s))) (same-refl s.0)) ∙ e;
 }
 
-pub create-comes : (c : ConnId) (x : Creation) (s : SessId) (h : HandleNo) (t : Trail) → Comes s (created_session c x h).texts t (create c x s h t)
+pub create-comes : (c : ConnId) (x : Creation) (s : SessId) (h : HandleNo) (t : Trail) → SessionComes s (created_session c x h).texts t (create c x s h t)
 unfolding create
 create-comes c x s h t =
     let a = know x.uid t in
@@ -71,19 +71,19 @@ create-comes c x s h t =
 same-connections : (t u : Trail) → ((c : ConnId) → value u (key.Conn c) ≡ value t (key.Conn c)) → connections u ≡ connections t
 same-connections t u e = count-same conn_lt (is_connected u) (is_connected t) (connections u) (connections t) (connections-list u) (connections-list t) (λ c. ap is_connected_fact (e c))
 
-abbrev pub IsNew : Call → Type 0
-IsNew (call.Create x) = Unit {0}
-IsNew _ = ⊥
+abbrev pub IsCreation : Call → Type 0
+IsCreation (call.Create x) = Unit {0}
+IsCreation _ = ⊥
 
 -- an event that is no connect, no disconnect and no creation
 abbrev pub IsTame : Event → Type 0
 IsTame (Connect c u) = ⊥
 IsTame (Disconnect c) = ⊥
-IsTame (Calls r) = IsNew r.call → ⊥
+IsTame (Calls r) = IsCreation r.call → ⊥
 IsTame _ = Unit {0}
 
-new-at : (x : Call) (y : Creation) → x ≡ call.Create y → IsNew x
-new-at x y e = subst IsNew (sym e) tt
+new-at : (x : Call) (y : Creation) → x ≡ call.Create y → IsCreation x
+new-at x y e = subst IsCreation (sym e) tt
 
 pub event-tame : (U : Setup) (e : Event) (t : Trail) → IsTame e → Tame t (settle U (direct U e t))
 unfolding direct
@@ -96,13 +96,13 @@ event-tame U (Happens x) t n = (let u = direct U (Happens x) t in tame.trans t u
 event-tame U (Tick m) t n = (let u = direct U (Tick m) t in tame.trans t u (settle U u) (tick-carried tame tame-clocked U m t) (settle-carried tame tame-switched tame-operated U u))
 event-tame U Stop t n = settle-carried tame tame-switched tame-operated U t
 
-pub event-comes : (U : Setup) (c : ConnId) (x : Creation) (s : SessId) (h : HandleNo) (t : Trail) → Comes s (created_session c x h).texts t (settle U (create c x s h t))
+pub event-comes : (U : Setup) (c : ConnId) (x : Creation) (s : SessId) (h : HandleNo) (t : Trail) → SessionComes s (created_session c x h).texts t (settle U (create c x s h t))
 event-comes U c x s h t = (let u = create c x s h t in comes-then s (created_session c x h).texts t u (settle U u) (create-comes c x s h t) (settle-carried tame tame-switched tame-operated U u))
 
 pub tame-connections : (t u : Trail) → Tame t u → length (connections u) ≡ length (connections t)
 tame-connections t u p = ap length (same-connections t u p.connections)
 
-pub comes-connections : (s : SessId) (texts : SessionTexts) (t u : Trail) → Comes s texts t u → length (connections u) ≡ length (connections t)
+pub comes-connections : (s : SessId) (texts : SessionTexts) (t u : Trail) → SessionComes s texts t u → length (connections u) ≡ length (connections t)
 comes-connections s texts t u p = ap length (same-connections t u p.connections)
 
 connected-or : (b : Bool) (c d : ConnId) (x y : Fact) → (c.0 == d.0) ≡ b → is_connected_fact (cond b x y) ≡ true → (d ≡ c) ⊎ (is_connected_fact y ≡ true)

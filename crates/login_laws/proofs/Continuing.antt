@@ -14,11 +14,11 @@ use Rattle.login_laws.proofs.Asked.{granted-adds}
 use Rattle.login_laws.proofs.JournalLaws.{one-after}
 
 -- an event makes marks
-record Adds (t u : Trail) : Type 0 where
+record MakesMarks (t u : Trail) : Type 0 where
   marks : List Mark
   leads : after t marks ≡ u
 
-step-adds : (U : Setup) (v : Verdict) (e : Event) (t : Trail) → v ≡ verdict U t e → Adds t (stepped U v e t)
+step-adds : (U : Setup) (v : Verdict) (e : Event) (t : Trail) → v ≡ verdict U t e → MakesMarks t (stepped U v e t)
 step-adds U Granted e t p = (let a = granted-adds U e t (sym p) in record { marks = a.marks; leads = a.leads })
 step-adds U (Denied r) e t p = record { marks = []; leads = refl }
 

@@ -15,7 +15,7 @@ use Rattle.login_model.specs.declared.lock.Lock.{Lock}
 use Rattle.login_model.specs.declared.lock.LockMode.TheVariants.{Block}
 use Rattle.login_model.specs.Policy.{controls, is_controller_fact}
 use Rattle.login_model.specs.Procedure.{each, in_phase, release, shut, untake}
-use Rattle.login_model.specs.Direct.{close, close_handle, close_owned, controlled_by, disconnect, end_sessions, exit, fifo_in, is_fifo_of, is_lock_of, is_this_handle, kept_open_by, locks_of, user_or_root, unlock}
+use Rattle.login_model.specs.Direct.{close, close_handle, close_owned, controlled_by, disconnect, end_sessions, exit, fifo_in, is_fifo_of, is_lock_of, is_this_handle, kept_open_by, locks_of, owns_fifo, user_or_root, unlock}
 use Rattle.login_model.specs.declared.setup.Setup.{Setup}
 use Rattle.login_model.specs.declared.session.Phase.TheVariants.{Gone}
 use Rattle.login_model.specs.declared.mark.Notice.TheVariants.{SessionRemoved}
@@ -257,7 +257,7 @@ none-controlled c t g s e =
 in-kept : (t : Trail) (c : ConnId) (s : SessId) → Opened (value t) s → value t (key.Owner (fifo_in (value t (key.Sess s)))) ≡ fact.Owned (owner.Fifo c s) → IsIn s (kept_open_by t c)
 unfolding kept_open_by
 in-kept t c s o e =
-    filter-keeps (λ r. is_fifo_of c (value t (key.Owner (fifo_in (value t (key.Sess r)))))) s (open_sessions t) (ap (is_fifo_of c) e ∙ same-refl c.0)
+    filter-keeps (owns_fifo t c) s (open_sessions t) (ap (is_fifo_of c) e ∙ same-refl c.0)
     (in-open_sessions t s (open-there (value t (key.Sess s)) o) o)
 
 -- no open session is kept so

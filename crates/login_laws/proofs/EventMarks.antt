@@ -151,8 +151,8 @@ most_itself t = 6 * taken_count t + 8 * length (sessions t) + 4 * length (users 
 abbrev gross : Trail → ℕ
 gross t = base t + 3 * length (locks t)
 
--- so many marks at most, one more device taken at most, and what is counted grows by no more than one device does; where
--- nothing is brought there is no more than before
+-- so many marks at most, one more device taken at most, and what is counted grows by no more than one device does;
+-- where nothing is brought there is no more than before
 pub record Steps (brings : Bool) (t u : Trail) : Type 0 where
   pub falls : brings ≡ false → Falls (value t) (value u)
   marks : length u ≤ length t + most_itself t

@@ -33,7 +33,7 @@ owned g (fact.Owned o) t i e = cc
 owned g _ t i e = i
 
 -- what holds of each handle after some marks: none from the fresh one on has an owner, each before it has
-pub record Counted (t : Trail) : Type 0 where
+pub record HandlesGiven (t : Trail) : Type 0 where
   pub from_one : 1 ≤ fresh_handle t
   pub free : (h : HandleNo) → fresh_handle t ≤ h.0 → value t (key.Owner h) ≡ fact.Absent
   pub given : (h : HandleNo) → 1 ≤ h.0 → h.0 < fresh_handle t → value t (key.Owner h) ≡ fact.Absent → ⊥
@@ -41,7 +41,7 @@ pub record Counted (t : Trail) : Type 0 where
 not-same : (a b : ℕ) → (a == b) ≡ false → a ≡ b → ⊥
 not-same a b e p = grind (arith, nat_tests)
 
-free-at : (b : Bool) (g h : HandleNo) (x : Fact) (t : Trail) → (g.0 == h.0) ≡ b → IsInTurn (key.Owner g) x t → Counted t
+free-at : (b : Bool) (g h : HandleNo) (x : Fact) (t : Trail) → (g.0 == h.0) ≡ b → IsInTurn (key.Owner g) x t → HandlesGiven t
     → fresh_handle (Set (key.Owner g) x ∷ t) ≤ h.0 → cond b x (value t (key.Owner h)) ≡ fact.Absent
 free-at true g h x t e i c l =
     let same = same-number g.0 h.0 e in
@@ -52,7 +52,7 @@ free-at true g h x t e i c l =
 free-at false g h x t e i c l =
     c.free h (elim (turned g x t i) [ inl p ↦ (let a = p.0 in omega arith) | inr p ↦ (let a = p.0 in omega arith) ])
 
-given-at : (b : Bool) (g h : HandleNo) (x : Fact) (t : Trail) → (g.0 == h.0) ≡ b → IsInTurn (key.Owner g) x t → Counted t
+given-at : (b : Bool) (g h : HandleNo) (x : Fact) (t : Trail) → (g.0 == h.0) ≡ b → IsInTurn (key.Owner g) x t → HandlesGiven t
     → 1 ≤ h.0 → h.0 < fresh_handle (Set (key.Owner g) x ∷ t) → cond b x (value t (key.Owner h)) ≡ fact.Absent → ⊥
 given-at true g h x t e i c o l = owned g x t i
 given-at false g h x t e i c o l =
@@ -61,7 +61,7 @@ given-at false g h x t e i c o l =
       | inr p ↦ (let a = p.0 in let b = p.1 in let n = not-same g.0 h.0 e in omega arith)
     ])
 
-counted-owner : (g : HandleNo) (x : Fact) (t : Trail) → IsInTurn (key.Owner g) x t → Counted t → Counted (Set (key.Owner g) x ∷ t)
+counted-owner : (g : HandleNo) (x : Fact) (t : Trail) → IsInTurn (key.Owner g) x t → HandlesGiven t → HandlesGiven (Set (key.Owner g) x ∷ t)
 unfolding value
 counted-owner g x t i c = record {
   from_one = (let f = c.from_one in elim (turned g x t i) [ inl p ↦ (let a = p.0 in omega arith) | inr p ↦ (let a = p.0 in omega arith) ]);
@@ -69,12 +69,12 @@ counted-owner g x t i c = record {
   given = λ h o l. given-at (g.0 == h.0) g h x t refl i c o l;
 }
 
-counted-set : (k : Key) (x : Fact) (t : Trail) → IsInTurn k x t → Counted t → Counted (Set k x ∷ t)
+counted-set : (k : Key) (x : Fact) (t : Trail) → IsInTurn k x t → HandlesGiven t → HandlesGiven (Set k x ∷ t)
 unfolding value fresh_handle
 counted-set (key.Owner g) x t i c = counted-owner g x t i c
 counted-set _ x t i c = record { from_one = c.from_one; free = c.free; given = c.given }
 
-counted : (t : Trail) → AreInTurn t → Counted t
+counted : (t : Trail) → AreInTurn t → HandlesGiven t
 unfolding value fresh_handle
 counted [] w = record { from_one = omega arith; free = λ h l. refl; given = λ h o l e. absurd (omega arith) }
 counted (Set k x ∷ t) w = counted-set k x t w.0 (counted t w.1)

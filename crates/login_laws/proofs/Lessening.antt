@@ -9,7 +9,7 @@ use Rattle.login_model.specs.Start.{seat0}
 use Rattle.login_model.specs.Trail.{Trail, put, value}
 use Rattle.login_model.specs.Where.{active_on, is_lock, is_lock_fact, is_on_terminal, is_open, is_session, locks, open_sessions, sessions}
 use Rattle.login_model.specs.Devices.{is_awaiting}
-use Rattle.login_model.specs.Direct.{controlled_by, direct, disconnect, end_sessions, fifo_in, is_fifo_of, is_lock_of, kept_open_by, locks_of, unlock}
+use Rattle.login_model.specs.Direct.{controlled_by, direct, disconnect, end_sessions, fifo_in, is_fifo_of, is_lock_of, kept_open_by, locks_of, owns_fifo, unlock}
 use Rattle.login_model.specs.Facts.{is_number_fact}
 use Rattle.login_model.specs.Full.{taken_by, taken_count}
 use Rattle.login_model.specs.Legal.{stepped}
@@ -33,7 +33,7 @@ use Rattle.login_model.proofs.InOrder.{Ascending, IsIn, filter-ascending, filter
 use Rattle.login_model.proofs.Keys.{both}
 use Rattle.login_model.proofs.NameLaws.{lock_order, session_order}
 use Rattle.login_model.proofs.Values.{same-refl, value-put}
-use Rattle.login_laws.specs.Shares.{has_session, owns_fifo, share, switch_share}
+use Rattle.login_laws.specs.Shares.{has_session, share, switch_share}
 use Rattle.login_laws.proofs.ActiveLaws.{front-found, front-some, or-left, or-right}
 use Rattle.login_laws.proofs.Closing.{shut-all-refl, shut-one}
 use Rattle.login_laws.proofs.Counting.{length-less}
@@ -312,7 +312,7 @@ own-less c t u w =
 
 -- ---- and so with who may complete a switch
 
-either : {X : Type 0} (a b : Bool) → (a ≡ true → X) → (b ≡ true → X) → (a || b) ≡ true → X
+pub either : {X : Type 0} (a b : Bool) → (a ≡ true → X) → (b ≡ true → X) → (a || b) ≡ true → X
 either true b f g e = f refl
 either false true f g e = g refl
 either false false f g e = cc

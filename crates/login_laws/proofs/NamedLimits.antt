@@ -128,13 +128,13 @@ fewer : (e : Event) (t u : Trail) → ((d : DevNo) → IsAdded e d → ⊥) → 
 fewer e t u n f = count-less device_lt (is_device u) (is_device t) (devices u) (devices t) (devices-list u) (devices-list t) (λ d i. elim (f d i) [ inl a ↦ absurd (n d a) | inr j ↦ j ])
 
 -- an event adds a device, or none
-record Adds (e : Event) : Type 0 where
+record AddsDevice (e : Event) : Type 0 where
   device : DevNo
   kind : DevKind
   seat : List ℕ
   is : e ≡ Happens (Add device kind seat)
 
-adds-or-none : (e : Event) → Adds e ⊎ ((d : DevNo) → IsAdded e d → ⊥)
+adds-or-none : (e : Event) → AddsDevice e ⊎ ((d : DevNo) → IsAdded e d → ⊥)
 adds-or-none (Happens (Add b kind seat)) = inl (record { device = b; kind = kind; seat = seat; is = refl })
 adds-or-none _ = inr (λ d a. a)
 

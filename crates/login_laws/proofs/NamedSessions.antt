@@ -28,7 +28,7 @@ use Rattle.login_model.specs.declared.rule.Verdict.TheVariants.{Granted, Denied}
 use Rattle.login_model.specs.declared.setup.Setup.{Setup}
 use Rattle.login_model.proofs.Keys.{same-session, test}
 use Rattle.login_laws.proofs.Carried.{ends-carried, settle-carried}
-use Rattle.login_laws.proofs.Comings.{IsNew, event-comes, event-tame}
+use Rattle.login_laws.proofs.Comings.{IsCreation, event-comes, event-tame}
 use Rattle.login_laws.proofs.Counts.{count-less, count-more, sessions-list}
 use Rattle.login_laws.proofs.Granted.{NoneBroken, granted-rules, not-broken}
 use Rattle.login_laws.proofs.NamedLimits.{below}
@@ -58,7 +58,7 @@ record MakesOne (x : Call) : Type 0 where
   creation : Creation
   is : x ≡ call.Create creation
 
-makes-or-not : (x : Call) → MakesOne x ⊎ (IsNew x → ⊥)
+makes-or-not : (x : Call) → MakesOne x ⊎ (IsCreation x → ⊥)
 makes-or-not (call.Create y) = inl (record { creation = y; is = refl })
 makes-or-not _ = inr (λ n. n)
 

@@ -76,7 +76,7 @@ is_close_key (key.Sess s) = true
 is_close_key (key.Act seat) = true
 is_close_key _ = false
 
-pub record Adds (v u : Trail) : Type 0 where
+pub record AddsClosing (v u : Trail) : Type 0 where
   pub marks : length u ≤ length v + 3
   pub keeps : Keeps is_close_key (value v) (value u)
 
@@ -90,7 +90,7 @@ vacate-by false s seat v =
     let m = put-length (key.Sess s) y v in let n = put-length (key.Act seat) fact.Absent p in
     (omega arith, keeps-trans is_close_key (value v) (value p) (value (put (key.Act seat) fact.Absent p)) (keeps-put is_close_key (key.Sess s) y v refl) (keeps-put is_close_key (key.Act seat) fact.Absent p refl)))
 
-pub adds-by : (o : Option (List ℕ)) (s : SessId) (v : Trail) → Adds v (if_some (leave_seat s) o (set_phase s Closing v))
+pub adds-by : (o : Option (List ℕ)) (s : SessId) (v : Trail) → AddsClosing v (if_some (leave_seat s) o (set_phase s Closing v))
 adds-by None s v =
     (let y = in_phase Closing (value v (key.Sess s)) in let m = put-length (key.Sess s) y v in
     record { marks = omega arith; keeps = keeps-put is_close_key (key.Sess s) y v refl })
@@ -103,7 +103,7 @@ adds-by (Some seat) s v =
       keeps = record { facts = λ k e. ap (λ (f : Facts). f k) (values-say All (notice.Active seat (Some s) None) u) ∙ w.1.facts k e };
     })
 
-shut-some : (s : SessId) (t u : Trail) → Good none_out t → is_open t s ≡ true → Shut none_out s t u → Adds (release s t) u → Pays t u
+shut-some : (s : SessId) (t u : Trail) → Good none_out t → is_open t s ≡ true → Shut none_out s t u → AddsClosing (release s t) u → Pays t u
 shut-some s t u g o d a =
     let v = release s t in
     let p = pays-release s t g in

@@ -157,10 +157,10 @@ asked-here U journal e n k since skip l p =
       last_of_all = tt;
     }
 
-abbrev Asked : Setup → List Entry → Type 0
-Asked U journal = (k : OpKind) (since : Millis) (skip : Bool) → value (trail_of journal) key.Op ≡ fact.Operation (Waiting k since skip) → WasAsked U journal k since skip
+abbrev WaitingWasAsked : Setup → List Entry → Type 0
+WaitingWasAsked U journal = (k : OpKind) (since : Millis) (skip : Bool) → value (trail_of journal) key.Op ≡ fact.Operation (Waiting k since skip) → WasAsked U journal k since skip
 
-asked-entry : (U : Setup) (before : List Entry) (e : Entry) (n : ℕ) → IsLegalEntry U before e → Asked U before → Asked U (before ++ cut_at n e ∷ [])
+asked-entry : (U : Setup) (before : List Entry) (e : Entry) (n : ℕ) → IsLegalEntry U before e → WaitingWasAsked U before → WaitingWasAsked U (before ++ cut_at n e ∷ [])
 asked-entry U before e n l w k since skip q =
     elim (came (trail_of before) (take n e.marks) (fact.Operation (Waiting k since skip)) (ap (λ (t : Trail). value t key.Op) (sym (after-more [] before (cut_at n e))) ∙ q)) [
       | inl p ↦ asked-here U before e n k since skip l p
@@ -171,9 +171,9 @@ take-all : (ms : List Mark) → take (length ms) ms ≡ ms
 take-all [] = refl
 take-all (m ∷ ms) = ap (λ (xs : List Mark). m ∷ xs) (take-all ms)
 
-asked-whole : (U : Setup) (before : List Entry) (e : Entry) → IsLegalEntry U before e → Asked U before → Asked U (before ++ e ∷ [])
+asked-whole : (U : Setup) (before : List Entry) (e : Entry) → IsLegalEntry U before e → WaitingWasAsked U before → WaitingWasAsked U (before ++ e ∷ [])
 asked-whole U before e l w =
-    let P : List Mark → Type 0 = λ ms. Asked U (before ++ record e { marks = ms } ∷ []) in
+    let P : List Mark → Type 0 = λ ms. WaitingWasAsked U (before ++ record e { marks = ms } ∷ []) in
     subst P (take-all e.marks) (asked-entry U before e (length e.marks) l w)
 
 pub append-one : (xs : List Entry) (e : Entry) (ys : List Entry) → (xs ++ e ∷ []) ++ ys ≡ xs ++ e ∷ ys
@@ -184,17 +184,17 @@ pub append-none : (xs : List Entry) → xs ++ [] ≡ xs
 append-none [] = refl
 append-none (x ∷ xs) = ap (λ (zs : List Entry). x ∷ zs) (append-none xs)
 
-asked-after : (U : Setup) (before es : List Entry) → IsLegalAfter U before es → Asked U before → Asked U (before ++ es)
-asked-after U before [] l w = (let P : List Entry → Type 0 = Asked U in subst P (sym (append-none before)) w)
+asked-after : (U : Setup) (before es : List Entry) → IsLegalAfter U before es → WaitingWasAsked U before → WaitingWasAsked U (before ++ es)
+asked-after U before [] l w = (let P : List Entry → Type 0 = WaitingWasAsked U in subst P (sym (append-none before)) w)
 asked-after U before (e ∷ es) l w =
-    let P : List Entry → Type 0 = Asked U in
+    let P : List Entry → Type 0 = WaitingWasAsked U in
     subst P (append-one before e es) (asked-after U (before ++ e ∷ []) es l.1 (asked-whole U before e l.0 w))
 
-asked-start : (U : Setup) → Asked U []
+asked-start : (U : Setup) → WaitingWasAsked U []
 unfolding value
 asked-start U k since skip e = cc
 
-asked-journal : (U : Setup) (journal : List Entry) → IsLegal U journal → Asked U journal
+asked-journal : (U : Setup) (journal : List Entry) → IsLegal U journal → WaitingWasAsked U journal
 asked-journal U journal l = asked-after U [] journal l (asked-start U)
 
 -- ---- the law

@@ -8,7 +8,7 @@ use Rattle.login_base.specs.declared.ids.LockNo.{LockNo}
 use Rattle.login_base.specs.declared.ids.SessId.{SessId}
 use Rattle.login_model.specs.Creating.{appear_on, create, created_session, seat_of}
 use Rattle.login_model.specs.Devices.{is_handle_fact, is_taken, taken_devices}
-use Rattle.login_model.specs.Direct.{control, control_from, controlled_by, direct, direct_call, fifo_in, is_fifo_of, is_lock_of, kept_open_by, locks_of}
+use Rattle.login_model.specs.Direct.{control, control_from, controlled_by, direct, direct_call, fifo_in, is_fifo_of, is_lock_of, kept_open_by, locks_of, owns_fifo}
 use Rattle.login_model.specs.Facts.{is_number_fact}
 use Rattle.login_model.specs.Fresh.{is_open_fact, next_handle, next_lock, next_session}
 use Rattle.login_model.specs.Full.{taken_count}
@@ -24,7 +24,7 @@ use Rattle.login_model.specs.Start.{seat0}
 use Rattle.login_model.specs.Switching.{request}
 use Rattle.login_model.specs.Taking.{enliven, take_device}
 use Rattle.login_model.specs.Trail.{Trail, put, tell_all, value}
-use Rattle.login_model.specs.Where.{active_on, is_active, is_lock_fact, is_open, is_session, is_session_fact}
+use Rattle.login_model.specs.Where.{active_on, is_active, is_lock_fact, is_on_terminal, is_open, is_session, is_session_fact}
 use Rattle.login_model.specs.declared.call.Call.{Call}
 use Rattle.login_model.specs.declared.call.Call.TheVariants as call
 use Rattle.login_model.specs.declared.call.Creation.{Creation}
@@ -46,33 +46,53 @@ use Rattle.login_model.proofs.Keys.{both, same_key-true, test}
 use Rattle.login_model.proofs.NameLaws.{lock_order, session_order}
 use Rattle.login_model.proofs.Values.{apart, ctl-one, owner-one, sess-one, true-false, upd-same, value-put, was}
 use Rattle.login_laws.specs.Need.{IsDisconnect}
-use Rattle.login_laws.specs.Shares.{SharesMove, concerns, has_session, most_share_rise, owns_fifo, share, switch_share, taken_from, touches}
+use Rattle.login_laws.specs.Sound.{IsSound}
+use Rattle.login_laws.specs.Shares.{SharesMove, concerns, has_session, most_share_rise, share, switch_share, taken_for, touches}
 use Rattle.login_laws.proofs.Accords.{good-sound}
-use Rattle.login_laws.proofs.ActiveLaws.{or-left, or-right}
+use Rattle.login_laws.proofs.ActiveLaws.{front-found, front-some, or-left, or-right}
 use Rattle.login_laws.proofs.Calm.{direct-calm}
 use Rattle.login_laws.proofs.Carried.{other}
 use Rattle.login_laws.proofs.Counting.{length-more}
 use Rattle.login_laws.proofs.Counts.{length-taken-less, taken-among, taken-by-more, taken-list, taken_length}
 use Rattle.login_laws.proofs.EventMarks.{appear-within, enliven-within, length-none, lock-one, step-call, step-direct, taken-itself, taken-others, taken-within}
 use Rattle.login_laws.proofs.Giving.{Good, none-left, revoke-gives-up}
-use Rattle.login_laws.proofs.Holds.{none_out}
-use Rattle.login_laws.proofs.Lessening.{Follows, HoldsLocks, KeepsOpen, Rules, TakesLess, controlled-ascending, controlled-in, controlled-less, controlled-taken-less, follows-falls, follows-trans, has-front, in-controlled_by, in-kept_open_by, in-locks_of, kept-ascending, kept-in, kept-less, kept-taken-less, lessens-settle, locks-ascending, locks-less, of-controlled_by, of-kept_open_by, of-locks_of, own, own-less, share-less}
+use Rattle.login_laws.proofs.Holds.{Fronted, none_out}
+use Rattle.login_laws.proofs.Lessening.{Follows, HoldsLocks, Lessens, either, KeepsOpen, Rules, TakesLess, controlled-ascending, controlled-in, controlled-less, controlled-taken-less, follows-falls, follows-trans, has-front, in-controlled_by, in-kept_open_by, in-locks_of, kept-ascending, kept-in, kept-less, kept-taken-less, lessens-settle, locks-ascending, locks-less, of-controlled_by, of-kept_open_by, of-locks_of, own, own-less, share-less}
 use Rattle.login_laws.proofs.Paying.{Falls, falls-refl, falls-trans, handle-in, open-session}
 use Rattle.login_laws.proofs.ProcedureMarks.{know-within, revoke-within}
 use Rattle.login_laws.proofs.SessionSteps.{HasNone}
-use Rattle.login_laws.proofs.SoundLaws.{controller-is, good-direct, sound-journal}
+use Rattle.login_laws.proofs.Loops.{awaiting-some}
+use Rattle.login_laws.proofs.SoundLaws.{controller-is, good-direct, sound-journal, sound-settled}
 use Rattle.login_laws.proofs.SwitchedLaws.{Asks, asks}
 use Rattle.login_laws.proofs.WithinLaws.{owner-within, say-within, taken-there, within-each}
 
 -- ---- what an event sets of a connection's
 
--- where it isn't meant, what is its was so before; and in any case its share is raised by four at most, but for a switch
+-- a session that has a device taken was its before, and is as it was
+abbrev pub Had : ConnId → Trail → Trail → Type 0
+Had c t u = (s : SessId) (d : DevNo) → is_open u s ≡ true → is_taken u s d ≡ true → has_session u c (Some s) ≡ true → (value u (key.Sess s) ≡ value t (key.Sess s)) × (has_session t c (Some s) ≡ true)
+
+-- where it isn't meant, what is its was so before; and in any case its share is raised by four at most, but for a
+-- switch, and its sessions with devices were its before
 record Moves (c : ConnId) (meant : Bool) (t u : Trail) : Type 0 where
   follows : meant ≡ false → Follows c t u
+  had : Had c t u
   most : own c u ≤ own c t + 4
 
+had-by : (c : ConnId) (t u : Trail) (s : SessId) → (controls u c s ≡ true → (value u (key.Sess s) ≡ value t (key.Sess s)) × (controls t c s ≡ true)) → (owns_fifo u c s ≡ true → (value u (key.Sess s) ≡ value t (key.Sess s)) × (owns_fifo t c s ≡ true))
+    → has_session u c (Some s) ≡ true → (value u (key.Sess s) ≡ value t (key.Sess s)) × (has_session t c (Some s) ≡ true)
+had-by c t u s a b = either (controls u c s) (owns_fifo u c s)
+    (λ p. ((a p).0, or-left (controls t c s) (owns_fifo t c s) (a p).1))
+    (λ p. ((b p).0, or-right (controls t c s) (owns_fifo t c s) (b p).1))
+
+had-open : (c : ConnId) (t u : Trail) → Follows c t u → (s : SessId) → is_open u s ≡ true → has_session u c (Some s) ≡ true → (value u (key.Sess s) ≡ value t (key.Sess s)) × (has_session t c (Some s) ≡ true)
+had-open c t u w s o = had-by c t u s (λ p. (w.same s o p, (w.rules s (open-session u s o) p).1)) (λ p. w.kept s o p)
+
+had-follows : (c : ConnId) (t u : Trail) → Follows c t u → Had c t u
+had-follows c t u w s d o k = had-open c t u w s o
+
 moves-falls : {b : Bool} (c : ConnId) (t u : Trail) → Falls (value t) (value u) → Moves c b t u
-moves-falls c t u f = (let w = follows-falls c t u f in let l = own-less c t u w in record { follows = λ e. w; most = omega arith })
+moves-falls c t u f = (let w = follows-falls c t u f in let l = own-less c t u w in record { follows = λ e. w; had = had-follows c t u w; most = omega arith })
 
 -- with no more than before, before it and behind it
 moves-among : {b : Bool} (c : ConnId) (t u v w : Trail) → Falls (value t) (value u) → Moves c b u v → Falls (value v) (value w) → Moves c b t w
@@ -80,7 +100,16 @@ moves-among c t u v w f m g =
     let p = follows-falls c t u f in
     let q = follows-falls c v w g in
     let a = own-less c t u p in let b = m.most in let d = own-less c v w q in
-    record { follows = λ e. follows-trans c t v w (follows-trans c t u v p (m.follows e)) q; most = omega arith }
+    record {
+      follows = λ e. follows-trans c t v w (follows-trans c t u v p (m.follows e)) q;
+      had = λ s y o k h.
+          (let x = had-open c v w q s o h in
+          let ov = ap is_open_fact (sym x.0) ∙ o in
+          let z = m.had s y ov (g.taken s y k) x.1 in
+          let i = had-open c t u p s (ap is_open_fact (sym z.0) ∙ ov) z.1 in
+          (x.0 ∙ z.0 ∙ i.0, i.1));
+      most = omega arith;
+    }
 
 moves-if : {b : Bool} (c : ConnId) (a : Bool) (t u v : Trail) → Moves c b t u → Moves c b t v → Moves c b t (cond a u v)
 moves-if c true t u v p q = p
@@ -113,7 +142,7 @@ moves-conn c d x t =
       takes = λ s i. length-taken-less t u s (λ y e. ap is_handle_fact (sym (other k (key.Taken s y) x t refl)) ∙ e);
     } in
     let l = own-less c t u w in
-    record { follows = λ e. w; most = omega arith }
+    record { follows = λ e. w; had = had-follows c t u w; most = omega arith }
 
 -- a lock
 moves-lock : {b : Bool} (c : ConnId) (l : LockNo) (x : Lock) (t : Trail) → (b ≡ false → (x.holder.0 == c.0) ≡ true → ⊥) → Moves c b t (put (key.Lock l) (fact.Lock x) t)
@@ -142,6 +171,7 @@ moves-lock c l x t n =
         locks = λ r p e. elim (how r e) [ inl z ↦ absurd (n f z.1) | inr z ↦ other k (key.Lock r) y t z.0 ];
         takes = m;
       };
+      had = λ r z o i. had-by c t u r (λ p. (a.sess r, (w r (open-session u r o) p).1)) (v r o);
       most = omega arith;
     }
 
@@ -171,6 +201,7 @@ moves-taken c s d x t n =
         takes = λ r i. less r (λ z. n f (let P : SessId → Type 0 = λ q. IsIn q (controlled_by t c) ⊎ IsIn q (kept_open_by t c) in
             subst P (sym z) (elim i [ inl y ↦ inl (controlled-in c t u w r y) | inr y ↦ inr (kept-in c t u v r y) ])));
       };
+      had = λ r z o i. had-by c t u r (λ p. (a.sess r, (w r (open-session u r o) p).1)) (v r o);
       most = omega arith;
     }
 
@@ -208,17 +239,27 @@ moves-control c s d t none n =
         locks = held;
         takes = m;
       };
+      had = λ r z o i. had-by c t u r (λ p. (
+        sess r,
+        elim (how r p) [
+          | inl y ↦ (let P : SessId → Type 0 = λ q. is_taken t q z ≡ true in
+              let j = subst P (sym (ctl-one s r y.0)) (ap is_handle_fact (sym (other k (key.Taken r z) x t refl)) ∙ i) in
+              let h = handle-in (value t (key.Taken s z)) j in
+              absurd (none z h.0 h.1))
+          | inr y ↦ y.1
+        ],
+      )) (v r o);
       most = omega arith;
     }
 
 -- what is not there yet: a session, and its fifo
-record IsNew (s : SessId) (h : HandleNo) (t : Trail) : Type 0 where
+record AreNew (s : SessId) (h : HandleNo) (t : Trail) : Type 0 where
   fifo : (r : SessId) → is_open t r ≡ true → fifo_in (value t (key.Sess r)) ≡ h → ⊥
   free : (c : ConnId) → controls t c s ≡ true → ⊥
   none : HasNone (value t) s
 
 -- a session that is made
-moves-made : {b : Bool} (c : ConnId) (s : SessId) (h : HandleNo) (d : ConnId) (y : Fact) (t : Trail) → IsNew s h t → fifo_in y ≡ h → (b ≡ false → (d.0 == c.0) ≡ true → ⊥)
+moves-made : {b : Bool} (c : ConnId) (s : SessId) (h : HandleNo) (d : ConnId) (y : Fact) (t : Trail) → AreNew s h t → fifo_in y ≡ h → (b ≡ false → (d.0 == c.0) ≡ true → ⊥)
     → Moves c b t (put (key.Sess s) y (put (key.Owner h) (fact.Owned (owner.Fifo d s)) t))
 moves-made c s h d y t new fits n =
     let k = key.Sess s in
@@ -268,6 +309,13 @@ moves-made c s h d y t new fits n =
         locks = held;
         takes = m;
       };
+      had = λ r z p i. had-by c t u r (rules r (open-session u r p)) (λ e. elim (kept r p e) [
+        | inl q ↦ (let P : SessId → Type 0 = λ g. is_taken t g z ≡ true in
+            let j = subst P q.0 (ap is_handle_fact (sym (other k (key.Taken r z) y a refl ∙ other (key.Owner h) (key.Taken r z) o t refl)) ∙ i) in
+            let g = handle-in (value t (key.Taken s z)) j in
+            absurd (new.none z g.0 g.1))
+        | inr q ↦ q
+      ]);
       most = omega arith;
     }
 
@@ -323,7 +371,7 @@ moves-create c d x t g n =
     let q = (appear-within (seat_of x.seat) s n4 t4 (λ r e. taken-there t4 r e)).falls in
     let unowned : value t (key.Owner h) ≡ fact.Absent = g.unused.handles (key.Owner h) h refl (omega arith) in
     let unruled : value t (key.Ctl s) ≡ fact.Absent = g.unused.sessions (key.Ctl s) s refl (omega arith) in
-    let new : IsNew s h t1 = record {
+    let new : AreNew s h t1 = record {
       fifo = λ r e i. (let same = f.opens r e in let j = g.holds.fifos r (ap is_open_fact (sym same) ∙ e) refl in
           let P : HandleNo → Type 0 = λ v. value t (key.Owner v) ≡ fact.Owned (owner.Fifo j.0 r) in
           let k = subst P (ap fifo_in (sym same) ∙ i) j.1 in let z = sym unowned ∙ k in cc);
@@ -337,7 +385,7 @@ moves-some : {b : Bool} {A : Type 0} (c : ConnId) (f : A → Trail → Trail) (o
 moves-some c f None t step = moves-falls c t t (falls-refl (value t))
 moves-some c f (Some x) t step = step x refl
 
-moves-call : (U : Setup) (c d : ConnId) (x : Call) (t : Trail) → Good none_out t → Moves c (d.0 == c.0 || has_session t c (taken_from x)) t (direct_call U d x t)
+moves-call : (U : Setup) (c d : ConnId) (x : Call) (t : Trail) → Good none_out t → Moves c (d.0 == c.0 || has_session t c (taken_for x)) t (direct_call U d x t)
 unfolding control
 moves-call U c d (call.Create x) t g = moves-create c d x t g (λ e p. true-false (d.0 == c.0) p (or-none (d.0 == c.0) false e).0)
 moves-call U c d (call.Control id force) t g = moves-some c (control d) (session_of id) t (λ s i. moves-from (value t (key.Ctl s)) c d s t refl g (λ e p. true-false (d.0 == c.0) p (or-none (d.0 == c.0) false e).0))
@@ -378,6 +426,23 @@ switch-off c t u g n w v e =
     off (is_number_fact (value u key.Pending) && has_session u c (active_on u seat0)) (4 * taken_count u + 4)
     (λ p. true-false (has_session t c (active_on t seat0)) (has-front (active_on u seat0) c t u g n w v refl (both (is_number_fact (value u key.Pending)) (has_session u c (active_on u seat0)) p).1) e)
 
+-- none behind what was settled, where the front was another's: a pause of the session that has it is awaited then, so it
+-- has a device
+switch-none : (U : Setup) (c : ConnId) (t u w : Trail) → Good none_out t → IsSound U w → Lessens u w → Had c t u → value u key.Vt ≡ value t key.Vt → has_session t c (active_on t seat0) ≡ false → switch_share c w ≡ 0
+switch-none U c t u w g s l had v e =
+    off (is_number_fact (value w key.Pending) && has_session w c (active_on w seat0)) (4 * taken_count w + 4) (λ p.
+    (let b = both (is_number_fact (value w key.Pending)) (has_session w c (active_on w seat0)) p in
+    let i = awaiting-some w (s.settled b.0) in
+    let a = s.between.awaits i.0 i.1 i.2 in
+    let o = (s.between.takes i.0 i.1 a.handle a.taken).session_open in
+    let h = ap (has_session w c) (sym a.active) ∙ b.1 in
+    let f = had-open c u w (follows-falls c u w l.falls) i.0 o h in
+    let ou = ap is_open_fact (sym f.0) ∙ o in
+    let m = had i.0 i.1 ou (l.falls.taken i.0 i.1 (ap is_handle_fact a.taken)) f.1 in
+    let q = front-some none_out w i.0 l.good.holds a.active in
+    let at : Fronted (value t) i.0 = ap (λ (x : Fact). is_on_terminal x (value t (key.Sess i.0))) (sym ((l.front b.0).1 ∙ v)) ∙ ap (is_on_terminal (value w key.Vt)) (sym (f.0 ∙ m.0)) ∙ q in
+    true-false (has_session t c (active_on t seat0)) (ap (has_session t c) (front-found none_out t i.0 g.holds at) ∙ m.1) e))
+
 most-by : (b : Bool) (n : ℕ) → cond b (4 * n + 4) 0 ≤ 4 * n + 4
 most-by true n = omega arith
 most-by false n = omega arith
@@ -404,18 +469,31 @@ spares-by Granted U before e c q l p n h =
 spares-by (Denied r) U before e c q l p n h = omega arith
 
 rises-by : (v : Verdict) (U : Setup) (before : List Entry) (e : Event) (c : ConnId) → v ≡ verdict U (trail_of before) e → IsLegal U before → IsPlaced before e → (IsDisconnect e → ⊥)
-    → share c (stepped U v e (trail_of before)) ≤ share c (trail_of before) + most_share_rise (trail_of before)
+    → share c (stepped U v e (trail_of before)) ≤ share c (trail_of before) + most_share_rise c (trail_of before)
 unfolding share
 rises-by Granted U before e c q l p n =
     (let t = trail_of before in
-    let g = good-sound t (sound-journal U before l).between in
+    let s = sound-journal U before l in
+    let g = good-sound t s.between in
     let u = direct U e t in
+    let w = settle U u in
     let d = good-direct U before e p (sym q) g in
-    let a = share-less u (settle U u) d (lessens-settle U u d) c in
-    let i = (moves-direct U e c t n g).most in
-    let s = switch-most c u in
-    let k = (step-direct U e t n g.unused (taken-within t g)).taken in
+    let a = lessens-settle U u d in
+    let m = moves-direct U e c t n g in
+    let r = by t u w d a m.most (step-direct U e t n g.unused (taken-within t g)).taken (switch-none U c t u w g (sound-settled U u d) a m.had (direct-vt U e t g)) (has_session t c (active_on t seat0)) refl in
     omega arith)
+  where
+    by : (t u w : Trail) → Good none_out u → Lessens u w → own c u ≤ own c t + 4 → taken_count u ≤ taken_count t + 1
+        → (has_session t c (active_on t seat0) ≡ false → switch_share c w ≡ 0) → (b : Bool) → has_session t c (active_on t seat0) ≡ b
+        → own c w + switch_share c w ≤ own c t + switch_share c t + cond b (4 * taken_count t + 12) 4
+    by t u w d a m k none true h =
+        let o = share-less u w d a c in
+        let s = switch-most c u in
+        omega arith
+    by t u w d a m k none false h =
+        let o = own-less c u w (follows-falls c u w a.falls) in
+        let z = none h in
+        omega arith
 rises-by (Denied r) U before e c q l p n = omega arith
 
 pub shares-move : (U : Setup) → SharesMove U

@@ -35,14 +35,14 @@ use Rattle.login_laws.proofs.Giving.{Fewer, Good, fewer-refl, good-put, good-say
 use Rattle.login_laws.proofs.Resuming.{forced, resumed}
 
 -- nothing of seat0 is live
-pub record Calm (out : Exempt) (t u : Trail) : Type 0 where
+pub record NoneLive (out : Exempt) (t u : Trail) : Type 0 where
   pub fewer : Fewer out t u
   pub quiet : (h : HandleNo) (i : Living (value u) h) → is_set (value u (key.Live h)) ≡ true → Fronted (value u) i.1 → ⊥
 
 abbrev pub NoneAwaited : Trail → Type 0
 NoneAwaited t = (s : SessId) (d : DevNo) → is_set (value t (key.Awaited s d)) ≡ true → ⊥
 
-calm-at : (o : Option SessId) (out : Exempt) (t : Trail) → active_on t seat0 ≡ o → NoneAwaited t → Good out t → Calm out t (if_some force o t)
+calm-at : (o : Option SessId) (out : Exempt) (t : Trail) → active_on t seat0 ≡ o → NoneAwaited t → Good out t → NoneLive out t (if_some force o t)
 calm-at None out t e n g = record { fewer = fewer-refl out t g; quiet = λ h i l a. front-none out t i.1 g.holds e a }
 calm-at (Some s) out t e n g =
     let f = forced out s t (n s) g in

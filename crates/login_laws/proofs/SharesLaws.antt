@@ -9,7 +9,7 @@ use Rattle.login_model.specs.Start.{seat0}
 use Rattle.login_model.specs.Trail.{Trail, put, value}
 use Rattle.login_model.specs.Where.{active_on, is_set, moment_or_zero}
 use Rattle.login_model.specs.Devices.{is_awaiting}
-use Rattle.login_model.specs.Direct.{controlled_by, direct, disconnect, end_sessions, kept_open_by, locks_of, unlock}
+use Rattle.login_model.specs.Direct.{controlled_by, direct, disconnect, end_sessions, kept_open_by, locks_of, owns_fifo, unlock}
 use Rattle.login_model.specs.Facts.{holds_back, is_number_fact}
 use Rattle.login_model.specs.Full.{taken_by, taken_count}
 use Rattle.login_model.specs.Legal.{IsLegalAfter, IsLegalEntry, stepped, trail_of}
@@ -31,7 +31,7 @@ use Rattle.login_model.specs.declared.setup.Setup.{Setup}
 use Rattle.login_model.proofs.InOrder.{IsIn}
 use Rattle.login_model.proofs.Values.{true-false, value-put}
 use Rattle.login_laws.specs.Need.{AreEnds, IsDisconnect}
-use Rattle.login_laws.specs.Shares.{EachEndFits, EndsHaveShares, end_share, has_session, owns_fifo, share}
+use Rattle.login_laws.specs.Shares.{EachEndFits, EndsHaveShares, end_share, has_session, share}
 use Rattle.login_laws.specs.Sound.{IsSound}
 use Rattle.login_laws.proofs.Accords.{good-sound}
 use Rattle.login_laws.proofs.ActiveLaws.{front-found, or-left, or-right}

@@ -9,7 +9,7 @@ use Rattle.login_model.specs.Names.{conn_lt, session_lt}
 use Rattle.login_model.specs.Start.{seat0}
 use Rattle.login_model.specs.Trail.{Trail, value}
 use Rattle.login_model.specs.Where.{active_on, connections, is_open, locks, open_sessions, sessions}
-use Rattle.login_model.specs.Direct.{controlled_by, fifo_in, is_fifo_of, is_lock_of, kept_open_by, locks_of}
+use Rattle.login_model.specs.Direct.{controlled_by, fifo_in, is_fifo_of, is_lock_of, kept_open_by, locks_of, owns_fifo}
 use Rattle.login_model.specs.Facts.{is_number_fact}
 use Rattle.login_model.specs.Full.{controlled_sessions, is_controlled_fact, taken_by, taken_count}
 use Rattle.login_model.specs.Policy.{controls, is_controller_fact}
@@ -23,7 +23,7 @@ use Rattle.login_model.proofs.Keys.{test}
 use Rattle.login_model.proofs.NameLaws.{conn_order}
 use Rattle.login_model.proofs.Values.{true-false}
 use Rattle.login_laws.specs.Need.{need, switch_need}
-use Rattle.login_laws.specs.Shares.{SharesFit, has_session, owns_fifo, share, switch_share}
+use Rattle.login_laws.specs.Shares.{SharesFit, has_session, share, switch_share}
 use Rattle.login_laws.proofs.Counting.{tail-not, total}
 use Rattle.login_laws.proofs.Counts.{connections-list, is_controlled, sessions-ascending, taken-among, taken-total, taken_length}
 use Rattle.login_laws.proofs.Paying.{not-set}

@@ -220,7 +220,7 @@ good-direct U before Stop p v g = g
 
 -- ---- journals
 
-sound-settled : (U : Setup) (t : Trail) → Good none_out t → IsSound U (settle U t)
+pub sound-settled : (U : Setup) (t : Trail) → Good none_out t → IsSound U (settle U t)
 sound-settled U t g = (let s = settled U none_out t g in record { between = sound-good (settle U t) s.good; settled = s.waits; held = s.held })
 
 sound-step : (U : Setup) (before : List Entry) (e : Event) (v : Verdict) → v ≡ verdict U (trail_of before) e → IsPlaced before e → IsSound U (trail_of before) → IsSound U (stepped U v e (trail_of before))

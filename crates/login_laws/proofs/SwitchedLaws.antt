@@ -77,7 +77,8 @@ not-pending x v e p = (let z : true ≡ false = ap is_number_fact (sym p) ∙ e 
 
 -- ---- settling a switch
 
--- it completes: the terminal is the one that was pending, and nothing is awaited; or nothing was done, since nothing is pending or something is awaited
+-- it completes: the terminal is the one that was pending, and nothing is awaited; or nothing was done, since nothing is
+-- pending or something is awaited
 pub record Completed (v : ℕ) (t u : Trail) : Type 0 where
   pub pending : value t key.Pending ≡ fact.Number v
   pub none : Waits t → ⊥
@@ -137,23 +138,23 @@ put-pending v t = record {
 }
 
 -- awaiting sets no terminal, and asks for none
-abbrev Stays : Trail → Trail → Type 0
-Stays t u = (value u key.Vt ≡ value t key.Vt) × (value u key.Pending ≡ value t key.Pending)
+abbrev TerminalStays : Trail → Trail → Type 0
+TerminalStays t u = (value u key.Vt ≡ value t key.Vt) × (value u key.Pending ≡ value t key.Pending)
 
-await-live : (b : Bool) (x : Fact) (n : Notice) (s : SessId) (d : DevNo) (t : Trail) → Stays t (cond b (tell_controller x n (put (key.Awaited s d) yes t)) t)
+await-live : (b : Bool) (x : Fact) (n : Notice) (s : SessId) (d : DevNo) (t : Trail) → TerminalStays t (cond b (tell_controller x n (put (key.Awaited s d) yes t)) t)
 await-live true x n s d t =
     (let u = put (key.Awaited s d) yes t in
     (ap (λ (f : Facts). f key.Vt) (values-tell x n u) ∙ value-put (key.Awaited s d) key.Vt yes t, ap (λ (f : Facts). f key.Pending) (values-tell x n u) ∙ value-put (key.Awaited s d) key.Pending yes t))
 await-live false x n s d t = (refl, refl)
 
-await-fact : (x : Fact) (s : SessId) (d : DevNo) (t : Trail) → Stays t (await_handle s d x t)
+await-fact : (x : Fact) (s : SessId) (d : DevNo) (t : Trail) → TerminalStays t (await_handle s d x t)
 await-fact (fact.Handle h) s d t = await-live (is_live t h) (value t (key.Ctl s)) (Pause s d pause.Pause) s d t
 await-fact _ s d t = (refl, refl)
 
-awaiting-stays : (s : SessId) (t : Trail) → Stays t (await_devices s t)
+awaiting-stays : (s : SessId) (t : Trail) → TerminalStays t (await_devices s t)
 unfolding await_devices
 awaiting-stays s t =
-    each-keeps (Stays t) (await_device s) (taken_devices t s) (λ d u i w. (let k = await-fact (value u (key.Taken s d)) s d u in (k.0 ∙ w.0, k.1 ∙ w.1))) t (refl, refl)
+    each-keeps (TerminalStays t) (await_device s) (taken_devices t s) (λ d u i w. (let k = await-fact (value u (key.Taken s d)) s d u in (k.0 ∙ w.0, k.1 ∙ w.1))) t (refl, refl)
 
 await-keeps : (o : Option SessId) (t : Trail) → (value (if_some await_devices o t) key.Vt ≡ value t key.Vt) × (value (if_some await_devices o t) key.Pending ≡ value t key.Pending)
 await-keeps None t = (refl, refl)
@@ -230,8 +231,8 @@ completing U t e m n s (inr q) z w none named = by q.2 z
     by (inr a) (inr r) = absurd (none (let P : Trail → Type 0 = Waits in subst P (sym r.0) (a.1.waits (awaiting-some t w))))
 
 -- what the change of the terminal says
-abbrev Moves : Trail → Event → Trail → Type 0
-Moves t e n =
+abbrev TerminalMoves : Trail → Event → Trail → Type 0
+TerminalMoves t e n =
     ((is_awaiting t ≡ true) × (asked_vt t e ≡ Some (current_vt t) → ⊥) × (value n key.Vt ≡ value t key.Pending))
     ⊎ ((v : ℕ) × AsksOther t e v × (value n key.Vt ≡ fact.Number v))
 
@@ -245,12 +246,12 @@ unnamed U t e v g p q = by (asks (current_vt t) t g)
     by (inr a) = a.0 refl
 
 -- a switch that completes is one that may
-turning : (U : Setup) (t : Trail) (e : Event) (n : Trail) → IsSound U t → Directs t e (direct U e t) → (v : ℕ) → Completed v (direct U e t) n → (Waits n → ⊥) × Moves t e n
+turning : (U : Setup) (t : Trail) (e : Event) (n : Trail) → IsSound U t → Directs t e (direct U e t) → (v : ℕ) → Completed v (direct U e t) n → (Waits n → ⊥) × TerminalMoves t e n
 turning U t e n s (inl c) v d =
     (d.over, inl (s.settled (ap is_number_fact (sym c.pending ∙ d.pending)), unnamed U t e v (good-sound t s.between) d.pending, d.now ∙ sym d.pending ∙ c.pending))
 turning U t e n s (inr q) v d = by q.2
   where
-    by : Asks q.0 t (direct U e t) → (Waits n → ⊥) × Moves t e n
+    by : Asks q.0 t (direct U e t) → (Waits n → ⊥) × TerminalMoves t e n
     by (inl a) = absurd (not-pending (value (direct U e t) key.Pending) v a.1.pending d.pending)
     by (inr a) = (d.over, inr (q.0, record { asks = q.1; other = a.0 }, d.now ∙ ap fact.Number (number-one v q.0 (sym d.pending ∙ a.1.pending))))
 
@@ -263,7 +264,7 @@ may-set U t e n u s d (inl z) back v p none =
     let same : fact.Number v ≡ value n key.Vt = sym p ∙ z.1.pending ∙ sym z.1.now in
     (waits-not u (λ w. i.0 (back w)), elim i.1 [ inl x ↦ inl (x.0, x.1, same ∙ x.2) | inr x ↦ inr (x.0, x.1, same ∙ x.2) ])
 
-moving : (U : Setup) (t : Trail) (e : Event) (n : Trail) → IsSound U t → Directs t e (direct U e t) → Settles (direct U e t) n → (value n key.Vt ≡ value t key.Vt → ⊥) → (Waits n → ⊥) × Moves t e n
+moving : (U : Setup) (t : Trail) (e : Event) (n : Trail) → IsSound U t → Directs t e (direct U e t) → Settles (direct U e t) n → (value n key.Vt ≡ value t key.Vt → ⊥) → (Waits n → ⊥) × TerminalMoves t e n
 moving U t e n s q (inl d) moved = turning U t e n s q d.0 d.1
 moving U t e n s (inl c) (inr r) moved = absurd (moved (ap (λ (u : Trail). value u key.Vt) r.0 ∙ c.vt))
 moving U t e n s (inr q) (inr r) moved = absurd (moved (ap (λ (u : Trail). value u key.Vt) r.0 ∙ by q.2))

@@ -19,7 +19,8 @@ use Rattle.login_model.specs.declared.hardware.DevKind.{DevKind}
 use Rattle.login_model.specs.declared.rule.Verdict.TheVariants.{Granted}
 use Rattle.login_model.specs.declared.setup.Setup.{Setup}
 
--- a live handle is that of the controller of the active session of its device's seat, which has the device taken with it
+-- a live handle is that of the controller of the active session of its device's seat, which has the device taken with
+-- it
 pub record GivesAccess (t : Trail) (h : HandleNo) : Type 0 where
   pub by_whom : ConnId
   pub session : SessId

@@ -4,6 +4,7 @@ use Rattle.login_base.specs.declared.ids.DevNo.{DevNo}
 use Rattle.login_base.specs.declared.ids.HandleNo.{HandleNo}
 use Rattle.login_model.specs.Answers.{answer}
 use Rattle.login_model.specs.Devices.{is_live}
+use Rattle.login_model.specs.Facts.{handle_device}
 use Rattle.login_model.specs.Legal.{IsLegal, IsLegalEntry}
 use Rattle.login_model.specs.Marks.{trail_of}
 use Rattle.login_model.specs.Policy.{verdict}
@@ -18,9 +19,7 @@ use Rattle.login_model.specs.declared.event.Event.{Event}
 use Rattle.login_model.specs.declared.event.Event.TheVariants.{Call as Calls, Hardware as Happens}
 use Rattle.login_model.specs.declared.event.Request.{Request}
 use Rattle.login_model.specs.declared.fact.Fact.{Fact}
-use Rattle.login_model.specs.declared.fact.Fact.TheVariants as fact
 use Rattle.login_model.specs.declared.fact.Key.TheVariants as key
-use Rattle.login_model.specs.declared.fact.Owner.TheVariants as owner
 use Rattle.login_model.specs.declared.hardware.Hardware.TheVariants as hardware
 use Rattle.login_model.specs.declared.mark.Entry.{Entry}
 use Rattle.login_model.specs.declared.mark.Mark.{Mark}
@@ -35,8 +34,7 @@ Heard = DevNo × List Input
 
 -- what a handle with this owner reads of its device behind these entries
 abbrev pub read_of : Fact → HandleNo → List Entry → Option Heard
-read_of (fact.Owned (owner.Device c s d)) h before = Some (d, reads h d before)
-read_of _ h before = None
+read_of x h before = option_map (λ d. (d, reads h d before)) (handle_device x)
 
 -- behind these entries, the device of a live handle, and what the handle reads of it
 abbrev pub heard_in : List Entry → HandleNo → Option Heard
@@ -52,8 +50,7 @@ is_turned h (m ∷ ms) = is_turned h ms
 
 -- the device of this owner's handle, of which nothing was heard yet
 abbrev pub unheard : Fact → Option Heard
-unheard (fact.Owned (owner.Device c s d)) = Some (d, [])
-unheard _ = None
+unheard x = option_map (λ d. (d, [])) (handle_device x)
 
 -- after some marks, the device of a handle that is live, of which nothing was heard yet
 abbrev pub begins : Trail → HandleNo → Option Heard

@@ -56,8 +56,8 @@ LeavesOperation _ = Unit {0}
 abbrev pub LeaveOperation : List Mark → Type 0
 LeaveOperation ms = AllByRecursion LeavesOperation ms
 
--- an operation that waits behind these entries was asked for by one of them, which was granted: its setting is the last of
--- the operation, and it is past the locks that block the operation only if who asked may pass them
+-- an operation that waits behind these entries was asked for by one of them, which was granted: its setting is the last
+-- of the operation, and it is past the locks that block the operation only if who asked may pass them
 pub record WasAsked (U : Setup) (journal : List Entry) (k : OpKind) (since : Millis) (skip : Bool) : Type 0 where
   pub before : List Entry
   pub entry : Entry

@@ -24,8 +24,8 @@ pub record AsksOther (t : Trail) (e : Event) (v : ℕ) : Type 0 where
   pub asks : asked_vt t e ≡ Some v
   pub other : v ≡ current_vt t → ⊥
 
--- an entry may set the terminal to this fact: where it ends the last pause, unless it asks for the current terminal, or where
--- it asks for another and nothing has to be awaited
+-- an entry may set the terminal to this fact: where it ends the last pause, unless it asks for the current terminal, or
+-- where it asks for another and nothing has to be awaited
 abbrev pub MaySet : Trail → Event → Trail → Fact → Type 0
 MaySet before e now x = (is_awaiting now ≡ false)
     × (((is_awaiting before ≡ true) × (asked_vt before e ≡ Some (current_vt before) → ⊥) × (x ≡ value before key.Pending))
@@ -44,8 +44,8 @@ pub record IsSwitched (U : Setup) (before : Trail) (e : Event) (marks : List Mar
       → value now key.Vt ≡ value before key.Pending
   -- no other entry sets the terminal, wherever among its marks, be it back again
   pub sets : (n : ℕ) (x : Fact) → IsAt n marks (Set key.Vt x) → MaySet before e now x
-  -- so the terminal changes in no other entry: in one that ends the last pause, unless it asks for the current terminal, or
-  -- where another is asked for and nothing has to be awaited
+  -- so the terminal changes in no other entry: in one that ends the last pause, unless it asks for the current
+  -- terminal, or where another is asked for and nothing has to be awaited
   pub terminal_changes : (value now key.Vt ≡ value before key.Vt → ⊥) → (is_awaiting now ≡ false)
       × (((is_awaiting before ≡ true) × (asked_vt before e ≡ Some (current_vt before) → ⊥) × (value now key.Vt ≡ value before key.Pending))
       ⊎ ((v : ℕ) × AsksOther before e v × (value now key.Vt ≡ fact.Number v)))

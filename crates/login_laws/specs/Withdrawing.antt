@@ -34,6 +34,7 @@ unawait s d t = put (key.Awaited s d) no t
 abbrev pub unawait_each : Trail → Trail
 unawait_each t = each (λ s u. each (unawait s) (awaited_devices t s) u) (sessions t) t
 
--- the law: where a switch is withdrawn, nothing is pending, each awaited device is not awaited, and the active session goes on
+-- the law: where a switch is withdrawn, nothing is pending, each awaited device is not awaited, and the active session
+-- goes on
 abbrev pub WithdrawsEach : Type 0
 WithdrawsEach = (U : Setup) (t : Trail) → IsSoundBetween U t → withdraw_switch t ≡ if_some resume (active_on t seat0) (unawait_each (put key.Pending fact.Absent t))

@@ -86,8 +86,8 @@ pub fn each_end_fits()
     ensures { EachEndFits }
 {}
 
-/// An event that is no disconnect raises the share of no connection but those that it concerns, five at most, and
-/// these by no more than the marks of a switch and of one device.
+/// An event that is no disconnect raises the share of no connection but those that it concerns, and these by no more
+/// than the marks of a switch and of one device.
 pub fn shares_move()
     ensures { (U : Setup) → SharesMove U }
 {}
