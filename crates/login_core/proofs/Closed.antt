@@ -16,7 +16,7 @@ use Rattle.login_model.specs.Where.{is_open, is_active, seat_of_session}
 use Rattle.login_model.specs.Procedure.{if_some, in_phase, leave_seat, release, set_phase, shut, vacate}
 use Rattle.login_model.proofs.Values.{upd-same, value-put}
 use Rattle.login_core.specs.declared.room.copies.Copies.{Copies}
-use Rattle.login_core.specs.Texts.{HasTexts, AreCopies}
+use Rattle.login_core.specs.inner.Texts.{HasTexts, AreCopies}
 use Rattle.switch_core.proofs.Frames.{put-other, keeps-say}
 use Rattle.login_core.proofs.Released.{keeps-release}
 

@@ -11,7 +11,7 @@ use Rattle.login_model.specs.Trail.{Trail, value}
 use Rattle.login_model.specs.Where.{is_open}
 use Rattle.login_model.specs.Direct.{close_handle, close_owned}
 use Rattle.login_core.specs.declared.room.copies.Copies.{Copies}
-use Rattle.login_core.specs.Texts.{AreSome}
+use Rattle.login_core.specs.inner.Texts.{AreSome}
 use Rattle.login_core.specs.inner.Handles.{owner_fact, AreForClosing}
 use Rattle.login_model.specs.Facts.{owner_in}
 use Rattle.switch_core.proofs.Frames.{put-other}

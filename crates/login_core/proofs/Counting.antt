@@ -9,7 +9,16 @@ use Rattle.login_model.specs.declared.mark.Notice.{Notice}
 use Rattle.login_model.specs.Trail.{Trail}
 use Rattle.login_model.specs.Fresh.{fresh_session, fresh_handle, fresh_lock, is_open_fact, is_owned_fact}
 use Rattle.login_model.specs.Facts.{is_lock_fact}
-use Rattle.login_core.specs.inner.Facts.{opens, gives, inhibits}
+use Rattle.login_core.specs.inner.Counts.{counts_of}
+use Rattle.login_core.specs.inner.Facts.{gives}
+
+-- how many sessions a setting opens
+abbrev pub opens : Key → Fact → ℕ
+opens k x = (counts_of k x).opened
+
+-- how many locks a setting makes stand
+abbrev pub inhibits : Key → Fact → ℕ
+inhibits k x = (counts_of k x).locks
 
 one-more : (b : Bool) (n : ℕ) → cond b (n + 1) n ≡ n + cond b 1 0
 one-more true n = refl

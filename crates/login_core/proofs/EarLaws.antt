@@ -5,7 +5,7 @@ use Rattle.login_base.specs.declared.ids.HandleNo.{HandleNo}
 use Rattle.login_model.specs.Devices.{is_live}
 use Rattle.login_model.specs.Legal.{trail_of}
 use Rattle.login_model.specs.Trail.{Trail, after, value}
-use Rattle.login_model.specs.Facts.{is_set}
+use Rattle.login_model.specs.Facts.{is_evdev, is_set}
 use Rattle.login_model.specs.declared.event.Event.{Event}
 use Rattle.login_model.specs.declared.fact.Fact.{Fact}
 use Rattle.login_model.specs.declared.fact.Key.TheVariants as key
@@ -18,7 +18,7 @@ use Rattle.login_laws.specs.Hearing.{Heard, begins, is_turned, unheard}
 use Rattle.login_laws.proofs.Hearing.{unturned}
 use Rattle.login_laws.proofs.JournalLaws.{one-marks}
 use Rattle.login_core.specs.inner.Draft.{DraftState}
-use Rattle.login_core.specs.inner.Ears.{AreEnough, ListenLive, ListenOn, heard_with, is_evdev, of_evdev, settled}
+use Rattle.login_core.specs.inner.Ears.{AreEnough, ListenLive, ListenOn, heard_with, of_evdev, settled}
 use Rattle.login_core.specs.inner.Facts.{Tables, StandFor}
 use Rattle.login_core.specs.inner.UnderWay.{so_far}
 use Rattle.login_core.specs.declared.board.Reach.{Reach}

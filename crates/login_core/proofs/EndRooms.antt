@@ -1,5 +1,5 @@
 -- The end of each connection keeps its room behind each event.
-use Rattle.std.proofs.Common.{◌≡◌, ◌<◌, ◌≤◌, ◌+◌, ◌==◌, ◌⊎◌, ℕ, Bool, true, false, cond, List, refl, ap, sym, subst, ◌∙◌, arith, inl, inr}
+use Rattle.std.proofs.Common.{◌≡◌, ◌<◌, ◌≤◌, ◌+◌, ◌==◌, ◌||◌, ◌⊎◌, ℕ, Bool, true, false, cond, List, refl, ap, sym, subst, ◌∙◌, arith, inl, inr}
 use Rattle.std.proofs.lemmas.Bool.Decides.{nat_tests}
 use Rattle.login_base.specs.declared.ids.ConnId.{ConnId}
 use Rattle.login_base.specs.declared.ids.Millis.{Millis}
@@ -31,7 +31,7 @@ use Rattle.login_laws.specs.Need.{IsDisconnect}
 use Rattle.login_laws.specs.Shares.{concerns, most_share_rise, share}
 use Rattle.login_laws.specs.Sound.{IsSound}
 use Rattle.login_laws.proofs.Carried.{ends-carried, settle-carried}
-use Rattle.login_laws.proofs.Comings.{IsNew, IsTame, event-comes, event-tame}
+use Rattle.login_laws.proofs.Comings.{IsCreation, IsTame, event-comes, event-tame}
 use Rattle.login_laws.proofs.Raising.{shares-move}
 use Rattle.login_laws.proofs.RoomLaws.{stop-stays}
 use Rattle.login_laws.proofs.SharesLaws.{ends-have-shares}
@@ -42,13 +42,14 @@ use Rattle.login_core.specs.State.{NextIsWide, end_marks, may_raise}
 use Rattle.login_core.specs.declared.board.Board.{Board}
 use Rattle.login_core.specs.inner.Board.{IsBegun}
 use Rattle.login_core.specs.inner.Draft.{DraftState}
-use Rattle.login_core.specs.inner.Ends.{BeginsEnds, CanWelcome, EndsFollow, IsWidened, WelcomesEnds}
+use Rattle.login_core.specs.inner.Ends.{BeginsEnds, CanWelcome, IsWide, OthersStay, IsWidened, WelcomesEnds}
 use Rattle.login_core.specs.inner.Inside.{HaveEnds}
+use Rattle.login_core.specs.inner.Ledger.{end_room}
 use Rattle.login_core.proofs.Keeping.{Creates, which}
 
 -- ---- who is connected behind an event
 
-call-at : (U : Setup) (r : Request) (t : Trail) (c : ConnId) → Creates r.call ⊎ (IsNew r.call → ⊥) → value (settle U (direct U (Calls r) t)) (key.Conn c) ≡ value t (key.Conn c)
+call-at : (U : Setup) (r : Request) (t : Trail) (c : ConnId) → Creates r.call ⊎ (IsCreation r.call → ⊥) → value (settle U (direct U (Calls r) t)) (key.Conn c) ≡ value t (key.Conn c)
 unfolding direct
 call-at U r t c (inl w) =
     let e = ap (λ (x : Call). value (settle U (direct_call U r.who x t)) (key.Conn c)) w.is in
@@ -73,6 +74,12 @@ disconnect-at U d c t =
 
 -- ---- the rooms
 
+-- the rooms behind an event
+abbrev pub EndsFollow : Verdict → Event → ℕ → (ConnId → ℕ) → (ConnId → ℕ) → Type 0
+EndsFollow v (Disconnect d) next old new = OthersStay d old new
+EndsFollow Granted (Connect d u) next old new = (next ≤ new d) × OthersStay d old new
+EndsFollow v e next old new = (c : ConnId) → new c ≡ old c
+
 -- there is room for them
 abbrev pub AreWide : (ConnId → ℕ) → Verdict → Trail → Event → Type 0
 AreWide ends v t e = (c : ConnId) → is_connected t c ≡ true → end_marks v t e c ≤ ends c
@@ -83,7 +90,7 @@ end-fits U before e Granted c h l p n =
     let P : Verdict → Type 0 = λ w. share c (stepped U w e (trail_of before)) ≤ end_marks Granted (trail_of before) e c in
     subst P (sym h) (by (concerns (trail_of before) e c) refl)
   where
-    by : (b : Bool) → concerns (trail_of before) e c ≡ b → share c (stepped U (verdict U (trail_of before) e) e (trail_of before)) ≤ cond b (share c (trail_of before) + most_share_rise (trail_of before)) (share c (trail_of before))
+    by : (b : Bool) → concerns (trail_of before) e c ≡ b → share c (stepped U (verdict U (trail_of before) e) e (trail_of before)) ≤ cond b (share c (trail_of before) + most_share_rise c (trail_of before)) (share c (trail_of before))
     by true k = (shares-move U).rises before e c l p n
     by false k = (shares-move U).spares before e c l p n k
 end-fits U before e (Denied r) c h l p n = omega arith
@@ -93,7 +100,7 @@ pub end-least : (v : Verdict) (t : Trail) (e : Event) (c : ConnId) → 1 ≤ end
 unfolding share
 end-least v t e c = by (may_raise v t e c)
   where
-    by : (b : Bool) → 1 ≤ cond b (share c t + most_share_rise t) (share c t)
+    by : (b : Bool) → 1 ≤ cond b (share c t + most_share_rise c t) (share c t)
     by true = omega arith
     by false = omega arith
 
@@ -203,13 +210,46 @@ ends-follow (Denied r) Stop k n old begun welcome new l b w c = λ a. c a ∙ w 
 -- room that is made twice
 pub widened-again : (old m n : Board) → IsWidened old m → IsWidened m n → IsWidened old n
 widened-again old m n a b = record {
-  keeps = λ c. (let k = a.keeps c in let l = b.keeps c in omega arith);
+  keeps = λ c n f h. b.keeps c n (subst (λ (d : DraftState). n ≤ share c d.trail + most_share_rise c d.trail) (sym a.draft) f) (a.keeps c n f h);
   next = (let k = a.next in let l = b.next in omega arith);
   items = b.items ∙ a.items;
   entries = b.entries ∙ a.entries;
   draft = b.draft ∙ a.draft;
   idle = b.idle ∙ a.idle;
 }
+
+-- where these have room, and then those, both have it
+pub wide-both : (a b such : ConnId → Bool) (old m n : Board) → ((c : ConnId) → such c ≡ (a c || b c)) → IsWidened old m → IsWidened m n → IsWide a old m → IsWide b m n → IsWide such old n
+unfolding share
+wide-both a b such old m n is v w p q c e has = by (a c) refl
+  where
+    same : share c m.draft.trail + most_share_rise c m.draft.trail ≡ share c old.draft.trail + most_share_rise c old.draft.trail
+    same = ap (λ (d : DraftState). share c d.trail + most_share_rise c d.trail) v.draft
+
+    by : (x : Bool) → a c ≡ x → share c old.draft.trail + most_share_rise c old.draft.trail ≤ end_room n.journal c
+    by true s = (let h = same in w.keeps c (share c old.draft.trail + most_share_rise c old.draft.trail) (omega arith) (p c s has))
+    by false s =
+        let next : b c ≡ true = ap (λ (x : Bool). x || b c) (sym s) ∙ sym (is c) ∙ e in
+        let one = v.keeps c 1 (omega arith) (omega arith) in
+        let h = q c next (omega arith) in
+        let k = same in
+        omega arith
+
+-- where they have it, it stays
+pub wide-then : (a : ConnId → Bool) (old m n : Board) → IsWidened old m → IsWidened m n → IsWide a old m → IsWide a old n
+wide-then a old m n v w p c e has =
+    let same = ap (λ (d : DraftState). share c d.trail + most_share_rise c d.trail) v.draft in
+    w.keeps c (share c old.draft.trail + most_share_rise c old.draft.trail) (omega arith) (p c e has)
+
+-- where one end gets room for so many marks, and the others are as before
+pub keeps-one : (t : Trail) (who : ConnId) (marks : ℕ) (old new : ConnId → ℕ) → marks ≡ share who t + most_share_rise who t → ((n : ℕ) → n ≤ old who → n ≤ marks → n ≤ new who) → ((c : ConnId) → (c.0 == who.0) ≡ false → new c ≡ old c)
+    → (c : ConnId) (n : ℕ) → n ≤ share c t + most_share_rise c t → n ≤ old c → n ≤ new c
+keeps-one t who marks old new is own others c n f h = elim (test (c.0 == who.0)) [
+  | inl y ↦
+      let P : ConnId → Type 0 = λ d. n ≤ share d t + most_share_rise d t → n ≤ old d → n ≤ new d in
+      subst P (sym (same-conn c who y)) (λ g k. own n k (omega arith)) f h
+  | inr o ↦ (let e = others c o in omega arith)
+]
 
 -- it goes on behind the journal as before
 pub begun-widened : (old new : Board) → IsWidened old new → IsBegun old → IsBegun new
@@ -218,11 +258,25 @@ begun-widened old new w b = record {
   idle_empty = ap (λ (r : Room Mark). r.items) w.idle ∙ b.idle_empty;
 }
 
+-- who is connected has room for its end still
+pub still-have : (old new : Board) → old.draft.trail ≡ trail_of old.journal.items → IsWidened old new → HaveEnds (end_room old.journal) (trail_of old.journal.items) → HaveEnds (end_room new.journal) (trail_of new.journal.items)
+still-have old new e w have =
+    let A : Trail → Type 0 = HaveEnds (end_room old.journal) in
+    let B : Trail → Type 0 = HaveEnds (end_room new.journal) in
+    let had = subst A (sym e) have in
+    subst B (e ∙ ap trail_of (sym w.items)) (λ c i. w.keeps c (share c old.draft.trail) (omega arith) (had c i))
+
+-- and where only room for entries and marks was made
+pub reserved-have : (old new : Board) → ((c : ConnId) → end_room new.journal c ≡ end_room old.journal c) → new.journal.items ≡ old.journal.items → HaveEnds (end_room old.journal) (trail_of old.journal.items) → HaveEnds (end_room new.journal) (trail_of new.journal.items)
+reserved-have old new same items have =
+    let B : Trail → Type 0 = HaveEnds (end_room new.journal) in
+    subst B (ap trail_of (sym items)) (λ c i. (let h = have c i in let e = same c in omega arith))
+
 -- where the ends whose share an event may raise have room for what it brings, all have
-pub all-wide : (v : Verdict) (t : Trail) (e : Event) (old new : ConnId → ℕ) → HaveEnds old t → ((c : ConnId) → old c ≤ new c) → ((c : ConnId) → may_raise v t e c ≡ true → 0 < old c → share c t + most_share_rise t ≤ new c) → AreWide new v t e
+pub all-wide : (v : Verdict) (t : Trail) (e : Event) (old new : ConnId → ℕ) → HaveEnds old t → ((c : ConnId) (n : ℕ) → n ≤ share c t + most_share_rise c t → n ≤ old c → n ≤ new c) → ((c : ConnId) → may_raise v t e c ≡ true → 0 < old c → share c t + most_share_rise c t ≤ new c) → AreWide new v t e
 unfolding share
 all-wide v t e old new have keeps wide = λ c i. by c i (may_raise v t e c) refl
   where
-    by : (c : ConnId) → is_connected t c ≡ true → (b : Bool) → may_raise v t e c ≡ b → cond b (share c t + most_share_rise t) (share c t) ≤ new c
+    by : (c : ConnId) → is_connected t c ≡ true → (b : Bool) → may_raise v t e c ≡ b → cond b (share c t + most_share_rise c t) (share c t) ≤ new c
     by c i true k = (let h = have c i in wide c k (omega arith))
-    by c i false k = (let h = have c i in let l = keeps c in omega arith)
+    by c i false k = keeps c (share c t) (omega arith) (have c i)

@@ -6,7 +6,7 @@ use Rattle.login_base.specs.declared.ids.DevNo.{DevNo}
 use Rattle.login_base.specs.declared.ids.HandleNo.{HandleNo}
 use Rattle.login_base.specs.declared.ids.SessId.{SessId}
 use Rattle.login_model.specs.Devices.{is_live}
-use Rattle.login_model.specs.Facts.{handle_device, is_other_kind}
+use Rattle.login_model.specs.Facts.{handle_device, is_evdev, is_other_kind}
 use Rattle.login_model.specs.Legal.{IsLegal, stepped, trail_of}
 use Rattle.login_model.specs.Policy.{call_rules, handle_wrong, verdict}
 use Rattle.login_model.specs.Reading.{last_few}
@@ -37,7 +37,7 @@ use Rattle.login_laws.specs.Sound.{IsSoundBetween}
 use Rattle.login_laws.proofs.Granted.{NoneBroken, granted-rules, not-broken}
 use Rattle.login_laws.proofs.Hearing.{hearing-goes-on}
 use Rattle.login_laws.proofs.SoundLaws.{sound-journal}
-use Rattle.login_core.specs.inner.Ears.{heard_evdev, heard_with, is_evdev, of_evdev, settled}
+use Rattle.login_core.specs.inner.Ears.{heard_evdev, heard_with, of_evdev, settled}
 use Rattle.login_core.specs.inner.UnderWay.{entry_of}
 use Rattle.login_core.proofs.DeviceFacts.{device-goes-on}
 use Rattle.login_core.proofs.Entries.{Steps, legal-closed, legal-entry, trail-closed}
@@ -100,7 +100,7 @@ stays f c t u (Some p) same =
 -- ---- the device of a handle that hears
 
 -- a handle's owner has it of this device, which is there
-record IsOf (t : Trail) (h : HandleNo) (d : DevNo) : Type 0 where
+record IsOfDevice (t : Trail) (h : HandleNo) (d : DevNo) : Type 0 where
   by_whom : ConnId
   session : SessId
   owned : value t (key.Owner h) ≡ fact.Owned (owner.Device by_whom session d)
@@ -110,16 +110,16 @@ abbrev device_or : DevNo → Option Heard → DevNo
 device_or d (Some p) = p.0
 device_or d None = d
 
-heard-of : (U : Setup) (es : List Entry) (h : HandleNo) (p : Heard) → IsSoundBetween U (trail_of es) → heard_in es h ≡ Some p → IsOf (trail_of es) h p.0
+heard-of : (U : Setup) (es : List Entry) (h : HandleNo) (p : Heard) → IsSoundBetween U (trail_of es) → heard_in es h ≡ Some p → IsOfDevice (trail_of es) h p.0
 heard-of U es h p s q = by (is_live (trail_of es) h) refl q
   where
-    by : (b : Bool) → is_live (trail_of es) h ≡ b → cond b (read_of (value (trail_of es) (key.Owner h)) h es) None ≡ Some p → IsOf (trail_of es) h p.0
+    by : (b : Bool) → is_live (trail_of es) h ≡ b → cond b (read_of (value (trail_of es) (key.Owner h)) h es) None ≡ Some p → IsOfDevice (trail_of es) h p.0
     by true i e =
         (let t = trail_of es in
         let l = s.lives h i in
         let k = s.takes l.session l.device h l.taken in
         let z : l.device ≡ p.0 = ap (device_or l.device) (ap (λ (x : Fact). read_of x h es) (sym l.owned) ∙ e) in
-        let P : DevNo → Type 0 = IsOf t h in
+        let P : DevNo → Type 0 = IsOfDevice t h in
         subst P z (record { by_whom = l.by_whom; session = l.session; owned = l.owned; there = ap is_device_fact k.present }))
     by false i e = cc
 

@@ -21,8 +21,12 @@ use Rattle.login_model.proofs.Values.{key-refl, same_key-refl}
 use Rattle.login_core.specs.declared.board.holding.Thing.{Thing}
 use Rattle.login_core.specs.declared.board.holding.Thing.TheVariants.{Session, Lock, Fifo}
 use Rattle.login_core.specs.declared.board.holding.Holding.{Holding}
-use Rattle.login_core.specs.inner.Holding.{AreHeld, AreSuch, IsHeld, control_in, owned_fifo_in, held_lock_in, holding_in, holding_lt, is_other, is_such, key_of, noted, without}
+use Rattle.login_core.specs.inner.Holding.{AreHeld, AreSuch, IsHeld, control_in, owned_fifo_in, held_lock_in, holding_in, holding_lt, is_other, is_such, key_of, without}
 use Rattle.login_core.proofs.HeldOrder.{holding_order}
+
+-- the row after a setting of a key from one fact to another
+abbrev pub noted : Key → Fact → Fact → List Holding → List Holding
+noted k x y xs = insert_some holding_lt (holding_in k y) (without (holding_in k x) xs)
 
 none-some : {x : Holding} → None ≡ Some x → ⊥
 none-some e = cc

@@ -24,7 +24,7 @@ use Rattle.login_model.specs.declared.rule.Verdict.TheVariants.{Granted, Denied}
 use Rattle.login_model.specs.declared.setup.Setup.{Setup}
 use Rattle.login_model.specs.Fresh.{next_session, next_handle}
 use Rattle.login_model.specs.Creating.{create, created_session}
-use Rattle.login_laws.proofs.Comings.{IsNew, IsTame, comes-connections, connect-connections, disconnect-connections, event-comes, event-tame, tame-connections}
+use Rattle.login_laws.proofs.Comings.{IsCreation, IsTame, comes-connections, connect-connections, disconnect-connections, event-comes, event-tame, tame-connections}
 use Rattle.login_laws.proofs.EventMarks.{other}
 use Rattle.login_laws.proofs.NeedLaws.{ends}
 use Rattle.login_laws.proofs.RoomLaws.{stop-stays}
@@ -107,11 +107,11 @@ pub record Creates (x : Call) : Type 0 where
   pub creation : Creation
   pub is : x ≡ call.Create creation
 
-pub which : (x : Call) → Creates x ⊎ (IsNew x → ⊥)
+pub which : (x : Call) → Creates x ⊎ (IsCreation x → ⊥)
 which (call.Create y) = inl (record { creation = y; is = refl })
 which _ = inr (λ z. z)
 
-call-by : (U : Setup) (r : Request) (t : Trail) → Creates r.call ⊎ (IsNew r.call → ⊥) → length (connections (settle U (direct U (Calls r) t))) ≤ length (connections t)
+call-by : (U : Setup) (r : Request) (t : Trail) → Creates r.call ⊎ (IsCreation r.call → ⊥) → length (connections (settle U (direct U (Calls r) t))) ≤ length (connections t)
 unfolding direct
 call-by U r t (inl w) =
     let y = w.creation in

@@ -17,7 +17,7 @@ use Rattle.device_model.specs.declared.ears.Ear.{Ear}
 use Rattle.login_laws.specs.Few.{same_handle}
 use Rattle.login_laws.specs.Hearing.{Heard, is_turned}
 use Rattle.login_core.specs.inner.Ears.{AreEnough, KeepsRings, ListenLive, turned_by}
-use Rattle.login_core.specs.Rings.{ring_count}
+use Rattle.login_core.specs.inner.Rings.{ring_count}
 
 -- ---- marks that make a handle live or dead
 

@@ -12,7 +12,7 @@ use Rattle.login_model.specs.declared.mark.Whom.{Whom}
 use Rattle.login_model.specs.declared.mark.Notice.{Notice}
 use Rattle.login_model.specs.Devices.{taken_devices}
 use Rattle.login_model.specs.Direct.{is_lock_of, locks_of}
-use Rattle.login_model.specs.Facts.{controller_in, is_lock_fact}
+use Rattle.login_model.specs.Facts.{controller_in, is_lock_fact, lock_holder}
 use Rattle.login_model.specs.Full.{taken_by}
 use Rattle.login_model.specs.Kind.{AreKeys}
 use Rattle.login_model.specs.Names.{lock_in, lock_lt, names, session_in, session_lt}
@@ -25,7 +25,7 @@ use Rattle.login_laws.proofs.Counting.{total, total-less}
 use Rattle.login_laws.proofs.Counts.{Lists, count-same, locks-list}
 use Rattle.login_table.proofs.Listing.{Kind, all, filter-length, kind, names-length}
 use Rattle.login_core.specs.inner.Counts.{one_if, one_there}
-use Rattle.login_core.specs.inner.Dues.{lock_holder, touched_at, touched_by}
+use Rattle.login_core.specs.inner.Dues.{touched_at, touched_by}
 use Rattle.login_core.specs.inner.Owing.{charge, device_marks, due_at, keeper, of_some, owed}
 use Rattle.login_core.proofs.CountLaws.{count-set, kind-list, no-name, own-value}
 use Rattle.login_core.proofs.OwedSums.{both-moved, both-within, sum-total}

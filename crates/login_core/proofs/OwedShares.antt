@@ -7,7 +7,7 @@ use Rattle.login_model.specs.declared.fact.Fact.{Fact}
 use Rattle.login_model.specs.declared.fact.Fact.TheVariants as fact
 use Rattle.login_model.specs.declared.fact.Owner.TheVariants as owner
 use Rattle.login_model.specs.Devices.{taken_devices}
-use Rattle.login_model.specs.Direct.{controlled_by, fifo_in, is_fifo_of, kept_open_by}
+use Rattle.login_model.specs.Direct.{controlled_by, fifo_in, is_fifo_of, kept_open_by, owns_fifo}
 use Rattle.login_model.specs.Facts.{controller_in, is_controller_fact}
 use Rattle.login_model.specs.Full.{taken_by}
 use Rattle.login_model.specs.Names.{names, session_in, session_lt}
@@ -15,7 +15,7 @@ use Rattle.login_model.specs.Policy.{controls}
 use Rattle.login_model.specs.Trail.{Trail, value}
 use Rattle.login_model.specs.Where.{is_open, is_session, open_sessions, sessions}
 use Rattle.login_model.proofs.Values.{same-refl}
-use Rattle.login_laws.specs.Shares.{owns_fifo, share, switch_share}
+use Rattle.login_laws.specs.Shares.{share, switch_share}
 use Rattle.login_laws.specs.Sound.{Fifos}
 use Rattle.login_laws.proofs.Counting.{total}
 use Rattle.login_core.specs.inner.Owing.{charge, due_at, keeper, keeper_in, owed}

@@ -1,5 +1,5 @@
 -- Sums over an ascending list, where two functions differ at one of its names or at two.
-use Rattle.std.proofs.Common.{◌≡◌, ◌≤◌, ◌+◌, ◌==◌, ◌||◌, ℕ, Bool, true, false, cond, Option, Some, None, List, [], ◌∷◌, sum_by, refl, ap, sym, ◌∙◌, arith, ◌⊎◌, inl, inr}
+use Rattle.std.proofs.Common.{◌≡◌, ◌≤◌, ◌+◌, ◌||◌, ℕ, Bool, true, false, cond, Option, Some, None, List, [], ◌∷◌, sum_by, refl, ap, sym, ◌∙◌, arith, ◌⊎◌, inl, inr}
 use Rattle.std.proofs.lemmas.List.Sums.{sum_by-cons}
 use Rattle.login_base.specs.declared.ids.SessId.{SessId}
 use Rattle.login_model.specs.Kind.{IsOrder}
@@ -9,7 +9,7 @@ use Rattle.login_model.proofs.Keys.{same-session, test}
 use Rattle.login_model.proofs.NameLaws.{session_order}
 use Rattle.login_model.proofs.Values.{same-refl, true-false}
 use Rattle.login_laws.proofs.Counting.{tail-not, total}
-use Rattle.login_core.specs.inner.Owing.{of_some}
+use Rattle.login_core.specs.inner.Owing.{is_one, of_some}
 use Rattle.login_core.proofs.CountLaws.{no-name, one-name}
 
 pub sum-total : {A : Type 0} (f : A → ℕ) (xs : List A) → sum_by f xs ≡ total f xs
@@ -50,11 +50,6 @@ some-moved lt o f g (Some w) xs a h n =
     ]
 
 -- ---- two sessions
-
--- whether there is a session, and it is this one
-abbrev pub is_one : Option SessId → SessId → Bool
-is_one None s = false
-is_one (Some r) s = r.0 == s.0
 
 pub one-is : (o : Option SessId) (s : SessId) → is_one o s ≡ true → o ≡ Some s
 one-is None s e = cc

@@ -6,12 +6,10 @@ use Rattle.login_base.specs.declared.ids.SessId.{SessId}
 use Rattle.login_model.specs.declared.fact.Key.{Key}
 use Rattle.login_model.specs.declared.fact.Key.TheVariants as key
 use Rattle.login_model.specs.declared.fact.Fact.{Fact}
-use Rattle.login_model.specs.declared.fact.Fact.TheVariants as fact
-use Rattle.login_model.specs.declared.fact.Owner.TheVariants as owner
 use Rattle.login_model.specs.declared.mark.Mark.TheVariants.{Set}
 use Rattle.login_model.specs.Devices.{is_handle_fact, taken_devices}
 use Rattle.login_model.specs.Direct.{fifo_in}
-use Rattle.login_model.specs.Facts.{controller_in, fifo_session, is_open_fact, is_session_fact}
+use Rattle.login_model.specs.Facts.{controller_in, fifo_owner, fifo_session, is_open_fact, is_session_fact}
 use Rattle.login_model.specs.Same.{same_key}
 use Rattle.login_model.specs.Trail.{Trail, value}
 use Rattle.login_model.proofs.Keys.{chosen, same-session, same_key-true, test}
@@ -19,9 +17,9 @@ use Rattle.login_model.proofs.Values.{same-refl, true-false}
 use Rattle.login_core.specs.declared.board.owing.Touched.{Touched}
 use Rattle.login_core.specs.declared.board.owing.Touched.TheVariants as touched
 use Rattle.login_core.specs.inner.Dues.{taker_at, taker_in, touched_by}
-use Rattle.login_core.specs.inner.Owing.{charge, due_at, keeper_in, other_than}
+use Rattle.login_core.specs.inner.Owing.{charge, due_at, is_one, keeper_in, other_than}
 use Rattle.login_core.proofs.CountLaws.{no-name, one-name, other-value, own-value}
-use Rattle.login_core.proofs.OwedSums.{is_one, one-is}
+use Rattle.login_core.proofs.OwedSums.{one-is}
 use Rattle.login_core.proofs.TakenLaws.{taken-same}
 
 -- ---- which sessions a setting tells of
@@ -73,8 +71,7 @@ untouched k y t c s a b f none =
 
 -- what keeps another session open, or none, doesn't keep this one
 not-for : (s : SessId) (x : Fact) → is_one (fifo_session x) s ≡ false → keeper_in s x ≡ None
-not-for s (fact.Owned (owner.Fifo b r)) e = ap (λ (z : Bool). cond z (Some b) None) e
-not-for s _ e = refl
+not-for s x e = ap (λ (z : Bool). cond z (fifo_owner x) None) e
 
 handle-same : (h : HandleNo) (y : Fact) (t : Trail) (s : SessId) → is_one (fifo_session (value t (key.Owner h))) s ≡ false → is_one (fifo_session y) s ≡ false
     → (g : HandleNo) → keeper_in s (value (Set (key.Owner h) y ∷ t) (key.Owner g)) ≡ keeper_in s (value t (key.Owner g))

@@ -13,12 +13,12 @@ use Rattle.login_table.specs.declared.home.Home.TheVariants.{Users, Sessions, Se
 use Rattle.login_core.specs.declared.room.counts.Counts.{Counts}
 use Rattle.login_core.specs.declared.board.holding.Holding.{Holding}
 use Rattle.login_core.specs.inner.Counts.{Follow, counts_of}
-use Rattle.login_core.specs.inner.Holding.{AreHeld, noted}
-use Rattle.login_core.specs.inner.Facts.{Tables, TablesStand, table, opens, gives, inhibits}
+use Rattle.login_core.specs.inner.Holding.{AreHeld}
+use Rattle.login_core.specs.inner.Facts.{Tables, TablesStand, table, gives}
 use Rattle.login_table.specs.Home.{home}
 use Rattle.login_core.proofs.CountedLaws.{counted-set}
-use Rattle.login_core.proofs.Counting.{sessions-set, handles-set, locks-set}
-use Rattle.login_core.proofs.HeldRows.{held-set}
+use Rattle.login_core.proofs.Counting.{sessions-set, handles-set, locks-set, opens, inhibits}
+use Rattle.login_core.proofs.HeldRows.{held-set, noted}
 use Rattle.login_core.proofs.HomeLaws.{at-home}
 
 -- what a setting makes of the counts, of the numbers and of what connections have

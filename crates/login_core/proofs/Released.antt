@@ -10,7 +10,7 @@ use Rattle.login_model.specs.Trail.{Trail, value, put}
 use Rattle.login_model.specs.Devices.{taken_devices}
 use Rattle.login_model.specs.Procedure.{each, untake, release}
 use Rattle.login_core.specs.declared.room.copies.Copies.{Copies}
-use Rattle.login_core.specs.Texts.{AreCopies}
+use Rattle.login_core.specs.inner.Texts.{AreCopies}
 use Rattle.switch_core.proofs.Frames.{Keeps, Covers, keeps-then, keeps-put, keeps-each}
 use Rattle.login_core.proofs.Devices.{of_device, keeps-untake}
 

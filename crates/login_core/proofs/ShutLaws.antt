@@ -20,7 +20,7 @@ use Rattle.login_model.specs.Names.{names, session_in, session_lt}
 use Rattle.login_model.specs.Where.{is_connected_fact, is_active, is_open, is_session, sessions, open_sessions, is_session_of, seat_in_fact, is_this_seat, is_on_seat, seat_of_session}
 use Rattle.login_model.specs.Devices.{taken_devices}
 use Rattle.login_model.specs.Procedure.{each, if_some, no, kill, untake, release, in_phase, set_phase, vacate, leave_seat, shut}
-use Rattle.login_model.specs.Direct.{is_fifo_of, fifo_in, kept_open_by}
+use Rattle.login_model.specs.Direct.{is_fifo_of, fifo_in, kept_open_by, owns_fifo}
 use Rattle.login_model.proofs.Keys.{test, same-number}
 use Rattle.login_model.proofs.Values.{upd-same, value-put}
 use Rattle.login_laws.proofs.Carried.{shut-carried}
@@ -28,7 +28,7 @@ use Rattle.login_laws.proofs.SessionSteps.{closing-not-open}
 use Rattle.login_laws.proofs.Tame.{tame}
 use Rattle.login_laws.specs.Sound.{Fifos}
 use Rattle.login_core.specs.declared.room.copies.Copies.{Copies}
-use Rattle.login_core.specs.Spares.{AreClosing}
+use Rattle.login_core.specs.inner.Spares.{AreClosing}
 use Rattle.login_core.specs.inner.Chosen.{is_chosen}
 use Rattle.login_core.specs.inner.Ending.{is_kept_open_by}
 use Rattle.switch_core.proofs.Frames.{Keeps, Covers, keeps-all, keeps-then, keeps-say, keeps-put, keeps-if, keeps-each}
@@ -147,7 +147,7 @@ pub kept-chosen : (t : Trail) (c : ConnId) → filter (is_chosen (is_session t) 
 unfolding kept_open_by open_sessions sessions
 kept-chosen t c =
     filter-chosen (is_session t) (is_kept_open_by c t) (names session_lt session_in t)
-    ∙ filter-chosen (is_open t) (λ s. is_fifo_of c (value t (key.Owner (fifo_in (value t (key.Sess s)))))) (sessions t)
+    ∙ filter-chosen (is_open t) (owns_fifo t c) (sessions t)
 
 -- nothing but active sessions
 abbrev pub of_active : Key → Bool

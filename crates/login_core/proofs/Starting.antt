@@ -17,7 +17,7 @@ use Rattle.login_core.specs.inner.Board.{IsBegun}
 use Rattle.login_core.specs.inner.Ears.{AreEars, heard_evdev}
 use Rattle.login_core.specs.inner.Inside.{HaveEnds, IsCore}
 use Rattle.login_core.specs.inner.Ledger.{end_room}
-use Rattle.login_core.specs.Spares.{HaveTexts}
+use Rattle.login_core.specs.inner.Spares.{HaveTexts}
 use Rattle.login_core.specs.declared.board.Board.{Board}
 use Rattle.login_core.specs.declared.room.texts.Texts.{Texts}
 

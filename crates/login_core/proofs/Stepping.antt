@@ -28,11 +28,12 @@ use Rattle.login_laws.proofs.SharesLaws.{ends-have-shares}
 use Rattle.login_core.specs.Fullness.{always_fits}
 use Rattle.login_core.specs.inner.Board.{IsBegun}
 use Rattle.login_core.specs.inner.Ears.{AreEars, heard_evdev, settled}
-use Rattle.login_core.specs.Rings.{ring_count}
-use Rattle.login_core.specs.inner.Ends.{BeginsReach, CanWelcome, EndsFollow}
+use Rattle.login_core.specs.inner.Rings.{ring_count}
+use Rattle.login_core.specs.inner.Ends.{BeginsReach, CanWelcome}
 use Rattle.login_core.specs.inner.Inside.{HaveEnds, IsCore, stop_need}
 use Rattle.login_core.specs.inner.Ledger.{end_room, next_room}
-use Rattle.login_core.specs.Spares.{AreReady, HaveTexts}
+use Rattle.login_core.specs.Ready.{AreReady}
+use Rattle.login_core.specs.inner.Spares.{HaveTexts}
 use Rattle.login_core.specs.inner.UnderWay.{entry_of}
 use Rattle.login_core.specs.State.{CoreState, IsReady, IsRoomFor, NextIsWide}
 use Rattle.login_core.specs.inner.State.{answer_next, stop_next}
@@ -42,7 +43,7 @@ use Rattle.login_core.specs.declared.room.texts.Texts.{Texts}
 use Rattle.login_core.proofs.Entries.{Steps, legal-closed, length-closed, marks-counted, stop-closed, trail-closed}
 use Rattle.login_core.proofs.Evdev.{evdev-goes-on}
 use Rattle.login_core.proofs.Keeping.{StaysWithin, Made, disconnect-granted, kept-disconnect, kept-other, kept-stop, small, stop-granted}
-use Rattle.login_core.proofs.EndRooms.{AreWide, call-ends, connect-ends, disconnect-ends, end-least, hardware-ends, stop-ends, tick-ends}
+use Rattle.login_core.proofs.EndRooms.{EndsFollow, AreWide, call-ends, connect-ends, disconnect-ends, end-least, hardware-ends, stop-ends, tick-ends}
 use Rattle.login_core.proofs.Listeners.{disconnect-takes, other-takes, stop-takes}
 
 -- what a core of these parts is seen as

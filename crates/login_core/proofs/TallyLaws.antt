@@ -12,7 +12,7 @@ use Rattle.login_model.specs.declared.fact.Fact.TheVariants as fact
 use Rattle.login_model.specs.declared.mark.Mark.TheVariants.{Set, Say}
 use Rattle.login_model.specs.declared.mark.Whom.{Whom}
 use Rattle.login_model.specs.declared.mark.Notice.{Notice}
-use Rattle.login_model.specs.Facts.{is_on_terminal, is_open_phase, is_open_fact, is_seat0, is_seated_of}
+use Rattle.login_model.specs.Facts.{is_on_terminal, is_open_phase, is_open_fact, is_seat0, is_seated_of, seated_user, terminal_in}
 use Rattle.login_model.specs.Kind.{AreKeys}
 use Rattle.login_model.specs.Names.{names, session_in, session_lt}
 use Rattle.login_model.specs.Standing.{has_seat}
@@ -26,7 +26,7 @@ use Rattle.login_table.proofs.Listing.{Kind, all, kind, session_kind, sessions-a
 use Rattle.login_core.specs.declared.board.seating.Seating.{Seating}
 use Rattle.login_core.specs.declared.board.seating.Tally.{Tally}
 use Rattle.login_core.specs.inner.Counts.{one_if, one_there}
-use Rattle.login_core.specs.inner.Seating.{AreLow, AreSeated, AreTallied, CanSeat, CanShift, Seats, Shifts, bucket_of, buckets, high_in, is_at, is_none_at, is_one_at, place_under, placed_at, terminal_in, user_in}
+use Rattle.login_core.specs.inner.Seating.{AreLow, AreSeated, AreTallied, CanSeat, CanShift, Seats, Shifts, bucket_of, buckets, high_in, is_at, is_none_at, is_one_at, place_under, placed_at}
 use Rattle.login_core.proofs.CountLaws.{count-say, fits, follows, kind-list}
 
 -- ---- the sessions of a bucket
@@ -88,21 +88,21 @@ seated-set : (s u : Seating) (k : Key) (x : Fact) (t : Trail) → AreSeated s t 
 seated-set s u k x t a f = record {
   terminals = tallied-set terminal_in refl s.terminals u.terminals k x t a.terminals f.terminals;
   high = tallied-set high_in refl s.high u.high k x t a.high f.high;
-  users = tallied-set user_in refl s.users u.users k x t a.users f.users;
+  users = tallied-set seated_user refl s.users u.users k x t a.users f.users;
 }
 
 seated-fit : (s : Seating) (k : Key) (x : Fact) (t : Trail) → AreSeated s t → length t + 2 < 2 ^ 32 → CanSeat s k (value t k) x
 seated-fit s k x t a few = record {
   terminals = tallied-fit terminal_in refl s.terminals k x t a.terminals few;
   high = tallied-fit high_in refl s.high k x t a.high few;
-  users = tallied-fit user_in refl s.users k x t a.users few;
+  users = tallied-fit seated_user refl s.users k x t a.users few;
 }
 
 pub seated-say : (s : Seating) (w : Whom) (n : Notice) (t : Trail) → AreSeated s t → AreSeated s (Say w n ∷ t)
 seated-say s w n t a = record {
   terminals = tallied-say terminal_in refl s.terminals w n t a.terminals;
   high = tallied-say high_in refl s.high w n t a.high;
-  users = tallied-say user_in refl s.users w n t a.users;
+  users = tallied-say seated_user refl s.users w n t a.users;
 }
 
 tallied-none : (place_in : Fact → Option ℕ) (c : Tally) → ((v : ℕ) → v < buckets → slice_index c.counts v ≡ 0) → AreTallied place_in c []
@@ -111,7 +111,7 @@ tallied-none place_in c e = record { at = e }
 
 pub seated-none : (s : Seating) → ((v : ℕ) → v < buckets → slice_index s.terminals.counts v ≡ 0) → ((v : ℕ) → v < buckets → slice_index s.high.counts v ≡ 0)
     → ((v : ℕ) → v < buckets → slice_index s.users.counts v ≡ 0) → AreSeated s []
-seated-none s e h f = record { terminals = tallied-none terminal_in s.terminals e; high = tallied-none high_in s.high h; users = tallied-none user_in s.users f }
+seated-none s e h f = record { terminals = tallied-none terminal_in s.terminals e; high = tallied-none high_in s.high h; users = tallied-none seated_user s.users f }
 
 -- a fact that was read of the tables, and one that is a copy
 pub seated-room : (s : Seating) (k : Key) (x y : Fact) (t : Trail) → AreSeated s t → y ≡ value t k → length t + 2 < 2 ^ 32 → CanSeat s k y x
@@ -215,17 +215,17 @@ none-high c t a e = record {
 
 -- ---- users
 
-seated-at : (x : Fact) (uid : ℕ) → is_seated_of uid x ≡ true → is_at (user_in x) (bucket_of uid) ≡ true
+seated-at : (x : Fact) (uid : ℕ) → is_seated_of uid x ≡ true → is_at (seated_user x) (bucket_of uid) ≡ true
 seated-at (fact.Session x) uid e =
     let h = on-parts (is_open_phase x.phase) (x.uid.0 == uid) (is_some x.seat) e in
     in-bucket (is_open_phase x.phase) (is_some x.seat) x.uid.0 uid h.0 h.2 (same-number x.uid.0 uid h.1)
 seated-at _ uid e = cc
 
-pub seatless : (c : Tally) (t : Trail) (uid : ℕ) → AreTallied user_in c t → is_none_at c uid ≡ true → has_seat t uid ≡ false
+pub seatless : (c : Tally) (t : Trail) (uid : ℕ) → AreTallied seated_user c t → is_none_at c uid ≡ true → has_seat t uid ≡ false
 seatless c t uid a e =
     let p = λ (s : SessId). is_seated_of uid (value t (key.Sess s)) in
     let none = sym (a.at (bucket_of uid) (bound uid)) ∙ same-number (slice_index c.counts (bucket_of uid)) 0 e in
     ap is_some (find-nobody p (sessions t) (λ s. elim (test (p s)) [
-      | inl y ↦ absurd (not-so (seated-at (value t (key.Sess s)) uid y) (nobody-at user_in (bucket_of uid) t refl none s))
+      | inl y ↦ absurd (not-so (seated-at (value t (key.Sess s)) uid y) (nobody-at seated_user (bucket_of uid) t refl none s))
       | inr n ↦ n
     ]))

@@ -1,5 +1,5 @@
 -- The nearest terminal of an open session of seat0, found by going over the terminals.
-use Rattle.std.proofs.Common.{◌≡◌, ◌&&◌, ◌==◌, ◌<◌, ◌+◌, ◌⊎◌, ℕ, nat_le, nat_lt, Bool, true, false, cond, Option, Some, None, List, [], ◌∷◌, filter, find, map, refl, ap, sym, subst, ◌∙◌, inl, inr, arith}
+use Rattle.std.proofs.Common.{◌≡◌, ◌&&◌, ◌==◌, ◌<◌, ◌+◌, ◌⊎◌, ℕ, nat_le, nat_lt, option_and_then, Bool, true, false, cond, Option, Some, None, List, [], ◌∷◌, filter, find, map, refl, ap, sym, subst, ◌∙◌, inl, inr, arith}
 use Rattle.std.proofs.lemmas.Bool.Decides.{nat_tests}
 use Rattle.std.specs.Option.{is_some}
 use Rattle.login_base.specs.declared.ids.SessId.{SessId}
@@ -176,11 +176,14 @@ pub low-step : (w : Way) (t : Trail) (above best : Option ℕ) (v : ℕ) → IsN
 low-step w t above best v h = low-by w t above best v (session_on t v) refl h
 
 -- each of them is below the last that is gone over
-high-at : (a b c : Bool) → a ≡ true → b ≡ true → is_at (cond (a && b && c) (Some 0) None) 0 ≡ false → c ≡ false
-high-at true true true p q e = e
-high-at true true false p q e = refl
-high-at true false c p q e = cc
-high-at false b c p q e = cc
+at-high : (b : Bool) → is_at (cond b (Some 0) None) 0 ≡ false → b ≡ false
+at-high true e = e
+at-high false e = refl
+
+high-at : (a b : Bool) (v : ℕ) → a ≡ true → b ≡ true → is_at (option_and_then (λ w. cond (nat_le buckets w) (Some 0) None) (cond (a && b) (Some v) None)) 0 ≡ false → nat_le buckets v ≡ false
+high-at true true v p q e = at-high (nat_le buckets v) e
+high-at true false v p q e = cc
+high-at false b v p q e = cc
 
 below-last : (n : ℕ) → nat_le buckets n ≡ false → n < buckets
 below-last n e = grind (arith, nat_tests)
@@ -190,7 +193,7 @@ low-terminal (fact.Session x) v e n =
     let h = both (is_open_phase x.phase && is_seat0 x.seat) (x.vt == v) e in
     let i = both (is_open_phase x.phase) (is_seat0 x.seat) h.0 in
     let same = same-number x.vt v h.1 in
-    let low = below-last x.vt (high-at (is_open_phase x.phase) (is_seat0 x.seat) (nat_le buckets x.vt) i.0 i.1 n) in
+    let low = below-last x.vt (high-at (is_open_phase x.phase) (is_seat0 x.seat) x.vt i.0 i.1 n) in
     omega arith
 low-terminal _ v e n = cc
 

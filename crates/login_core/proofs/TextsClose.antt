@@ -12,7 +12,7 @@ use Rattle.login_model.specs.declared.fact.Owner.TheVariants as owner
 use Rattle.login_laws.proofs.Carried.{close-carried}
 use Rattle.login_laws.proofs.Tame.{Tame, tame, tame-unlocks}
 use Rattle.login_model.specs.Facts.{fifo_session}
-use Rattle.login_core.specs.Spares.{AreClosing}
+use Rattle.login_core.specs.inner.Spares.{AreClosing}
 use Rattle.login_core.specs.declared.room.copies.Copies.{Copies}
 use Rattle.login_core.proofs.ShutLaws.{copies-shut}
 use Rattle.login_core.proofs.TextsEnd.{OthersStay}

@@ -19,8 +19,8 @@ use Rattle.login_laws.proofs.Tame.{later-along, later-trans, open-here, other, t
 use Rattle.login_model.proofs.Values.{same-refl, value-put, values-say, Facts}
 use Rattle.login_core.specs.declared.room.copies.Copies.{Copies}
 use Rattle.login_core.specs.declared.room.texts.Texts.{Texts}
-use Rattle.login_core.specs.Spares.{HaveCopies, HaveTexts, copies_in}
-use Rattle.login_core.specs.Texts.{AreSome}
+use Rattle.login_core.specs.inner.Spares.{HaveCopies, HaveTexts, copies_in}
+use Rattle.login_core.specs.inner.Texts.{AreSome}
 use Rattle.login_core.proofs.TextsKept.{AllLater, closing-later, going-later}
 
 gone-none : (x : Fact) → is_session_fact (in_phase Gone x) ≡ true → ⊥

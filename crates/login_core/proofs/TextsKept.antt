@@ -9,14 +9,16 @@ use Rattle.login_model.specs.declared.fact.Fact.{Fact}
 use Rattle.login_model.specs.declared.fact.Fact.TheVariants as fact
 use Rattle.login_model.specs.declared.fact.Key.TheVariants.{Sess}
 use Rattle.login_model.specs.declared.session.SessionTexts.{SessionTexts}
-use Rattle.login_laws.proofs.Comings.{Comes}
+use Rattle.login_laws.proofs.Comings.{SessionComes}
 use Rattle.login_model.proofs.Keys.{same-session}
 use Rattle.login_laws.proofs.Tame.{Later}
 use Rattle.login_model.proofs.Values.{same-refl}
 use Rattle.login_core.specs.declared.room.copies.Copies.{Copies}
 use Rattle.login_core.specs.declared.room.texts.Texts.{Texts}
-use Rattle.login_core.specs.Spares.{AreClosing, AreGoing, AreOf, HaveCopies, HaveTexts, copies_in}
-use Rattle.login_core.specs.Texts.{AreSome, HasTexts, session_texts}
+use Rattle.login_core.specs.Ready.{AreOf}
+use Rattle.login_core.specs.inner.Spares.{AreClosing, AreGoing, HaveCopies, HaveTexts, copies_in}
+use Rattle.login_model.specs.Creating.{session_texts}
+use Rattle.login_core.specs.inner.Texts.{AreSome, HasTexts}
 
 none-some : {A : Type 0} (x : A) → None ≡ Some x → ⊥
 none-some x e = cc
@@ -78,7 +80,7 @@ flip a b e = not-same (b.0 == a.0) refl
         let n : (a.0 == a.0) ≡ false = subst P z e in
         absurd (let y : true ≡ false = sym (same-refl a.0) ∙ n in cc)
 
-copies-at : (there : Trail → SessId → Bool) (x : Creation) (s : SessId) (c : Copies) (old new : List (ℕ × Copies)) (t u : Trail) → AreOf x c → Keeps s c old new → Comes s (session_texts x) t u
+copies-at : (there : Trail → SessId → Bool) (x : Creation) (s : SessId) (c : Copies) (old new : List (ℕ × Copies)) (t u : Trail) → AreOf x c → Keeps s c old new → SessionComes s (session_texts x) t u
     → ((r : SessId) → Later (value t (Sess r)) (value u (Sess r)) → there u r ≡ true → there t r ≡ true) → HaveCopies there old t
     → (r : SessId) → there u r ≡ true → (b : Bool) → (r.0 == s.0) ≡ b → AreSome (value u (Sess r)) (copies_in new r)
 copies-at there x s c old new t u o k p back h r e true b =
@@ -90,11 +92,11 @@ copies-at there x s c old new t u o k p back h r e false b =
     let l = p.others r (flip r s b) in
     subst Q (sym (k.others r b)) (some-along (value t (Sess r)) (value u (Sess r)) (copies_in old r) l.texts (h.each r (back r l e)))
 
-copies-come : (there : Trail → SessId → Bool) (x : Creation) (s : SessId) (c : Copies) (old new : List (ℕ × Copies)) (t u : Trail) → AreOf x c → Keeps s c old new → Comes s (session_texts x) t u
+copies-come : (there : Trail → SessId → Bool) (x : Creation) (s : SessId) (c : Copies) (old new : List (ℕ × Copies)) (t u : Trail) → AreOf x c → Keeps s c old new → SessionComes s (session_texts x) t u
     → ((r : SessId) → Later (value t (Sess r)) (value u (Sess r)) → there u r ≡ true → there t r ≡ true) → HaveCopies there old t → HaveCopies there new u
 copies-come there x s c old new t u o k p back h = record { each = λ r e. copies-at there x s c old new t u o k p back h r e (r.0 == s.0) refl }
 
-pub texts-comes : (x : Creation) (s : SessId) (a b : Copies) (old new : Texts) (t u : Trail) → Comes s (session_texts x) t u → AreOf x a → AreOf x b
+pub texts-comes : (x : Creation) (s : SessId) (a b : Copies) (old new : Texts) (t u : Trail) → SessionComes s (session_texts x) t u → AreOf x a → AreOf x b
     → Keeps s a old.closing.items new.closing.items → Keeps s b old.gone.items new.gone.items → HaveTexts old t → HaveTexts new u
 texts-comes x s a b old new t u p oa ob ka kb h = record {
   closing = copies-come is_open x s a old.closing.items new.closing.items t u oa ka p (λ r l e. l.opened e) h.closing;

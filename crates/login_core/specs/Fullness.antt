@@ -1,4 +1,4 @@
--- When the journal is full, from how many entries and marks it has.
+-- The events for which the journal never is full.
 use Rattle.std.specs.Prelude.{Bool, true, false}
 use Rattle.login_model.specs.declared.event.Event.{Event}
 use Rattle.login_model.specs.declared.event.Event.TheVariants.{Disconnect, Stop}

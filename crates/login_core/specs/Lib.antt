@@ -1,7 +1,6 @@
 pub mod Texts
-pub mod Spares
+pub mod Ready
 pub mod Fullness
-pub mod Rings
 pub mod Ends
 pub mod State
 pub mod inner

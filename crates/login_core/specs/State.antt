@@ -19,7 +19,7 @@ use Rattle.login_model.specs.declared.rule.Verdict.TheVariants.{Granted, Denied}
 use Rattle.login_model.specs.declared.setup.Setup.{Setup}
 use Rattle.login_model.specs.declared.fullness.Fullness.{Fullness}
 use Rattle.login_core.specs.Ends.{room_of}
-use Rattle.login_core.specs.Spares.{AreReady}
+use Rattle.login_core.specs.Ready.{AreReady}
 use Rattle.login_core.specs.declared.state.Refused.{Refused}
 use Rattle.login_core.specs.declared.state.Refused.TheVariants.{NoMemory, Full, Stopped}
 use Rattle.login_core.specs.declared.room.ready.Ready.{Ready}
@@ -52,7 +52,7 @@ may_raise (Denied broken) t e c = false
 
 -- the marks that a connection's end may make behind an event with this verdict
 abbrev pub end_marks : Verdict → Trail → Event → ConnId → ℕ
-end_marks v t e c = if may_raise v t e c then share c t + most_share_rise t else share c t
+end_marks v t e c = if may_raise v t e c then share c t + most_share_rise c t else share c t
 
 -- there is room for the end of a connection that comes
 abbrev pub NextIsWide : Verdict → Trail → Event → ℕ → Type 0

@@ -1,3 +1,4 @@
+-- What serves private functions and models: how a core keeps its facts, its journal and what it counts beside them.
 pub mod Chosen
 pub mod Rounds
 pub mod Counts
@@ -6,9 +7,12 @@ pub mod Sums
 pub mod Owing
 pub mod Dues
 pub mod Concerning
+pub mod Rings
 pub mod Ears
 pub mod Facts
 pub mod HandedOn
+pub mod Texts
+pub mod Spares
 pub mod Handles
 pub mod Ledger
 pub mod Ending

@@ -27,8 +27,8 @@ ghost use Rattle.login_core.specs.inner.Counts.{AreCounted};
 ghost use Rattle.device_model.specs.Ears.{heard_of};
 ghost use Rattle.login_core.specs.inner.Draft.{marked_by, reaching, tell, with_ears, with_rings, Fits};
 ghost use Rattle.login_core.specs.inner.Ears.{AreEnough, ListenLive, settled};
-ghost use Rattle.login_core.specs.inner.Ledger.{end_room, next_room};
-ghost use Rattle.login_core.specs.Rings.{ring_count};
+ghost use Rattle.login_core.specs.inner.Ledger.{end_room, next_room, with_trimmed};
+ghost use Rattle.login_core.specs.inner.Rings.{ring_count};
 
 use crate::board::facts::Facts;
 use crate::board::seating::Seating;
@@ -153,7 +153,8 @@ impl Draft {
     fn trim(&mut self, journal: &mut Ledger) -> Result<(), NoMemory>
         requires { self.old.trail ≡ self.old.before }
         ensures same { self.new ≡ self.old }
-        ensures journal { journal.new ≡ journal.old }
+        ensures all { OnOk result (journal.new.trimmed ≡ length journal.new.items) }
+        ensures journal { journal.new ≡ with_trimmed journal.new.trimmed journal.old }
     {
         journal.trim(&mut self.marks)
     }
@@ -394,6 +395,7 @@ impl Board {
         ensures keeps_far { self.old.draft.far ≤ self.new.draft.far }
         ensures ends { (c : AnyConnection) → end_room self.new.journal c ≡ end_room self.old.journal c }
         ensures items { self.new.journal.items ≡ self.old.journal.items }
+        ensures trimmed { OnOk result (self.new.journal.trimmed ≡ length self.new.journal.items) }
         ensures trail { self.new.draft.trail ≡ self.old.draft.trail }
         ensures within { length self.new.draft.trail ≤ self.new.draft.reach }
         ensures ears { self.new.draft.ears ≡ self.old.draft.ears }

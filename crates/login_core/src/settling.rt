@@ -6,7 +6,8 @@ ghost use Rattle.login_model.specs.Legal.{stepped};
 ghost use Rattle.login_model.specs.Policy.{verdict as policy_verdict};
 ghost use Rattle.login_model.specs.Settle.{settle};
 ghost use Rattle.login_laws.specs.Sound.{Awaits, IsSound};
-ghost use Rattle.login_core.specs.Spares.{AreReady, HaveTexts};
+ghost use Rattle.login_core.specs.Ready.{AreReady};
+ghost use Rattle.login_core.specs.inner.Spares.{HaveTexts};
 ghost use Rattle.login_core.specs.inner.Draft.{marked_by, Fits};
 
 use crate::board::Draft;

@@ -46,7 +46,8 @@ abbrev pub with_ears : List Ear → ℕ → DraftState → DraftState
 with_ears es n d = record d { ears = es; rings = n }
 
 -- the facts, and where sessions sit, are as the marks so far leave them; these are counted; the list of the entry under
--- way has room for as many as there may be with it, and tables for as many as there may be in all, which can be numbered
+-- way has room for as many as there may be with it, and tables for as many as there may be in all, which can be
+-- numbered
 pub record IsDraft (trail : Trail) (marks : Room Mark) (facts : Tables) (seating : Seating) (made : ℕ) (reach : Reach) : Type 0 where
   pub stands : StandFor facts trail
   pub seated : AreSeated seating trail

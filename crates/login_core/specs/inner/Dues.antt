@@ -5,9 +5,8 @@ use Rattle.login_base.specs.declared.ids.SessId.{SessId}
 use Rattle.login_model.specs.declared.fact.Key.{Key}
 use Rattle.login_model.specs.declared.fact.Key.TheVariants as key
 use Rattle.login_model.specs.declared.fact.Fact.{Fact}
-use Rattle.login_model.specs.declared.fact.Fact.TheVariants as fact
 use Rattle.login_model.specs.Devices.{is_handle_fact, taken_devices}
-use Rattle.login_model.specs.Facts.{fifo_session}
+use Rattle.login_model.specs.Facts.{fifo_session, lock_holder}
 use Rattle.login_model.specs.Trail.{Trail, value}
 use Rattle.login_core.specs.declared.board.owing.Charge.{Charge}
 use Rattle.login_core.specs.declared.board.owing.Dues.{Dues}
@@ -37,11 +36,6 @@ charge_at x c = due_at x.controller (1 + 2 * x.taken) c + due_at x.keeper (4 + 2
 abbrev pub dues_at : Dues → ConnId → ℕ
 dues_at (dues.Sessions x y) c = charge_at x c + charge_at y c
 dues_at (dues.Lock holder) c = due_at holder 2 c
-
--- whose lock a fact is
-abbrev pub lock_holder : Fact → Option ConnId
-lock_holder (fact.Lock l) = Some l.holder
-lock_holder _ = None
 
 -- ---- what a setting touches
 

@@ -1,19 +1,17 @@
 -- What handles hear: how it is settled behind the marks of an entry, and what a core keeps of it.
-use Rattle.std.specs.Prelude.{ℕ, ◌≡◌, ◌≤◌, Bool, true, false, if◌then◌else◌, Option, Some, None, IsSome, List, length}
+use Rattle.std.specs.Prelude.{ℕ, ◌≡◌, ◌≤◌, true, false, if◌then◌else◌, Option, Some, None, IsSome, List, length, option_and_then}
 use Rattle.std.specs.List.{AllByRecursion, IsDistinct}
 use Rattle.login_base.specs.declared.ids.DevNo.{DevNo}
 use Rattle.login_base.specs.declared.ids.HandleNo.{HandleNo}
 use Rattle.login_model.specs.Devices.{is_live}
+use Rattle.login_model.specs.Facts.{handle_device, is_evdev}
 use Rattle.login_model.specs.Full.{taken_count}
 use Rattle.login_model.specs.Marks.{trail_of}
 use Rattle.login_model.specs.Reading.{is_granted}
 use Rattle.login_model.specs.Trail.{Trail, value}
 use Rattle.login_model.specs.declared.event.Event.{Event}
 use Rattle.login_model.specs.declared.fact.Fact.{Fact}
-use Rattle.login_model.specs.declared.fact.Fact.TheVariants as fact
 use Rattle.login_model.specs.declared.fact.Key.TheVariants.{Dev, Live}
-use Rattle.login_model.specs.declared.fact.Owner.TheVariants as owner
-use Rattle.login_model.specs.declared.hardware.DevKind.TheVariants.{Evdev}
 use Rattle.login_model.specs.declared.mark.Entry.{Entry}
 use Rattle.login_model.specs.declared.mark.Mark.{Mark}
 use Rattle.login_model.specs.declared.mark.Mark.TheVariants.{Set}
@@ -22,22 +20,16 @@ use Rattle.device_model.specs.Ears.{DeviceList, heard_of}
 use Rattle.device_model.specs.declared.ears.Ear.{Ear}
 use Rattle.login_laws.specs.Few.{same_handle}
 use Rattle.login_laws.specs.Hearing.{Heard, begins, heard_event, heard_in, is_turned}
-use Rattle.login_core.specs.Rings.{ring_count}
+use Rattle.login_core.specs.inner.Rings.{ring_count}
 
 -- the handle that a mark makes live or dead
 abbrev pub turned_by : Mark → Option HandleNo
 turned_by (Set (Live h) x) = Some h
 turned_by _ = None
 
--- whether a fact is that of an input device, which alone can be read
-abbrev pub is_evdev : Fact → Bool
-is_evdev (fact.Device Evdev seat) = true
-is_evdev _ = false
-
 -- the device to which a handle with this owner listens, if by these facts it is an input device
 abbrev pub listened_to : Trail → Fact → Option DevNo
-listened_to t (fact.Owned (owner.Device c s d)) = if is_evdev (value t (Dev d)) then Some d else None
-listened_to t _ = None
+listened_to t x = option_and_then (λ d. if is_evdev (value t (Dev d)) then Some d else None) (handle_device x)
 
 -- what is heard of an input device, and nothing of another
 abbrev pub of_evdev : Trail → Option Heard → Option Heard

@@ -36,24 +36,22 @@ abbrev pub WelcomesEnds : Verdict → Event → ℕ → (ConnId → ℕ) → (Co
 WelcomesEnds Granted (Connect d u) next old new = (next ≤ new d) × OthersStay d old new
 WelcomesEnds _ _ next old new = (c : ConnId) → new c ≡ old c
 
--- the rooms behind an event
-abbrev pub EndsFollow : Verdict → Event → ℕ → (ConnId → ℕ) → (ConnId → ℕ) → Type 0
-EndsFollow v (Disconnect d) next old new = OthersStay d old new
-EndsFollow Granted (Connect d u) next old new = (next ≤ new d) × OthersStay d old new
-EndsFollow v e next old new = (c : ConnId) → new c ≡ old c
-
--- they are sound under some setup
+-- what these marks leave is sound under some setup
 pub record IsSoundHere (t : Trail) : Type 0 where
   pub setup : Setup
   pub sound : IsSound setup t
 
 -- the ends of such connections have room for what they may make behind an event that concerns them
 abbrev pub IsWide : (ConnId → Bool) → Board → Board → Type 0
-IsWide such old new = (c : ConnId) → such c ≡ true → 0 < end_room old.journal c → share c old.draft.trail + most_share_rise old.draft.trail ≤ end_room new.journal c
+IsWide such old new = (c : ConnId) → such c ≡ true → 0 < end_room old.journal c → share c old.draft.trail + most_share_rise c old.draft.trail ≤ end_room new.journal c
 
--- no end has less room, and all else is as before
+-- the room of a connection's end for as many marks as it may make behind an event that concerns it stays
+abbrev pub KeepsEnds : Board → Board → Type 0
+KeepsEnds old new = (c : ConnId) (n : ℕ) → n ≤ share c old.draft.trail + most_share_rise c old.draft.trail → n ≤ end_room old.journal c → n ≤ end_room new.journal c
+
+-- no end has less room than it may need, and all else is as before
 pub record IsWidened (old new : Board) : Type 0 where
-  pub keeps : (c : ConnId) → end_room old.journal c ≤ end_room new.journal c
+  pub keeps : KeepsEnds old new
   pub next : next_room old.journal ≤ next_room new.journal
   pub items : new.journal.items ≡ old.journal.items
   pub entries : new.journal.entries ≡ old.journal.entries

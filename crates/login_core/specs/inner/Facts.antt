@@ -1,7 +1,6 @@
 -- The facts in their tables.
 use Rattle.std.specs.Prelude.{ℕ, ◌≡◌, ◌+◌, ◌<◌, ◌^◌, List, length}
 use Rattle.login_model.specs.declared.fact.Key.{Key}
-use Rattle.login_model.specs.declared.fact.Fact.{Fact}
 use Rattle.login_model.specs.Trail.{Trail, value}
 use Rattle.login_model.specs.Fresh.{fresh_session, fresh_handle, fresh_lock}
 pub use Rattle.login_model.specs.Fresh.{gives}
@@ -11,7 +10,7 @@ use Rattle.login_table.specs.declared.home.Home.TheVariants.{Users, Sessions, Se
 use Rattle.login_core.specs.declared.room.counts.Counts.{Counts}
 use Rattle.login_core.specs.declared.board.holding.Holding.{Holding}
 use Rattle.login_core.specs.declared.board.owing.Owing.{Owing}
-use Rattle.login_core.specs.inner.Counts.{AreCounted, counts_of}
+use Rattle.login_core.specs.inner.Counts.{AreCounted}
 use Rattle.login_core.specs.inner.Dues.{AreOwed}
 use Rattle.login_core.specs.inner.Holding.{AreHeld}
 use Rattle.login_table.specs.Home.{home}
@@ -68,11 +67,3 @@ pub record StandsForFew (Stands : Tables → Trail → Type 0) (f : Tables) : Ty
   pub marks : Trail
   pub stand : Stands f marks
   pub few : length marks + 2 < 2 ^ 32
-
--- how many sessions a setting opens
-abbrev pub opens : Key → Fact → ℕ
-opens k x = (counts_of k x).opened
-
--- how many locks a setting makes stand
-abbrev pub inhibits : Key → Fact → ℕ
-inhibits k x = (counts_of k x).locks

@@ -1,6 +1,6 @@
 -- What each connection has: the sessions that it controls, its locks, and the fifos of sessions.
 use Rattle.std.specs.Prelude.{ℕ, ◌≡◌, ◌==◌, ◌&&◌, ◌||◌, nat_lt, nat_le, not, Bool, true, false, Option, Some, None, List, filter, find}
-use Rattle.std.specs.Option.{option_map}
+use Rattle.std.specs.Option.{option_and_then, option_map}
 use Rattle.login_base.specs.declared.ids.SessId.{SessId}
 use Rattle.login_base.specs.declared.ids.ConnId.{ConnId}
 use Rattle.login_base.specs.declared.ids.HandleNo.{HandleNo}
@@ -8,11 +8,9 @@ use Rattle.login_base.specs.declared.ids.LockNo.{LockNo}
 use Rattle.login_model.specs.declared.fact.Key.{Key}
 use Rattle.login_model.specs.declared.fact.Key.TheVariants as key
 use Rattle.login_model.specs.declared.fact.Fact.{Fact}
-use Rattle.login_model.specs.declared.fact.Fact.TheVariants as fact
-use Rattle.login_model.specs.declared.fact.Owner.TheVariants as owner
 use Rattle.login_model.specs.Direct.{fifo_in}
-use Rattle.login_model.specs.Facts.{controller_in, lock_in_fact}
-use Rattle.login_model.specs.Names.{insert_some, is_above}
+use Rattle.login_model.specs.Facts.{controller_in, fifo_owner, fifo_session, lock_holder}
+use Rattle.login_model.specs.Names.{is_above}
 use Rattle.login_model.specs.Trail.{Trail, value}
 use Rattle.login_model.specs.Where.{is_open, is_session}
 use Rattle.login_model.proofs.InOrder.{Ascending, IsIn}
@@ -78,12 +76,11 @@ control_in s x = option_map (λ c. record { who = c; thing = Session s }) (contr
 
 -- what a connection has by the fact of a lock
 abbrev pub held_lock_in : LockNo → Fact → Option Holding
-held_lock_in l x = option_map (λ y. record { who = y.holder; thing = Lock l }) (lock_in_fact x)
+held_lock_in l x = option_map (λ c. record { who = c; thing = Lock l }) (lock_holder x)
 
 -- what a connection has by the fact of a handle's owner
 abbrev pub owned_fifo_in : HandleNo → Fact → Option Holding
-owned_fifo_in h (fact.Owned (owner.Fifo c s)) = Some (record { who = c; thing = Fifo s h })
-owned_fifo_in h _ = None
+owned_fifo_in h x = option_and_then (λ c. option_map (λ s. record { who = c; thing = Fifo s h }) (fifo_session x)) (fifo_owner x)
 
 -- what a connection has by a fact under a key
 abbrev pub holding_in : Key → Fact → Option Holding
@@ -118,10 +115,6 @@ pub record AreHeld (xs : List Holding) (t : Trail) : Type 0 where
 abbrev pub without : Option Holding → List Holding → List Holding
 without None xs = xs
 without (Some x) xs = filter (is_other x) xs
-
--- the row after a setting of a key from one fact to another
-abbrev pub noted : Key → Fact → Fact → List Holding → List Holding
-noted k x y xs = insert_some holding_lt (holding_in k y) (without (holding_in k x) xs)
 
 -- ---- what one connection has of a kind
 

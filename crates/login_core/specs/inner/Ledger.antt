@@ -6,11 +6,13 @@ use Rattle.login_model.specs.declared.mark.Entry.{Entry}
 use Rattle.login_model.specs.declared.mark.Mark.{Mark}
 use Rattle.login_core.specs.Ends.{list_of, room_of}
 
--- the entries, and for how many more there is room; the lists for the marks of connections' ends, by the numbers of the
--- connections; that of the connection that comes next; and for how many more connections there are rows
+-- the entries, for how many more there is room, and of how many the marks are in memory of their size; the lists for the
+-- marks of connections' ends, by the numbers of the connections; that of the connection that comes next; and for how many
+-- more connections there are rows
 pub record LedgerState : Type 0 where
   pub items : List Entry
   pub entries : ℕ
+  pub trimmed : ℕ
   pub ends : List (ℕ × Room Mark)
   pub next_end : Room Mark
   pub ends_spare : ℕ
@@ -36,6 +38,10 @@ next_room l = with_row l.ends_spare l.next_end.spare
 -- there is room for so many entries
 abbrev pub with_entries : ℕ → LedgerState → LedgerState
 with_entries n l = record l { entries = n }
+
+-- the marks of so many entries are in memory of their size
+abbrev pub with_trimmed : ℕ → LedgerState → LedgerState
+with_trimmed n l = record l { trimmed = n }
 
 -- the room that is told is there, the lists of ends are empty, and no more entries are trimmed than there are
 pub record IsLedger (entries spare trimmed closed : ℕ) (ends : List (ℕ × Room Mark)) (next : Room Mark) : Type 0 where

@@ -1,14 +1,12 @@
 -- What the end of each connection may make, session by session and lock by lock, as it is kept beside the facts.
-use Rattle.std.specs.Prelude.{ℕ, ◌+◌, ◌*◌, ◌==◌, if◌then◌else◌, Option, Some, None, length, sum_by}
+use Rattle.std.specs.Prelude.{ℕ, ◌+◌, ◌*◌, ◌==◌, if◌then◌else◌, Bool, false, Option, Some, None, length, sum_by}
 use Rattle.login_base.specs.declared.ids.ConnId.{ConnId}
 use Rattle.login_base.specs.declared.ids.SessId.{SessId}
 use Rattle.login_model.specs.declared.fact.Key.TheVariants as key
 use Rattle.login_model.specs.declared.fact.Fact.{Fact}
-use Rattle.login_model.specs.declared.fact.Fact.TheVariants as fact
-use Rattle.login_model.specs.declared.fact.Owner.TheVariants as owner
 use Rattle.login_model.specs.Devices.{taken_devices}
 use Rattle.login_model.specs.Direct.{fifo_in, locks_of}
-use Rattle.login_model.specs.Facts.{controller_in}
+use Rattle.login_model.specs.Facts.{controller_in, fifo_owner, fifo_session}
 use Rattle.login_model.specs.Names.{names, session_in, session_lt}
 use Rattle.login_model.specs.Trail.{Trail, value}
 use Rattle.login_model.specs.Where.{is_open, is_session}
@@ -19,10 +17,14 @@ abbrev pub due_at : Option ConnId → ℕ → ConnId → ℕ
 due_at None n c = 0
 due_at (Some who) n c = part who.0 n c.0
 
+-- whether there is a session, and it is this one
+abbrev pub is_one : Option SessId → SessId → Bool
+is_one None s = false
+is_one (Some r) s = r.0 == s.0
+
 -- the connection that keeps this session open with the handle of a fact
 abbrev pub keeper_in : SessId → Fact → Option ConnId
-keeper_in s (fact.Owned (owner.Fifo who r)) = if r.0 == s.0 then Some who else None
-keeper_in s _ = None
+keeper_in s x = if is_one (fifo_session x) s then fifo_owner x else None
 
 -- the connection that keeps a session open
 abbrev pub keeper : Trail → SessId → Option ConnId

@@ -1,11 +1,10 @@
 -- Where the open sessions with a seat are: how many each bucket of terminals and of users has.
-use Rattle.std.specs.Prelude.{ℕ, ◌≡◌, ◌==◌, ◌&&◌, ◌+◌, ◌<◌, ◌≤◌, ◌^◌, ◌%◌, nat_le, Bool, false, if◌then◌else◌, Option, Some, None, List, length, filter, slice_index}
-use Rattle.std.specs.Option.{is_some}
+use Rattle.std.specs.Prelude.{ℕ, ◌≡◌, ◌==◌, ◌+◌, ◌<◌, ◌≤◌, ◌^◌, ◌%◌, nat_le, Bool, false, if◌then◌else◌, Option, Some, None, List, length, filter, option_and_then, slice_index}
 use Rattle.login_base.specs.declared.ids.SessId.{SessId}
 use Rattle.login_model.specs.declared.fact.Key.{Key}
 use Rattle.login_model.specs.declared.fact.Key.TheVariants as key
 use Rattle.login_model.specs.declared.fact.Fact.{Fact}
-use Rattle.login_model.specs.Facts.{is_open_fact, is_seat0, user_or_root, seat_in_fact, vt_in}
+use Rattle.login_model.specs.Facts.{seated_user, terminal_in}
 use Rattle.login_model.specs.Names.{names, session_in, session_lt}
 use Rattle.login_model.specs.Trail.{Trail, value}
 use Rattle.login_core.specs.declared.board.seating.Tally.{Tally}
@@ -16,17 +15,9 @@ use Rattle.login_core.specs.inner.Counts.{one_if}
 abbrev pub buckets : ℕ
 buckets = 64
 
--- the terminal of an open session of seat0
-abbrev pub terminal_in : Fact → Option ℕ
-terminal_in x = if is_open_fact x && is_seat0 (seat_in_fact x) then Some (vt_in x) else None
-
 -- zero for an open session of seat0 whose terminal has no bucket of its own
 abbrev pub high_in : Fact → Option ℕ
-high_in x = if is_open_fact x && is_seat0 (seat_in_fact x) && nat_le buckets (vt_in x) then Some 0 else None
-
--- the user of an open session that has a seat
-abbrev pub user_in : Fact → Option ℕ
-user_in x = if is_open_fact x && is_some (seat_in_fact x) then Some (user_or_root x).0 else None
+high_in x = option_and_then (λ v. if nat_le buckets v then Some 0 else None) (terminal_in x)
 
 -- the bucket of a number
 abbrev pub bucket_of : ℕ → ℕ
@@ -63,19 +54,19 @@ pub record Shifts (c : Tally) (lost gained : Option ℕ) (d : Tally) : Type 0 wh
 pub record AreSeated (s : Seating) (t : Trail) : Type 0 where
   pub terminals : AreTallied terminal_in s.terminals t
   pub high : AreTallied high_in s.high t
-  pub users : AreTallied user_in s.users t
+  pub users : AreTallied seated_user s.users t
 
 -- a setting can move them
 pub record CanSeat (s : Seating) (k : Key) (x y : Fact) : Type 0 where
   pub terminals : CanShift s.terminals (place_under terminal_in k x) (place_under terminal_in k y)
   pub high : CanShift s.high (place_under high_in k x) (place_under high_in k y)
-  pub users : CanShift s.users (place_under user_in k x) (place_under user_in k y)
+  pub users : CanShift s.users (place_under seated_user k x) (place_under seated_user k y)
 
 -- a setting of a key from one fact to another moved them
 pub record Seats (s : Seating) (k : Key) (x y : Fact) (u : Seating) : Type 0 where
   pub terminals : Shifts s.terminals (place_under terminal_in k x) (place_under terminal_in k y) u.terminals
   pub high : Shifts s.high (place_under high_in k x) (place_under high_in k y) u.high
-  pub users : Shifts s.users (place_under user_in k x) (place_under user_in k y) u.users
+  pub users : Shifts s.users (place_under seated_user k x) (place_under seated_user k y) u.users
 
 -- the bucket of a number has none
 abbrev pub is_none_at : Tally → ℕ → Bool

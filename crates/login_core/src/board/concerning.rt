@@ -1,13 +1,11 @@
 // The connections that an event concerns: those whose shares it may raise.
 
-ghost use Rattle.std.specs.Prelude.{◌≡◌, true};
-ghost use Rattle.login_base.specs.declared.ids.ConnId.{ConnId as AnyConnection};
-ghost use Rattle.login_laws.specs.Shares.{concerns};
-ghost use Rattle.login_core.specs.inner.Concerning.{caller, controller_of, fifo_owner, fifo_owner_of, is_named, is_who, source};
+ghost use Rattle.std.specs.Prelude.{◌≡◌};
+ghost use Rattle.login_core.specs.inner.Concerning.{AreActive, AreTouched, caller, controller_of, fifo_owner_of, is_named, is_who, source};
 
 use crate::board::Draft;
 use login_base::{ConnId, SessId};
-use login_model::{Call, Event, Fact, Key, Look};
+use login_model::{Call, Event, Key, Look};
 
 /// The connection that asks, where an event is a call.
 fn caller(event: &Event) -> Option<ConnId>
@@ -19,7 +17,7 @@ fn caller(event: &Event) -> Option<ConnId>
     }
 }
 
-/// The session from which an event takes a device.
+/// The session for which an event takes a device.
 fn source(event: &Event) -> Option<SessId>
     ensures { result ≡ source event.now }
 {
@@ -30,14 +28,6 @@ fn source(event: &Event) -> Option<SessId>
         },
         _ => None,
     }
-}
-
-/// The connection that has the handle of a fact to keep a session open.
-fn fifo_owner(fact: &Fact) -> Option<ConnId>
-    ensures { result ≡ fifo_owner fact.now }
-{
-    fact.fifo_session()?;
-    fact.holder()
 }
 
 /// Whether there is a connection, and it is this one.
@@ -70,22 +60,26 @@ impl Draft {
         ensures { result ≡ fifo_owner_of self.now.trail session }
     {
         let fifo = self.fact(&Key::Sess(session?)).fifo();
-        fifo_owner(self.fact(&Key::Owner(fifo)))
+        self.fact(&Key::Owner(fifo)).fifo_owner()
     }
 
-    /// The connections that an event concerns are among these: who asks, who has the session from which a call
-    /// takes a device, and who has the session that is active on seat0.
-    pub fn concerned(&self, event: &Event) -> [Option<ConnId>; 5]
-        ensures { (c : AnyConnection) → concerns self.now.trail event.now c ≡ true → is_named c result ≡ true }
+    /// Whom an event touches: who asks, and who has the session for which a call takes a device.
+    pub fn touched(&self, event: &Event) -> [Option<ConnId>; 3]
+        ensures { AreTouched self.now.trail event.now result }
     {
         let source = source(event);
-        let active = self.active();
         [
             caller(event),
             self.controller_of(source),
             self.fifo_owner_of(source),
-            self.controller_of(active),
-            self.fifo_owner_of(active),
         ]
+    }
+
+    /// Who has the session that is active on seat0: its controller, and the owner of its fifo.
+    pub fn active_holders(&self) -> [Option<ConnId>; 2]
+        ensures { AreActive self.now.trail result }
+    {
+        let active = self.active();
+        [self.controller_of(active), self.fifo_owner_of(active)]
     }
 }

@@ -13,7 +13,7 @@ ghost use Rattle.login_base.specs.declared.ids.DevNo.{DevNo as AnyDevice};
 ghost use Rattle.login_base.specs.declared.ids.HandleNo.{HandleNo as AnyHandle};
 ghost use Rattle.login_model.specs.declared.answer.Input.{Input as AnyInput};
 ghost use Rattle.login_core.specs.inner.Ears.{AreEnough, ListenOn, settled};
-ghost use Rattle.login_core.specs.Rings.{ring_count};
+ghost use Rattle.login_core.specs.inner.Rings.{ring_count};
 ghost use Rattle.login_core.specs.inner.Facts.{StandFor, StandsForFew, TablesStand, table};
 ghost use Rattle.login_core.specs.inner.Owing.{owed};
 ghost use Rattle.login_core.specs.inner.Sums.{sum_in};
@@ -38,8 +38,8 @@ use std::marker::Model;
 use users_linger::UsersLinger;
 
 /// The facts, how many there are of what needs room, the numbers of the next session, the next handle and the next
-/// lock, what each connection has, and what its end makes. They stand for the marks whose settings were put in. With the
-/// devices stands what handles hear of them.
+/// lock, what each connection has, and what its end makes. They stand for the marks whose settings were put in. With
+/// the devices stands what handles hear of them.
 #[derive(Drop)]
 pub struct Facts {
     users: UsersLinger,
@@ -303,21 +303,21 @@ impl Facts {
     pub fn next_device(&self, above: Option<DevNo>) -> Option<DevNo>
         ensures { (t : Trail) → StandFor self.now t → IsNext device_lt (is_device t) above result }
     {
-        self.devices.next_device(above)
+        self.devices.next(above)
     }
 
     /// The least lock above that one that stands.
     pub fn next_lock(&self, above: Option<LockNo>) -> Option<LockNo>
         ensures { (t : Trail) → StandFor self.now t → IsNext lock_lt (is_lock t) above result }
     {
-        self.locks.next_lock(above)
+        self.locks.next(above)
     }
 
     /// The least connection above that one that is connected.
     pub fn next_conn(&self, above: Option<ConnId>) -> Option<ConnId>
         ensures { (t : Trail) → StandFor self.now t → IsNext conn_lt (is_connected t) above result }
     {
-        self.controls.next_conn(above)
+        self.controls.next(above)
     }
 
     /// The least device above that one that a session has taken.

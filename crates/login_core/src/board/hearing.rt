@@ -4,13 +4,13 @@ ghost use Rattle.std.specs.Prelude.{◌≡◌, ◌==◌, false, true, IsSome, No
 ghost use Rattle.login_base.specs.declared.ids.HandleNo.{HandleNo as AnyHandle};
 ghost use Rattle.device_model.specs.Ears.{heard_of};
 ghost use Rattle.login_laws.specs.Hearing.{begins, drained, heard_event, is_turned};
-ghost use Rattle.login_core.specs.inner.Ears.{AreEnough, KeepsRings, ListenLive, ListenOn, begun_anew, deafened, heard_with, is_evdev, listened_to, of_evdev, settled, turned_by};
-ghost use Rattle.login_core.specs.Rings.{ring_count};
+ghost use Rattle.login_core.specs.inner.Ears.{AreEnough, KeepsRings, ListenLive, ListenOn, begun_anew, deafened, heard_with, listened_to, of_evdev, settled, turned_by};
+ghost use Rattle.login_core.specs.inner.Rings.{ring_count};
 
 use device_model::DeviceModel;
 use device_revoke::DeviceRevoke;
 use login_base::{DevNo, HandleNo};
-use login_model::{Call, DevKind, Event, Fact, Hardware, Inputs, Key, Mark, Verdict};
+use login_model::{Call, Event, Fact, Hardware, Inputs, Key, Mark, Verdict};
 use login_table::Table;
 
 /// The handle that a mark makes live or dead.
@@ -86,19 +86,12 @@ fn deafen(devices: &mut DeviceModel, marks: &[Mark])
     }
 }
 
-/// Whether a fact is that of an input device, which alone can be read.
-fn is_evdev(fact: &Fact) -> bool
-    ensures { result ≡ is_evdev fact.now }
-{
-    fact.device_kind() == Some(DevKind::Evdev)
-}
-
 /// The device to which a handle with this owner listens, if it is an input device.
 fn listened_to(devices: &DeviceModel, owner: &Fact) -> Option<DevNo>
     ensures { result ≡ listened_to devices.now.trail owner.now }
 {
     let device = owner.handle_device()?;
-    is_evdev(devices.fact(&Key::Dev(device))).then_some(device)
+    devices.fact(&Key::Dev(device)).is_evdev().then_some(device)
 }
 
 /// A live handle of an input device begins to listen to it, unless it listens.

@@ -15,7 +15,7 @@ ghost use Rattle.login_core.specs.declared.board.holding.Holding.{Holding as Any
 
 use crate::board::Draft;
 use login_base::{ConnId, HandleNo, LockNo, NoMemory, SessId};
-use login_model::{Fact, Key, Look, Owner};
+use login_model::{Fact, Key, Look};
 use std::alloc::Global;
 use std::marker::Model;
 
@@ -144,7 +144,7 @@ fn control_in(session: SessId, fact: &Fact) -> Option<Holding>
 fn held_lock_in(number: LockNo, fact: &Fact) -> Option<Holding>
     ensures { result ≡ held_lock_in number fact.now }
 {
-    let who = fact.lock()?.holder;
+    let who = fact.lock_holder()?;
     let thing = Thing::Lock(number);
     Some(Holding { who, thing })
 }
@@ -153,13 +153,9 @@ fn held_lock_in(number: LockNo, fact: &Fact) -> Option<Holding>
 fn owned_fifo_in(handle: HandleNo, fact: &Fact) -> Option<Holding>
     ensures { result ≡ owned_fifo_in handle fact.now }
 {
-    match fact.owner()? {
-        Owner::Fifo(who, session) => Some(Holding {
-            who,
-            thing: Thing::Fifo(session, handle),
-        }),
-        _ => None,
-    }
+    let who = fact.fifo_owner()?;
+    let thing = Thing::Fifo(fact.fifo_session()?, handle);
+    Some(Holding { who, thing })
 }
 
 /// What a connection has by a fact under a key.

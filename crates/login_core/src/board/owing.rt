@@ -4,7 +4,7 @@ ghost use Rattle.std.specs.Prelude.{◌≡◌, ◌+◌, ◌*◌, ◌<◌, ◌≤
 ghost use Rattle.login_base.specs.declared.ids.ConnId.{ConnId as AnyConnection};
 ghost use Rattle.login_base.specs.declared.ids.SessId.{SessId as AnySession};
 ghost use Rattle.login_model.specs.Trail.{Trail, value};
-ghost use Rattle.login_core.specs.inner.Dues.{AreOwed, AreTaken, charge_at, dues_at, lock_holder, taker_at, taker_in, touched_at, touched_by};
+ghost use Rattle.login_core.specs.inner.Dues.{AreOwed, AreTaken, charge_at, dues_at, taker_at, taker_in, touched_at, touched_by};
 ghost use Rattle.login_core.specs.inner.Facts.{TablesStand};
 ghost use Rattle.login_core.specs.inner.Owing.{charge, due_at, keeper, keeper_in, of_some, other_than};
 ghost use Rattle.login_core.specs.inner.Sums.{sum_in};
@@ -78,17 +78,10 @@ fn keeper_in(session: SessId, fact: &Fact) -> Option<ConnId>
     ensures { result ≡ keeper_in session fact.now }
 {
     if fact.fifo_session()?.0 == session.0 {
-        fact.holder()
+        fact.fifo_owner()
     } else {
         None
     }
-}
-
-/// Whose lock a fact is.
-fn lock_holder(fact: &Fact) -> Option<ConnId>
-    ensures { result ≡ lock_holder fact.now }
-{
-    Some(fact.lock()?.holder)
 }
 
 /// What a session makes at the ends of the connections that have it.
@@ -168,7 +161,7 @@ impl Dues {
             Touched::Sessions(one, other) => {
                 Dues::Sessions(Charge::of_some(facts, one), Charge::of_some(facts, other))
             }
-            Touched::Lock(lock) => Dues::Lock(lock_holder(facts.read(&Key::Lock(lock)))),
+            Touched::Lock(lock) => Dues::Lock(facts.read(&Key::Lock(lock)).lock_holder()),
         }
     }
 }

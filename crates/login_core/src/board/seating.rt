@@ -4,7 +4,7 @@ ghost use Rattle.std.specs.Prelude.{◌≡◌, ℕ, ◌+◌, ◌<◌, ◌≤◌,
 ghost use Rattle.login_model.specs.Standing.{has_seat};
 ghost use Rattle.login_model.specs.Where.{session_on};
 ghost use Rattle.login_core.specs.inner.Counts.{one_if};
-ghost use Rattle.login_core.specs.inner.Seating.{buckets, AreLow, AreSeated, CanSeat, CanShift, Seats, Shifts, bucket_of, high_in, is_at, is_none_at, is_one_at, terminal_in, user_in};
+ghost use Rattle.login_core.specs.inner.Seating.{buckets, AreLow, AreSeated, CanSeat, CanShift, Seats, Shifts, bucket_of, high_in, is_at, is_none_at, is_one_at};
 
 use crate::board::Draft;
 use crate::board::choosing::least_that;
@@ -84,27 +84,11 @@ impl Tally {
     }
 }
 
-/// The terminal of an open session of seat0.
-fn terminal_in(fact: &Fact) -> Option<u32>
-    ensures { result ≡ terminal_in fact.now }
-{
-    match fact.seat() {
-        Some(seat) => {
-            if fact.is_open() && seat.is_seat0() {
-                Some(fact.vt())
-            } else {
-                None
-            }
-        }
-        None => None,
-    }
-}
-
 /// Zero for an open session of seat0 whose terminal has no bucket of its own.
 fn high_in(fact: &Fact) -> Option<u32>
     ensures { result ≡ high_in fact.now }
 {
-    match terminal_in(fact) {
+    match fact.terminal() {
         Some(terminal) => {
             if terminal as usize >= BUCKETS {
                 Some(0)
@@ -113,17 +97,6 @@ fn high_in(fact: &Fact) -> Option<u32>
             }
         }
         None => None,
-    }
-}
-
-/// The user of an open session that has a seat.
-fn user_in(fact: &Fact) -> Option<u32>
-    ensures { result ≡ user_in fact.now }
-{
-    if fact.is_open() && fact.seat().is_some() {
-        Some(fact.user_or_root().0)
-    } else {
-        None
     }
 }
 
@@ -168,10 +141,10 @@ impl Seating {
         ensures { Seats self.old key.now before.now fact.now self.new }
     {
         if let Key::Sess(session) = key {
-            let terminal = terminal_in(fact);
-            self.terminals.shift(terminal_in(before), terminal);
+            let terminal = fact.terminal();
+            self.terminals.shift(before.terminal(), terminal);
             self.high.shift(high_in(before), high_in(fact));
-            self.users.shift(user_in(before), user_in(fact));
+            self.users.shift(before.seated_user(), fact.seated_user());
             self.keep_last(terminal, *session);
         }
     }

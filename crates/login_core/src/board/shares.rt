@@ -4,8 +4,9 @@ ghost use Rattle.std.specs.Prelude.{◌≡◌, ◌<◌, ◌≤◌, ◌^◌};
 ghost use Rattle.login_model.specs.Start.{seat0};
 ghost use Rattle.login_model.specs.Where.{active_on};
 ghost use Rattle.login_model.specs.declared.setup.Setup.{Setup as AnySetup};
-ghost use Rattle.login_laws.specs.Shares.{share, switch_share};
+ghost use Rattle.login_laws.specs.Shares.{most_share_rise, share, switch_share};
 ghost use Rattle.login_laws.specs.Sound.{IsSound};
+ghost use Rattle.login_core.specs.inner.Concerning.{AreActive};
 ghost use Rattle.login_core.specs.inner.Counts.{HoldersAreThere};
 ghost use Rattle.login_core.specs.inner.Owing.{owed};
 
@@ -14,6 +15,10 @@ use crate::board::concerning::is_named;
 use login_base::{ConnId, SeatName, SessId};
 use login_model::{Key, Look};
 use login_table::active_on;
+
+/// By how many marks an event may raise the share of a connection that has not seat0's active session: for a session, a
+/// lock or a device more.
+const OTHER_SHARE_RISE: u64 = 4;
 
 impl Draft {
     /// The session that is active on seat0.
@@ -39,9 +44,7 @@ impl Draft {
         if !self.fact(&Key::Pending).is_number() {
             return 0;
         }
-        let active = self.active();
-        let holders = [self.controller_of(active), self.fifo_owner_of(active)];
-        if is_named(&holders, who) {
+        if is_named(&self.active_holders(), who) {
             4 * u64::from(self.counts().taken) + 4
         } else {
             0
@@ -54,5 +57,19 @@ impl Draft {
         ensures bound { result < 2 ^ 37 }
     {
         1 + self.owed(who) + self.switch_share(who)
+    }
+
+    /// The most by which an event may raise the share of a connection. The others are who has the session that is active
+    /// on seat0.
+    pub fn most_share_rise(&self, active: &[Option<ConnId>], who: ConnId) -> u64
+        requires { AreActive self.now.trail active.now }
+        ensures value { HoldersAreThere self.now.trail → result ≡ most_share_rise who self.now.trail }
+        ensures bound { result < 2 ^ 35 }
+    {
+        if is_named(active, who) {
+            self.counts().active_share_rise()
+        } else {
+            OTHER_SHARE_RISE
+        }
     }
 }

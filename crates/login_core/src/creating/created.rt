@@ -1,9 +1,8 @@
 // The session that a call creates, and what the texts of the call name.
 
 ghost use Rattle.std.specs.Prelude.{◌≡◌};
-ghost use Rattle.login_model.specs.Creating.{seat_of, leader_of, created_session};
+ghost use Rattle.login_model.specs.Creating.{seat_of, leader_of, created_session, session_texts};
 ghost use Rattle.login_model.specs.Words.{type_of, class_of};
-ghost use Rattle.login_core.specs.Texts.{session_texts};
 
 use login_base::{ConnId, HandleNo, SeatName};
 use login_model::{Class, Creation, Phase, Session, SessionTexts, SessionType};

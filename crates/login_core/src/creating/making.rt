@@ -6,8 +6,7 @@ ghost use Rattle.login_model.specs.Fresh.{next_session, next_handle};
 ghost use Rattle.login_model.specs.Start.{seat0};
 ghost use Rattle.login_model.specs.Where.{active_on};
 ghost use Rattle.login_model.specs.Procedure.{take_seat};
-ghost use Rattle.login_model.specs.Creating.{appear_on, create, created_session};
-ghost use Rattle.login_core.specs.Texts.{session_texts};
+ghost use Rattle.login_model.specs.Creating.{appear_on, create, created_session, session_texts};
 ghost use Rattle.login_core.specs.inner.Draft.{marked_by, Fits};
 
 use crate::board::Draft;

@@ -10,7 +10,8 @@ ghost use Rattle.login_model.specs.Turning.{turn_to_next, turn_to_previous};
 ghost use Rattle.login_model.specs.Where.{sessions_on};
 ghost use Rattle.login_model.specs.Direct.{linger, close, direct_call};
 ghost use Rattle.login_model.specs.Words.{whom_of};
-ghost use Rattle.login_core.specs.Spares.{AreClosing, AreReadyToCall, HaveTexts};
+ghost use Rattle.login_core.specs.Ready.{AreReadyToCall};
+ghost use Rattle.login_core.specs.inner.Spares.{AreClosing, HaveTexts};
 ghost use Rattle.login_core.specs.inner.Calls.{IsPlain, NamesRightly, call_on};
 ghost use Rattle.login_core.specs.inner.Draft.{marked_by, Fits};
 

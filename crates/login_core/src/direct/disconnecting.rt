@@ -8,7 +8,7 @@ ghost use Rattle.login_model.specs.declared.fact.Key.TheVariants.{Lock};
 ghost use Rattle.login_model.specs.declared.fact.Fact.TheVariants.{Absent};
 ghost use Rattle.login_laws.proofs.Grows.{put-grows, release-grows};
 ghost use Rattle.login_laws.specs.Sound.{Fifos};
-ghost use Rattle.login_core.specs.Spares.{AreClosing};
+ghost use Rattle.login_core.specs.inner.Spares.{AreClosing};
 ghost use Rattle.login_core.specs.inner.Draft.{marked_by, Fits};
 
 use crate::board::Draft;

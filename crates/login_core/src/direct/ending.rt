@@ -6,7 +6,7 @@ ghost use Rattle.login_model.specs.Procedure.{each, shut};
 ghost use Rattle.login_model.specs.Direct.{end_sessions};
 ghost use Rattle.login_laws.proofs.Grows.{shut-grows};
 ghost use Rattle.login_laws.specs.Sound.{Fifos};
-ghost use Rattle.login_core.specs.Spares.{AreClosing};
+ghost use Rattle.login_core.specs.inner.Spares.{AreClosing};
 ghost use Rattle.login_core.specs.inner.Draft.{marked_by, Fits};
 
 use crate::board::Draft;

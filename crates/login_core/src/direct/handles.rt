@@ -5,7 +5,7 @@ ghost use Rattle.login_model.specs.Trail.{value, put};
 ghost use Rattle.login_model.specs.Where.{is_open};
 ghost use Rattle.login_model.specs.Procedure.{untake, shut};
 ghost use Rattle.login_model.specs.Direct.{is_this_handle, close_handle, close_owned, close};
-ghost use Rattle.login_core.specs.Texts.{AreSome};
+ghost use Rattle.login_core.specs.inner.Texts.{AreSome};
 ghost use Rattle.login_core.specs.inner.Handles.{owner_fact, AreForClosing};
 ghost use Rattle.login_model.specs.Facts.{owner_in};
 ghost use Rattle.login_core.specs.inner.Draft.{marked_by, Fits};

@@ -6,7 +6,8 @@ ghost use Rattle.login_model.specs.Locks.{asked_lock, is_what, mode_of, what_of}
 ghost use Rattle.login_model.specs.Policy.{uid_of};
 ghost use Rattle.login_model.specs.Power.{inhibit};
 ghost use Rattle.login_model.specs.Trail.{put};
-ghost use Rattle.login_core.specs.Spares.{AreOfLock, HasLock, HaveTexts};
+ghost use Rattle.login_core.specs.Ready.{AreOfLock, HasLock};
+ghost use Rattle.login_core.specs.inner.Spares.{HaveTexts};
 ghost use Rattle.login_core.specs.Texts.{lock_texts};
 ghost use Rattle.login_core.specs.inner.Draft.{marked_by, Fits};
 

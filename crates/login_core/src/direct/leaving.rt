@@ -6,7 +6,7 @@ ghost use Rattle.login_laws.proofs.Grows.{forget-grows};
 ghost use Rattle.login_model.specs.Where.{is_open, sessions_of, moment_or_zero, now};
 ghost use Rattle.login_model.specs.Procedure.{each, is_empty, is_kept, forget, leave, set_phase, shut};
 ghost use Rattle.login_model.specs.Direct.{leave_known, begin_linger, end_linger, linger, user_or_root, exit, is_overdue_fact, overdue, tick};
-ghost use Rattle.login_core.specs.Texts.{AreCopies, AreSome};
+ghost use Rattle.login_core.specs.inner.Texts.{AreCopies, AreSome};
 ghost use Rattle.login_core.specs.inner.Leaving.{is_overdue};
 ghost use Rattle.login_model.specs.Facts.{is_known};
 ghost use Rattle.login_core.specs.inner.Draft.{marked_by, Fits};

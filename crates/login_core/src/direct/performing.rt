@@ -12,7 +12,8 @@ ghost use Rattle.login_model.specs.Policy.{verdict as policy_verdict};
 ghost use Rattle.login_model.specs.declared.rule.Verdict.TheVariants.{Granted};
 ghost use Rattle.login_laws.specs.Sound.{IsSound};
 ghost use Rattle.login_core.specs.inner.Calls.{ExitsHere, HappensPlain};
-ghost use Rattle.login_core.specs.Spares.{AreReady, AreReadyFor, AreReadyToHappen, HasSlots, HaveTexts};
+ghost use Rattle.login_core.specs.Ready.{AreReady, AreReadyFor, AreReadyToHappen, HasSlots};
+ghost use Rattle.login_core.specs.inner.Spares.{HaveTexts};
 ghost use Rattle.login_core.specs.inner.Draft.{marked_by, Fits};
 
 use crate::board::Draft;

@@ -5,7 +5,7 @@ ghost use Rattle.login_model.specs.Trail.{value};
 ghost use Rattle.login_model.specs.Where.{is_open, is_active, seat_of_session};
 ghost use Rattle.login_model.specs.Devices.{taken_devices};
 ghost use Rattle.login_model.specs.Procedure.{if_some, release, in_phase, set_phase, vacate, leave_seat, shut};
-ghost use Rattle.login_core.specs.Texts.{HasTexts, AreCopies, AreSome};
+ghost use Rattle.login_core.specs.inner.Texts.{HasTexts, AreCopies, AreSome};
 ghost use Rattle.login_core.specs.inner.Draft.{marked_by, Fits};
 
 use crate::board::Draft;

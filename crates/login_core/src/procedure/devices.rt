@@ -6,7 +6,7 @@ ghost use Rattle.login_model.specs.Where.{sessions_on};
 ghost use Rattle.login_model.specs.Procedure.{each, revoke, shut};
 ghost use Rattle.login_model.specs.Taking.{add_device, appear_seat, has_graphics, lose_seat, remove_device, takers};
 ghost use Rattle.login_laws.proofs.Grows.{revoke-grows};
-ghost use Rattle.login_core.specs.Spares.{AreClosing};
+ghost use Rattle.login_core.specs.inner.Spares.{AreClosing};
 ghost use Rattle.login_core.specs.inner.HandedOn.{graphics_fact};
 ghost use Rattle.login_core.specs.inner.Draft.{marked_by, Fits};
 

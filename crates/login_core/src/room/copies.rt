@@ -1,7 +1,7 @@
 // Copies of texts, made before they are needed.
 
 ghost use Rattle.std.specs.Prelude.{◌≡◌, IfOk};
-ghost use Rattle.login_core.specs.Texts.{session_texts};
+ghost use Rattle.login_model.specs.Creating.{session_texts};
 
 use login_base::NoMemory;
 use login_model::{Creation, Session, SessionTexts, Slot};

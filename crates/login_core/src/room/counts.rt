@@ -2,7 +2,7 @@
 
 ghost use Rattle.std.specs.Prelude.{◌≡◌, ◌+◌, ◌<◌, ◌≤◌, ◌^◌};
 ghost use Rattle.login_laws.specs.Need.{most_marks};
-ghost use Rattle.login_laws.specs.Shares.{most_share_rise};
+ghost use Rattle.login_laws.specs.Shares.{active_share_rise};
 ghost use Rattle.login_model.specs.Full.{marks_needed};
 ghost use Rattle.login_model.specs.Trail.{Trail};
 ghost use Rattle.login_core.specs.inner.Counts.{AreCounted, CanAllMove, Follow, HoldersAreThere, counts_of, one_if};
@@ -15,7 +15,7 @@ const MARKS_IN_RESERVE: u64 = 64;
 /// The most marks of an event beside those of what stands.
 const MARKS_BESIDE: u64 = 32;
 
-/// By how many marks an event may raise those of a connection's end, beside those of devices.
+/// By how many marks an event may raise those of the end of who has seat0's active session, beside those of devices.
 const SHARE_BESIDE: u64 = 12;
 
 /// How many there are of what needs room in the journal or has a limit.
@@ -134,8 +134,8 @@ impl Counts {
     }
 
     /// The most marks by which an event raises those of a connection's end.
-    pub fn most_share_rise(self) -> u64
-        ensures value { (t : Trail) → AreCounted self t → HoldersAreThere t → result ≡ most_share_rise t }
+    pub fn active_share_rise(self) -> u64
+        ensures value { (t : Trail) → AreCounted self t → HoldersAreThere t → result ≡ active_share_rise t }
         ensures bound { result < 2 ^ 35 }
     {
         4 * u64::from(self.taken) + SHARE_BESIDE

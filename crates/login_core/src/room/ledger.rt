@@ -1,8 +1,8 @@
 // The journal, and the room that is kept for its next entries.
 
-ghost use Rattle.std.specs.Prelude.{◌≡◌, ◌==◌, ◌+◌, ◌<◌, ◌≤◌, ◌^◌, ◌++◌, [], ◌∷◌, false, length, IfOk, OnOk};
+ghost use Rattle.std.specs.Prelude.{◌≡◌, ℕ, ◌==◌, ◌+◌, ◌<◌, ◌≤◌, ◌^◌, ◌++◌, [], ◌∷◌, false, length, IfOk, OnOk};
 ghost use Rattle.login_base.specs.declared.ids.ConnId.{ConnId as AnyConnection};
-ghost use Rattle.login_core.specs.inner.Ledger.{end_room, next_room, with_entries};
+ghost use Rattle.login_core.specs.inner.Ledger.{end_room, next_room, with_entries, with_trimmed};
 ghost use Rattle.login_core.specs.inner.UnderWay.{entry_of};
 
 use crate::board::with_more;
@@ -39,6 +39,7 @@ impl Model for Ledger {
     ghost view = { λ l. record {
       items = l.journal.items;
       entries = l.entries;
+      trimmed = l.trimmed;
       ends = l.ends.entries;
       next_end = l.next_end;
       ends_spare = spare l.ends;
@@ -60,6 +61,26 @@ fn keep_wider(kept: &mut Reserved<Mark>, list: Reserved<Mark>)
     } else {
         drop(list);
     }
+}
+
+/// Makes an empty list as wide as so many marks want, and an eighth wider. One that is more than twice as wide as that
+/// is exchanged for a narrower one, if there is memory for it.
+fn fit(list: &mut Reserved<Mark>, marks: u64, alloc: Global) -> Result<(), NoMemory>
+    requires { list.old.items ≡ [] }
+    ensures empty { list.new.items ≡ [] }
+    ensures room { OnOk result (marks ≤ list.new.spare) }
+    ensures keeps { (n : ℕ) → n ≤ list.old.spare → n ≤ marks → n ≤ list.new.spare }
+{
+    let wanted = with_more(marks as usize);
+    if list.spare() / 2 <= wanted {
+        return list.reserve(wanted);
+    }
+    let mut narrower = Reserved::new(alloc);
+    match narrower.reserve(wanted) {
+        Ok(()) => drop(mem::replace(list, narrower)),
+        Err(NoMemory) => drop(narrower),
+    }
+    Ok(())
 }
 
 impl Ledger {
@@ -97,12 +118,13 @@ impl Ledger {
         Ok(())
     }
 
-    /// Puts the marks of the next entry that isn't trimmed, which is the one with the number `entry + 1`, in memory of
-    /// their size. The answer is the list that they had.
+    /// Puts the marks of the next entry that isn't trimmed in memory of their size. The answer is the list that they had.
     fn trim_entry(&mut self, entry: usize) -> Result<Reserved<Mark>, NoMemory>
+        requires next { entry ≡ self.old.trimmed }
         requires there { entry < length self.old.items }
         requires numbered { entry + 1 < 2 ^ 64 }
-        ensures same { self.new ≡ self.old }
+        ensures trimmed { OnOk result (self.new.trimmed ≡ self.old.trimmed + 1) }
+        ensures rest { self.new ≡ with_trimmed self.new.trimmed self.old }
         ensures empty { IfOk result (λ list. list.items ≡ []) }
     {
         let list = self.journal.trim(entry, self.alloc)?;
@@ -114,9 +136,10 @@ impl Ledger {
     /// of this one, if that is narrower.
     pub fn trim(&mut self, widest: &mut Reserved<Mark>) -> Result<(), NoMemory>
         requires { widest.old.items ≡ [] }
+        ensures all { OnOk result (self.new.trimmed ≡ length self.new.items) }
+        ensures rest { self.new ≡ with_trimmed self.new.trimmed self.old }
         ensures empty { widest.new.items ≡ [] }
         ensures spare { widest.old.spare ≤ widest.new.spare }
-        ensures same { self.new ≡ self.old }
     {
         for entry in self.trimmed..self.journal.len() {
             keep_wider(widest, self.trim_entry(entry)?);
@@ -124,18 +147,21 @@ impl Ledger {
         Ok(())
     }
 
-    /// Makes room for so many marks at the end of a connection. One that has no list gets none.
+    /// Makes room for so many marks at the end of a connection, and gives back what is more than twice that. One that has
+    /// no list gets none.
     pub fn reserve_end(&mut self, who: ConnId, marks: u64) -> Result<(), NoMemory>
         ensures room { OnOk result (0 < end_room self.old who → marks ≤ end_room self.new who) }
-        ensures keeps { (c : AnyConnection) → end_room self.old c ≤ end_room self.new c }
+        ensures own { (n : ℕ) → n ≤ end_room self.old who → n ≤ marks → n ≤ end_room self.new who }
+        ensures others { (c : AnyConnection) → (c.0 == who.0) ≡ false → end_room self.new c ≡ end_room self.old c }
         ensures next { next_room self.new ≡ next_room self.old }
         ensures items { self.new.items ≡ self.old.items }
         ensures entries { self.new.entries ≡ self.old.entries }
     {
+        let alloc = self.alloc;
         let Some(list) = self.ends.get_mut(&who.0) else {
             return Ok(());
         };
-        list.reserve(with_more(marks as usize))
+        fit(list, marks, alloc)
     }
 
     /// Makes room for one connection more, and for so many marks at its end.

@@ -1,7 +1,7 @@
 // Copies of the texts of a lock, made before it stands.
 
 ghost use Rattle.std.specs.Prelude.{◌≡◌, IfOk};
-ghost use Rattle.login_core.specs.Spares.{AreOfLock};
+ghost use Rattle.login_core.specs.Ready.{AreOfLock};
 ghost use Rattle.login_core.specs.Texts.{lock_texts};
 
 use login_base::{NoMemory, Word};

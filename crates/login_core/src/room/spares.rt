@@ -1,7 +1,7 @@
 // Copies of sessions' texts, spare for the end of each session.
 
 ghost use Rattle.std.specs.Prelude.{◌≡◌, ◌==◌, ◌<◌, ◌≤◌, false, Some, None, OnOk};
-ghost use Rattle.login_core.specs.Spares.{copies_in};
+ghost use Rattle.login_core.specs.inner.Spares.{copies_in};
 
 use crate::room::copies::Copies;
 use indexmap::IndexMap;

@@ -2,7 +2,8 @@
 
 ghost use Rattle.std.specs.Prelude.{◌≡◌, OnOk, IfOk, Some, None};
 ghost use Rattle.login_base.specs.declared.ids.SessId.{SessId as SessionId};
-ghost use Rattle.login_core.specs.Spares.{AreOf, AreReady, AreReadyFor, AreReadyToCall, AreReadyToHappen, AreFresh, HasLock, copies_in};
+ghost use Rattle.login_core.specs.Ready.{AreOf, AreReady, AreReadyFor, AreReadyToCall, AreReadyToHappen, AreFresh, HasLock};
+ghost use Rattle.login_core.specs.inner.Spares.{copies_in};
 
 use crate::room::copies::{Copies, copies_of};
 use crate::room::locks::{LockCopies, lock_copies};

@@ -1,5 +1,5 @@
 use Rattle.std.proofs.Common.{ℕ, ◌∙◌, sym, ap, subst, List}
-use Rattle.login_core.specs.Spares.{AreClosing}
+use Rattle.login_core.specs.inner.Spares.{AreClosing}
 use Rattle.login_core.specs.declared.room.copies.Copies.{Copies}
 use Rattle.login_core.proofs.TextsClose.{closing-fifo, closing-other}
 use Rattle.login_core.proofs.Growing.{trails}

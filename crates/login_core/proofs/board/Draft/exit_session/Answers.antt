@@ -1,6 +1,6 @@
 use Rattle.std.proofs.Common.{sym, subst}
 use Rattle.login_model.specs.Trail.{Trail}
-use Rattle.login_core.specs.Spares.{HaveTexts}
+use Rattle.login_core.specs.inner.Spares.{HaveTexts}
 use Rattle.login_core.specs.declared.room.texts.Texts.{Texts}
 use Rattle.login_core.proofs.TextsEnd.{texts-exit}
 use Rattle.login_core.proofs.Growing.{trails}

@@ -4,7 +4,7 @@ use Rattle.login_model.specs.declared.mark.Mark.{Mark}
 use Rattle.device_model.specs.Ears.{heard_of}
 use Rattle.login_core.specs.inner.Draft.{DraftState, with_ears}
 use Rattle.login_core.specs.inner.Ears.{AreEnough, ListenOn, settled}
-use Rattle.login_core.specs.Rings.{ring_count}
+use Rattle.login_core.specs.inner.Rings.{ring_count}
 use Rattle.login_core.specs.inner.UnderWay.{so_far}
 use Rattle.login_core.proofs.EarLaws.{enough-there, hear-there, listen-there}
 use Rattle.login_core.proofs.board.Draft.settle_ears.Goals as goal

@@ -1,4 +1,4 @@
-use Rattle.std.proofs.Common.{◌≡◌, ◌∙◌, ◌&&◌, ◌+◌, ◌*◌, ◌∷◌, [], ℕ, Bool, true, false, cond, refl, ap, sym, arith, rules}
+use Rattle.std.proofs.Common.{◌≡◌, ◌∙◌, ◌&&◌, ◌+◌, ◌*◌, ℕ, Bool, true, false, cond, refl, ap, sym, arith, rules}
 use Rattle.login_model.specs.Facts.{is_number_fact}
 use Rattle.login_model.specs.Full.{taken_count}
 use Rattle.login_model.specs.Start.{seat0}
@@ -6,8 +6,6 @@ use Rattle.login_model.specs.Trail.{value}
 use Rattle.login_model.specs.Where.{active_on}
 use Rattle.login_model.specs.declared.fact.Key.TheVariants as key
 use Rattle.login_laws.specs.Shares.{has_session}
-use Rattle.login_core.specs.inner.Concerning.{controller_of, fifo_owner_of, is_named}
-use Rattle.login_core.proofs.ConcernLaws.{has-who, holders}
 use Rattle.login_core.proofs.PairLaws.{pairs-taken}
 use Rattle.login_core.proofs.board.Draft.switch_share.Goals as goal
 
@@ -22,10 +20,7 @@ returns-then-is_named-clause-value c = λ h.
     let o = active_on t seat0 in
     let yes : c.is_number.result ≡ true = search rules in
     let number = ap is_number_fact (sym c.fact.ensures) ∙ sym c.is_number.ensures ∙ yes in
-    let controller = c.controller_of.ensures ∙ ap (controller_of t) c.active-active.ensures in
-    let owner = c.fifo_owner_of.ensures ∙ ap (fifo_owner_of t) c.active-active.ensures in
-    let is : (c.controller_of.result ∷ c.fifo_owner_of.result ∷ []) ≡ holders t o = (λ i. controller i ∷ owner i ∷ []) in
-    let has = has-who t c.args.who o ∙ ap (is_named c.args.who) (sym is) ∙ sym c.is_named.ensures ∙ c.if-is_named.true in
+    let has = sym (c.active_holders.ensures c.args.who) ∙ sym c.is_named.ensures ∙ c.if-is_named.true in
     let all = both (is_number_fact (value t key.Pending)) (has_session t c.args.who o) (4 * taken_count t + 4) 0 number has in
     let taken = c.counts.ensures.taken ∙ pairs-taken t h in
     let from = c.from.ensures in

@@ -1,4 +1,4 @@
-use Rattle.std.proofs.Common.{◌≡◌, ◌<◌, ◌≤◌, ◌+◌, ◌∙◌, true, List, ap, sym, subst, length, arith}
+use Rattle.std.proofs.Common.{rules, ℕ, ◌≡◌, ◌<◌, ◌≤◌, ◌+◌, ◌∙◌, true, List, ap, sym, subst, length, arith}
 use Rattle.login_base.specs.declared.ids.ConnId.{ConnId}
 use Rattle.login_model.specs.Full.{connected_after, full, mark_count, marks_needed}
 use Rattle.login_model.specs.Legal.{IsLegal, answered, trail_of}
@@ -15,7 +15,7 @@ use Rattle.login_core.specs.inner.Draft.{DraftState}
 use Rattle.login_core.specs.State.{CoreState, NextIsWide, may_raise}
 use Rattle.login_core.specs.inner.Inside.{HaveEnds}
 use Rattle.login_core.specs.inner.Ledger.{end_room, next_room}
-use Rattle.login_core.proofs.EndRooms.{AreWide, all-wide}
+use Rattle.login_core.proofs.EndRooms.{AreWide, all-wide, reserved-have}
 use Rattle.login_core.proofs.CountedLaws.{legal-holders}
 use Rattle.login_core.proofs.Entries.{marks-counted}
 use Rattle.login_core.proofs.Keeping.{small}
@@ -69,8 +69,11 @@ reserve-requires-clause-within c =
     let length_is = ap length c.self.invariant.no_marks in
     omega arith
 
-pub make_ends-requires : goal.make_ends-requires
-make_ends-requires c =
+pub make_ends-requires-clause-no_marks : goal.make_ends-requires-clause-no_marks
+make_ends-requires-clause-no_marks c = c.reserve.ensures.trail ∙ c.self.invariant.no_marks ∙ ap trail_of (sym c.reserve.ensures.items)
+
+pub make_ends-requires-clause-sound : goal.make_ends-requires-clause-sound
+make_ends-requires-clause-sound c =
     let U = c.self.inside.setup in
     let m = c.self.inside.board in
     let P : Trail → Type 0 = IsSound U in
@@ -117,15 +120,16 @@ returns-clause-ready c =
     let A : Verdict → Type 0 = λ w. AreWide (end_room n.journal) w t e in
     let L : Verdict → Type 0 = λ w. NextIsWide w t e (next_room n.journal) in
     let H : Trail → Type 0 = HaveEnds (end_room m.journal) in
-    let W : Trail → Type 0 = λ u. (who : ConnId) → may_raise v u e who ≡ true → 0 < end_room r.journal who → share who u + most_share_rise u ≤ end_room n.journal who in
+    let W : Trail → Type 0 = λ u. (who : ConnId) → may_raise v u e who ≡ true → 0 < end_room r.journal who → share who u + most_share_rise who u ≤ end_room n.journal who in
     let N : Trail → Type 0 = λ u. NextIsWide v u e (next_room n.journal) in
+    let K : Trail → Type 0 = λ u. (who : ConnId) (k : ℕ) → k ≤ share who u + most_share_rise who u → k ≤ end_room r.journal who → k ≤ end_room n.journal who in
     let have = subst H (ap trail_of (sym items)) c.self.invariant.ends in
     let wide = subst W behind c.in_ok-make_ends.ensures.wide in
     record {
       entries = omega arith;
       far = omega arith;
       reach = omega arith;
-      ends = subst A judged (all-wide v t e (end_room r.journal) (end_room n.journal) (λ who i. (let h = have who i in let k = c.reserve.ensures.ends who in omega arith)) w.keeps wide);
+      ends = subst A judged (all-wide v t e (end_room r.journal) (end_room n.journal) (λ who i. (let h = have who i in let k = c.reserve.ensures.ends who in omega arith)) (subst K behind w.keeps) wide);
       next_end = subst L judged (subst N behind c.in_ok-make_ends.ensures.next);
       rings = omega arith;
       small = (λ i. full (sym setup i) (sym journal i) e) ∙ c.requires.small;
@@ -133,3 +137,90 @@ returns-clause-ready c =
       judged = judged;
       answer = c.in_ok-answer.ensures ∙ ap (λ (v : Verdict). answered U v e es) judged;
     }
+
+-- ---- each end: what was made so far is kept, and who is connected has room for its end still
+
+pub invariant_of-self-in_err-make_rings : goal.invariant_of-self-in_err-make_rings
+invariant_of-self-in_err-make_rings c = record {
+  set_up = search rules;
+  legal = search rules;
+  begun = search rules;
+  no_marks = search rules;
+  stop_is = search rules;
+  entries = search rules;
+  reach = search rules;
+  within = search rules;
+  ends = c.make_ends.ensures.have (reserved-have c.self.inside.board c.reserve.new.self c.reserve.ensures.ends c.reserve.ensures.items c.self.invariant.ends);
+  ears = search rules;
+  kept_texts = search rules;
+  few_entries = search rules;
+  few_marks = search rules;
+}
+
+pub invariant_of-self-in_err-prepare : goal.invariant_of-self-in_err-prepare
+invariant_of-self-in_err-prepare c = record {
+  set_up = search rules;
+  legal = search rules;
+  begun = search rules;
+  no_marks = search rules;
+  stop_is = search rules;
+  entries = search rules;
+  reach = search rules;
+  within = search rules;
+  ends = c.make_ends.ensures.have (reserved-have c.self.inside.board c.reserve.new.self c.reserve.ensures.ends c.reserve.ensures.items c.self.invariant.ends);
+  ears = search rules;
+  kept_texts = search rules;
+  few_entries = search rules;
+  few_marks = search rules;
+}
+
+pub invariant_of-self-2 : goal.invariant_of-self-2
+invariant_of-self-2 c = record {
+  set_up = search rules;
+  legal = search rules;
+  begun = search rules;
+  no_marks = search rules;
+  stop_is = search rules;
+  entries = search rules;
+  reach = search rules;
+  within = search rules;
+  ends = c.make_ends.ensures.have (reserved-have c.self.inside.board c.reserve.new.self c.reserve.ensures.ends c.reserve.ensures.items c.self.invariant.ends);
+  ears = search rules;
+  kept_texts = search rules;
+  few_entries = search rules;
+  few_marks = search rules;
+}
+
+pub invariant_of-self-in_err-answer : goal.invariant_of-self-in_err-answer
+invariant_of-self-in_err-answer c = record {
+  set_up = search rules;
+  legal = search rules;
+  begun = search rules;
+  no_marks = search rules;
+  stop_is = search rules;
+  entries = search rules;
+  reach = search rules;
+  within = search rules;
+  ends = c.make_ends.ensures.have (reserved-have c.self.inside.board c.reserve.new.self c.reserve.ensures.ends c.reserve.ensures.items c.self.invariant.ends);
+  ears = search rules;
+  kept_texts = search rules;
+  few_entries = search rules;
+  few_marks = search rules;
+}
+
+pub invariant_of-self-3 : goal.invariant_of-self-3
+invariant_of-self-3 c = record {
+  set_up = search rules;
+  legal = search rules;
+  begun = search rules;
+  no_marks = search rules;
+  stop_is = search rules;
+  entries = search rules;
+  reach = search rules;
+  within = search rules;
+  ends = c.make_ends.ensures.have (reserved-have c.self.inside.board c.reserve.new.self c.reserve.ensures.ends c.reserve.ensures.items c.self.invariant.ends);
+  ears = search rules;
+  kept_texts = search rules;
+  few_entries = search rules;
+  few_marks = search rules;
+}

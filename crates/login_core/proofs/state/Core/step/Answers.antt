@@ -18,9 +18,9 @@ use Rattle.device_model.specs.declared.ears.Ear.{Ear}
 use Rattle.login_core.specs.inner.Board.{IsBegun}
 use Rattle.login_core.specs.inner.Draft.{DraftState, marked_by, reaching, with_ears}
 use Rattle.login_core.specs.inner.Ears.{AreEnough, ListenLive, settled}
-use Rattle.login_core.specs.Rings.{ring_count}
+use Rattle.login_core.specs.inner.Rings.{ring_count}
 use Rattle.login_core.specs.inner.Inside.{IsCore}
-use Rattle.login_core.specs.Spares.{HaveTexts}
+use Rattle.login_core.specs.inner.Spares.{HaveTexts}
 use Rattle.login_core.specs.inner.UnderWay.{so_far, entry_of}
 use Rattle.login_core.specs.State.{CoreState, IsReady}
 use Rattle.login_core.specs.inner.State.{answer_next, stop_next}

@@ -8,4 +8,4 @@ use Rattle.login_core.proofs.board.facts.Facts.next_conn.Goals as goal
 pub returns : goal.returns
 returns c = λ t s.
     let P : Tables → Type 0 = λ f. StandFor f t in
-    c.next_conn.ensures t (stand-at _ t Controls (opened _ t (subst P (sym c.self.view_is) s)))
+    c.next.ensures t (stand-at _ t Controls (opened _ t (subst P (sym c.self.view_is) s)))

@@ -8,4 +8,4 @@ use Rattle.login_core.proofs.board.facts.Facts.next_lock.Goals as goal
 pub returns : goal.returns
 returns c = λ t s.
     let P : Tables → Type 0 = λ f. StandFor f t in
-    c.next_lock.ensures t (stand-at _ t Locks (opened _ t (subst P (sym c.self.view_is) s)))
+    c.next.ensures t (stand-at _ t Locks (opened _ t (subst P (sym c.self.view_is) s)))

@@ -9,10 +9,11 @@ use Rattle.login_core.specs.declared.board.facts.Facts.TheInside.{Inside}
 use Rattle.login_core.specs.declared.room.counts.Counts.{Counts}
 use Rattle.login_core.specs.inner.Counts.{CanAllMove, Follow, counts_of}
 use Rattle.login_core.specs.declared.board.holding.Holding.{Holding}
-use Rattle.login_core.specs.inner.Facts.{Tables, TablesStand, opens, inhibits}
-use Rattle.login_core.specs.inner.Holding.{holding_in, holding_lt, noted, without}
+use Rattle.login_core.specs.inner.Facts.{Tables, TablesStand}
+use Rattle.login_core.specs.inner.Holding.{holding_in, holding_lt, without}
 use Rattle.login_core.proofs.CountedLaws.{counted-fit}
-use Rattle.login_core.proofs.Counting.{opens-bound, gives-bound, inhibits-bound, sessions-bound, handles-bound, locks-bound}
+use Rattle.login_core.proofs.HeldRows.{noted}
+use Rattle.login_core.proofs.Counting.{opens, inhibits, opens-bound, gives-bound, inhibits-bound, sessions-bound, handles-bound, locks-bound}
 use Rattle.login_core.proofs.Placed.{Moves, Places, stands-placed, but-users, but-sessions, but-seats, but-devices, but-controls, but-takes, but-locks, but-power}
 use Rattle.login_core.proofs.board.facts.Facts.put_in.Goals as goal
 

@@ -1,5 +1,5 @@
 use Rattle.std.proofs.Common.{◌≡◌, ◌==◌, ◌∙◌, ap, false, arith}
-use Rattle.login_core.specs.Spares.{copies_in}
+use Rattle.login_core.specs.inner.Spares.{copies_in}
 use Rattle.login_core.proofs.room.spares.Spares.take.Goals as goal
 
 pub returns-clause-others : goal.returns-clause-others

@@ -1,44 +1,21 @@
--- Copies of texts: of sessions, spare for the end of each, and of the lock that stands next.
-use Rattle.std.specs.Prelude.{ℕ, ◌≡◌, ◌==◌, ◌<◌, Bool, true, Option, Some, None, List}
-use Rattle.std.specs.Map.{lookup}
-use Rattle.login_base.specs.declared.ids.SessId.{SessId}
+-- What is ready for an event: copies of the texts of a session that is created, for its whole life, or of a lock; or
+-- memory for a device's seat.
+use Rattle.std.specs.Prelude.{◌≡◌, ◌<◌, Option, Some, None}
 use Rattle.login_model.specs.declared.call.Call.{Call}
 use Rattle.login_model.specs.declared.call.Call.TheVariants.{Create, Inhibit}
 use Rattle.login_model.specs.declared.call.Creation.{Creation}
 use Rattle.login_model.specs.declared.call.Inhibition.{Inhibition}
 use Rattle.login_model.specs.declared.event.Event.{Event}
 use Rattle.login_model.specs.declared.event.Event.TheVariants.{Call as Calls, Hardware as Happens}
-use Rattle.login_model.specs.declared.fact.Key.TheVariants.{Sess}
 use Rattle.login_model.specs.declared.hardware.Hardware.{Hardware}
 use Rattle.login_model.specs.declared.hardware.Hardware.TheVariants.{Add}
-use Rattle.login_model.specs.Trail.{Trail, value}
-use Rattle.login_model.specs.Where.{is_open, is_session}
 use Rattle.login_core.specs.declared.room.copies.Copies.{Copies}
 use Rattle.login_core.specs.declared.room.locks.LockCopies.{LockCopies}
 use Rattle.login_core.specs.declared.room.slots.SeatSlots.{SeatSlots}
 use Rattle.login_core.specs.declared.room.texts.FreshTexts.{FreshTexts}
 use Rattle.login_core.specs.declared.room.texts.Texts.{Texts}
-use Rattle.login_core.specs.Texts.{AreSome, lock_texts, session_texts}
-
--- the copies of a session, by its number, if there are any
-abbrev pub copies_in : List (ℕ × Copies) → SessId → Option Copies
-copies_in spares s = lookup (λ number. s.0 == number) spares
-
--- each of these sessions has copies of its texts
-pub record HaveCopies (there : Trail → SessId → Bool) (spares : List (ℕ × Copies)) (t : Trail) : Type 0 where
-  pub each : (s : SessId) → there t s ≡ true → AreSome (value t (Sess s)) (copies_in spares s)
-
--- there are the copies with which each open session closes
-abbrev pub AreClosing : List (ℕ × Copies) → Trail → Type 0
-AreClosing spares t = HaveCopies is_open spares t
-
--- there are the copies with which each session goes that is not gone
-abbrev pub AreGoing : List (ℕ × Copies) → Trail → Type 0
-AreGoing spares t = HaveCopies is_session spares t
-
-pub record HaveTexts (texts : Texts) (t : Trail) : Type 0 where
-  pub closing : AreClosing texts.closing.items t
-  pub gone : AreGoing texts.gone.items t
+use Rattle.login_model.specs.Creating.{session_texts}
+use Rattle.login_core.specs.Texts.{lock_texts}
 
 -- both copies are of the texts with which a session is created
 pub record AreOf (x : Creation) (c : Copies) : Type 0 where
