@@ -1,6 +1,6 @@
 -- Texts that are printed in parts.
 use Rattle.std.proofs.Common.{◌≡◌, ℕ, List, [], ◌∷◌, ◌++◌, Result, Ok, Err, OnOk, ap, sym, ◌∙◌, append-nil}
-use Rattle.recording.specs.inner.Spaced.{spaced}
+use Rattle.login_model.specs.inner.Prefixed.{spaced}
 
 -- two words, by one call
 pub two_words : {T E : Type 0} (r : Result T E) (old new word part : List ℕ) → OnOk r (new ≡ old ++ 32 ∷ (word ++ 32 ∷ part)) → OnOk r (new ≡ old ++ spaced (word ∷ part ∷ []))

@@ -14,7 +14,7 @@ use Rattle.recording.specs.MarkWords.{key_words, fact_words, notice_words, mark_
 use Rattle.login_model.specs.RuleWords.{rule_words}
 use Rattle.recording.specs.AnswerWords.{answer_words}
 use Rattle.recording.specs.Print.{verdict_words, indented, block}
-use Rattle.recording.specs.inner.Spaced.{spaced}
+use Rattle.login_model.specs.inner.Prefixed.{spaced}
 
 -- two parts, the second by a call whose answer is handed on
 pub two_parts : {T E : Type 0} (r : Result T E) (old mid new a b c : List ℕ) → mid ≡ old ++ a → OnOk r (new ≡ mid ++ b) → a ++ b ≡ c → OnOk r (new ≡ old ++ c)

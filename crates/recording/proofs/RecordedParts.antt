@@ -18,7 +18,7 @@ use Rattle.recording.specs.declared.line.Line.TheVariants.{Header, Guid, User, C
 use Rattle.recording.specs.declared.recorded.RawText.{RawText}
 use Rattle.recording.specs.declared.recorded.RawText.TheVariants as raw
 use Rattle.recording.specs.inner.Parts.{events_text, front_text, line_of, lines_text, setup_text, users_text, word_text}
-use Rattle.recording.specs.inner.Spaced.{spaced}
+use Rattle.login_model.specs.inner.Prefixed.{spaced}
 use Rattle.recording.proofs.Arguments.{decimal_one}
 use Rattle.recording.proofs.Printed.{join_with_byte-spaced}
 use Rattle.recording.proofs.Spellings.{event_some}

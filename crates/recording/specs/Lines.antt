@@ -57,7 +57,8 @@ IsLine (In c bytes) = (0 < c.0) × (c.0 < 2 ^ 32) × AreBytes bytes × (0 < leng
 IsLine (Hangup c) = (0 < c.0) × (c.0 < 2 ^ 32)
 IsLine End = Unit {0}
 
--- the values of a line as it is written are within their types and bounds; a raw line has no line feed, and the words of an action are four, whatever they are
+-- the values of a line as it is written are within their types and bounds; a raw line has no line feed, and the words
+-- of an action are four, whatever they are
 abbrev pub IsWritten : Line → Type 0
 IsWritten (Header version) = version ≡ 1
 IsWritten (Guid guid) = is_guid guid ≡ true

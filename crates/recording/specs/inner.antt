@@ -1,7 +1,6 @@
 -- What serves private functions: how the readers go over the words of a line.
 pub mod CallWords
 pub mod Filling
-pub mod Spaced
 pub mod Pieces
 pub mod Arguments
 pub mod CallReadings

@@ -8,7 +8,7 @@ ghost use Rattle.login_model.specs.Paths.{unique_name};
 ghost use Rattle.login_model.specs.Words.{say_word, what_text};
 ghost use Rattle.recording.specs.Text.{spell_flag};
 ghost use Rattle.std.specs.Fmt.{decimal};
-ghost use Rattle.recording.specs.inner.Spaced.{spaced};
+ghost use Rattle.login_model.specs.inner.Prefixed.{spaced};
 
 use crate::fact_text::{push_mode, push_what};
 use crate::line_text::LineText;

@@ -9,7 +9,7 @@ ghost use Rattle.recording.specs.Causes.{known_fault, call_fault};
 ghost use Rattle.recording.specs.inner.Arguments.{Reads};
 ghost use Rattle.recording.specs.inner.CallReadings.{manager_call_of, session_call_of, seat_call_of, other_call_of, call_of};
 ghost use Rattle.recording.specs.inner.CallWords.{purpose_words, place_words};
-ghost use Rattle.recording.specs.inner.Spaced.{spaced};
+ghost use Rattle.login_model.specs.inner.Prefixed.{spaced};
 ghost use Rattle.recording.specs.Text.{spell_text, spell_flag};
 
 use crate::argument::{read, read_alone};

@@ -6,7 +6,7 @@ ghost use Rattle.login_edge.specs.Faults.{Rose};
 ghost use Rattle.login_edge.specs.Texts.{Gains, GainsFront};
 ghost use Rattle.login_model.specs.declared.mark.Mark.{Mark};
 ghost use Rattle.recording.specs.Print.{block, mark_words};
-ghost use Rattle.recording.specs.inner.Spaced.{spaced};
+ghost use Rattle.login_model.specs.inner.Prefixed.{spaced};
 
 use crate::event_text::push_event;
 use crate::line_text::LineText;

@@ -3,7 +3,7 @@
 ghost use Rattle.std.specs.Prelude.{◌≡◌, ◌++◌, ◌∷◌, OnOk};
 ghost use Rattle.login_model.specs.Words.{device_kind_word, key_word};
 ghost use Rattle.recording.specs.EventSpelling.{request_word, hardware_words, event_words};
-ghost use Rattle.recording.specs.inner.Spaced.{spaced};
+ghost use Rattle.login_model.specs.inner.Prefixed.{spaced};
 
 use crate::call::{push_call, push_device};
 use crate::key_text::push_numbered;

@@ -3,7 +3,7 @@
 ghost use Rattle.std.specs.Prelude.{◌≡◌, ◌++◌, ◌∷◌, OnOk, IfOk};
 ghost use Rattle.login_model.specs.Words.{type_word, class_word, whom_word, mode_word, what_text};
 ghost use Rattle.recording.specs.MarkWords.{absent_word, session_words_at, or_dash, owner_words, lock_words, skip_word, progress_words, fact_words};
-ghost use Rattle.recording.specs.inner.Spaced.{spaced};
+ghost use Rattle.login_model.specs.inner.Prefixed.{spaced};
 
 use crate::call::push_operation;
 use crate::event_text::push_device_kind;

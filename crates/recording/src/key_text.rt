@@ -4,7 +4,7 @@ ghost use Rattle.std.specs.Prelude.{◌≡◌, ◌++◌, ◌∷◌, OnOk};
 ghost use Rattle.std.specs.Fmt.{decimal};
 ghost use Rattle.login_base.specs.SessionId.{session_text};
 ghost use Rattle.recording.specs.MarkWords.{device_word, key_words};
-ghost use Rattle.recording.specs.inner.Spaced.{spaced};
+ghost use Rattle.login_model.specs.inner.Prefixed.{spaced};
 
 use crate::line_text::LineText;
 use login_base::{DevNo, NoMemory, SeatName, SessId};

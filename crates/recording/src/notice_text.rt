@@ -3,7 +3,7 @@
 ghost use Rattle.std.specs.Prelude.{◌≡◌, ◌++◌, ◌∷◌, OnOk};
 ghost use Rattle.login_model.specs.Words.{pause_word};
 ghost use Rattle.recording.specs.MarkWords.{session_or_dash, notice_words};
-ghost use Rattle.recording.specs.inner.Spaced.{spaced};
+ghost use Rattle.login_model.specs.inner.Prefixed.{spaced};
 
 use crate::key_text::{push_device_word, push_numbered, push_seat, push_session};
 use crate::line_text::LineText;

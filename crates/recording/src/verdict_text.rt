@@ -3,7 +3,7 @@
 ghost use Rattle.std.specs.Prelude.{◌≡◌, ◌++◌, OnOk};
 ghost use Rattle.recording.specs.Print.{verdict_words};
 ghost use Rattle.login_model.specs.RuleWords.{limit_words, detail_words, rule_words};
-ghost use Rattle.recording.specs.inner.Spaced.{spaced};
+ghost use Rattle.login_model.specs.inner.Prefixed.{spaced};
 
 use crate::answer_text::push_answer;
 use crate::call::push_operation;

@@ -62,8 +62,8 @@ abbrev pub at_path : Message → Option (List ℕ) → Call
 at_path m None = NoObject
 at_path m (Some path) = on_object m path (object_of path)
 
--- The call that a message is: none, of no object, of no method, with bad arguments, or one of the calls. The interface of
--- peers, where it is named, is on every path.
+-- The call that a message is: none, of no object, of no method, with bad arguments, or one of the calls. The interface
+-- of peers, where it is named, is on every path.
 unfoldable pub call_of : Message → Call
 call_of m =
     if not (m.kind == 1) then NoCall

@@ -171,8 +171,8 @@ impl AnyMethod {
         }
     }
 
-    /// How many of its arguments the call is made of. The further properties of a session and the value that would be set
-    /// stand behind these.
+    /// How many of its arguments the call is made of. The further properties of a session and the value that would be
+    /// set stand behind these.
     fn kept(&self) -> usize
         ensures { result ≡ kept self.now }
     {
@@ -240,8 +240,8 @@ fn front_call(alloc: Global, method: AnyMethod, values: &[Value]) -> Result<Call
     method.call(alloc, values)
 }
 
-/// The call that a method is with any arguments. No values are made for those of another signature, nor of those that the
-/// call does not keep.
+/// The call that a method is with any arguments. No values are made for those of another signature, nor of those that
+/// the call does not keep.
 #[tactic(auto, unfolding(crate::specs::Calls::call_with))]
 pub(crate) fn call_with(alloc: Global, method: AnyMethod, body: &Values) -> Result<Call, NoMemory>
     ensures { IfOk result (λ call. call ≡ call_with method body.now) }

@@ -336,9 +336,9 @@ fn message_with(
     }
 }
 
-/// The message that a call is sent as, which is read as the call again: the method of the manager where it has one, else
-/// that of the session, the seat, the user, the machine or the bus, or of properties. What asks a peer is sent to the
-/// manager.
+/// The message that a call is sent as, which is read as the call again: the method of the manager where it has one,
+/// else that of the session, the seat, the user, the machine or the bus, or of properties. What asks a peer is sent to
+/// the manager.
 pub fn message_of(alloc: Global, call: &Call, serial: u32) -> Result<Message, NoMemory>
     requires ordinary { is_other call.now ≡ false }
     requires texts { HasTexts call.now }

@@ -27,10 +27,10 @@ use Rattle.bus_value.specs.Values.{Val, shape}
 use Rattle.wire_out.specs.Messages.{flag, number, path, structure, text}
 use Rattle.wire_out.specs.Replies.{answer_values, created_values, input_type, input_values, lock_type, lock_values, reference_type, rows, session_type, session_values, user_type, user_values}
 use Rattle.wire_out.specs.References.{seat_reference}
-use Rattle.wire_out.specs.inner.Parts.{AreParts, AreRows, IsBody, IsPart, most_body}
+use Rattle.wire_out.specs.inner.Parts.{IsBody, most_body}
 use Rattle.wire_out.specs.inner.Sendable.{CanBeAnswered, IsLockRow, IsSeat, IsSeatIf, IsSessionRow}
 use Rattle.wire_out.specs.inner.Numbers.{HasAnswerNumbers, HasCreatedNumbers, HasInputNumbers, HasLockNumbers, HasSessionNumbers, IsNumber}
-use Rattle.wire_out.proofs.Parts.{array_part, flag_part, half_part, more_parts, no_parts, number_part, signed_part, struct_part, text_part, weaker}
+use Rattle.wire_out.proofs.Parts.{AreParts, AreRows, IsPart, array_part, flag_part, half_part, more_parts, no_parts, number_part, signed_part, struct_part, text_part, weaker}
 use Rattle.wire_out.proofs.Texts.{ArePlain, decimal_plain, plain_append, plain_text, runtime_plain, runtime_short, text_is}
 use Rattle.wire_out.proofs.Properties.{rows_body, value_body}
 use Rattle.wire_out.proofs.ValueParts.{all_there, body_of, id_part, one, rows_by, said_part, seat_if_part, seat_part, seat_reference_parts, session_part, user_part, what_part}

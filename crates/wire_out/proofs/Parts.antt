@@ -1,6 +1,7 @@
 -- Values that can be written, and how long they are at most.
 use Rattle.std.proofs.Common.{◌≡◌, ℕ, ◌+◌, ◌-◌, ◌*◌, ◌%◌, ◌^◌, ◌<◌, ◌≤◌, List, [], ◌∷◌, ◌++◌, length, length-append, replicate, Bool, true, refl, ap, sym, subst, arith, FitsSigned, w32}
 use Rattle.std.proofs.Math.Nat.{suc-mul}
+use Rattle.std.specs.List.{AllByRecursion}
 use Rattle.login_base.specs.Names.{IsPath}
 use Rattle.bus_names.specs.Types.{Shape, fields_of, listed, struct_of}
 use Rattle.bus_names.specs.Types as types
@@ -9,7 +10,7 @@ use Rattle.bus_value.specs.declared.basic_value.BasicValue.TheVariants.{U16, U64
 use Rattle.bus_value.specs.declared.order.Order.TheVariants.{Little}
 use Rattle.bus_value.specs.Grammar as rules_of
 use Rattle.bus_value.specs.Lengths.{entries_end, value_end, values_end}
-use Rattle.bus_value.specs.Limits.{AllFit}
+use Rattle.bus_value.specs.Limits.{AllFit, Fits}
 use Rattle.bus_value.specs.Numbers.{number_bytes}
 use Rattle.bus_value.specs.Spelling.{behind_length, entry_spellings, first_element, padding, spelling, spellings}
 use Rattle.login_base.specs.Texts.{is_text}
@@ -18,7 +19,22 @@ use Rattle.bus_value.specs.Typed as typed
 use Rattle.bus_value.specs.Values.{Entries, Val, basic, array, count, dict, shape, shapes, vals}
 use Rattle.bus_value.proofs.LengthLaws.{spelled_length}
 use Rattle.wire_out.specs.Messages.{flag, number, path, structure, text}
-use Rattle.wire_out.specs.inner.Parts.{AreParts, AreRows, IsPart}
+
+-- wherever it stands, the value is of its type, within the limits and so many bytes long at most
+pub record IsPart (most : ℕ) (v : Val) : Type 0 where
+  pub typed : (depth : ℕ) → IsTyped depth (shape v) v
+  pub fits : (at : ℕ) → Fits Little at v
+  pub short : (at : ℕ) → value_end at v ≤ at + most
+
+-- the same of values in a row
+pub record AreParts (most : ℕ) (vs : List Val) : Type 0 where
+  pub typed : (depth : ℕ) → AreTyped depth (shapes (vals vs)) (vals vs)
+  pub fits : (at : ℕ) → AllFit Little at (vals vs)
+  pub short : (at : ℕ) → values_end at (vals vs) ≤ at + most
+
+-- they are all of one type
+abbrev pub AreRows : ℕ → Shape → List Val → Type 0
+AreRows most t vs = AllByRecursion (λ (v : Val). IsPart most v × (shape v ≡ t)) vs
 
 -- ---- basic values
 

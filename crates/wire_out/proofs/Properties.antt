@@ -31,7 +31,7 @@ use Rattle.bus_value.specs.Grammar as rules_of
 use Rattle.bus_value.specs.Lengths.{basic_end, entries_end, value_end}
 use Rattle.bus_value.specs.Limits.{EntriesFit}
 use Rattle.bus_value.specs.Nesting.{nesting}
-use Rattle.bus_value.specs.Spelling.{first_element, key_at}
+use Rattle.bus_value.specs.Spelling.{first_element, next_boundary}
 use Rattle.bus_value.specs.Typed.{AreTyped}
 use Rattle.bus_value.specs.Typed as typed
 use Rattle.bus_value.specs.Values.{Val, count, dict, entries, shape, variant}
@@ -40,8 +40,8 @@ use Rattle.wire_out.specs.References.{no_reference, reference_or_none, session_r
 use Rattle.wire_out.specs.Replies.{property_entry, property_value, reference_type, rows}
 use Rattle.wire_out.specs.inner.Sendable.{CanBeValue, most_properties}
 use Rattle.wire_out.specs.inner.Numbers.{HasValueNumbers, IsNumber, IsNumberIf}
-use Rattle.wire_out.specs.inner.Parts.{AreParts, AreRows, IsBody, IsPart, most_body}
-use Rattle.wire_out.proofs.Parts.{array_part, entries_room, flag_part, long_part, more_parts, number_part, path_part, struct_part, text_part, weaker}
+use Rattle.wire_out.specs.inner.Parts.{IsBody, most_body}
+use Rattle.wire_out.proofs.Parts.{AreParts, AreRows, IsPart, array_part, entries_room, flag_part, long_part, more_parts, number_part, path_part, struct_part, text_part, weaker}
 use Rattle.wire_out.proofs.Texts.{ArePlain, plain_text, root_path_is, session_path_close, session_path_is}
 use Rattle.wire_out.proofs.ValueParts.{all_there, id_part, one, rows_by, said_part, seat_reference_parts, user_part, what_part}
 
@@ -199,13 +199,13 @@ entries_typed (r ∷ rs) c n =
 
 -- the end of an entry
 abbrev entry_end : ℕ → PropertyRow → ℕ
-entry_end at r = value_end (basic_end (key_at at) (Str (property_name r.property))) (variant (property_value r.value))
+entry_end at r = value_end (basic_end (next_boundary at) (Str (property_name r.property))) (variant (property_value r.value))
 
 entry_bound : (at : ℕ) (r : PropertyRow) → CanBeRow r → HasRowNumbers r → entry_end at r ≤ at + 3000600
 entry_bound at r c n =
     let f = flat r.value in
     let short = (name r.property).short in
-    let s = (value_part r.value c n).short (basic_end (key_at at) (Str (property_name r.property)) + (length (signature_text (shape (property_value r.value) ∷ [])) + 2)) in
+    let s = (value_part r.value c n).short (basic_end (next_boundary at) (Str (property_name r.property)) + (length (signature_text (shape (property_value r.value) ∷ [])) + 2)) in
     let l = f.within.short in
     omega (arith, s, l, short)
 

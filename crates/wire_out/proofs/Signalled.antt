@@ -19,7 +19,7 @@ use Rattle.bus_value.specs.declared.order.Order.TheVariants.{Little}
 use Rattle.bus_value.specs.Grammar as rules_of
 use Rattle.bus_value.specs.Lengths.{basic_end, entries_end, value_end}
 use Rattle.bus_value.specs.Nesting.{nesting}
-use Rattle.bus_value.specs.Spelling.{first_element, key_at, spelling}
+use Rattle.bus_value.specs.Spelling.{first_element, next_boundary, spelling}
 use Rattle.login_base.specs.Texts.{is_text}
 use Rattle.bus_value.specs.Typed as typed
 use Rattle.bus_value.specs.Values.{Val, array, dict, entry, no_entries, none, shape, shapes, vals, variant}
@@ -27,12 +27,12 @@ use Rattle.bus_message.specs.declared.message.Message.{Message}
 use Rattle.wire_out.specs.Messages.{flag, number, path, text}
 use Rattle.wire_out.specs.Signals.{active_changed, changed, manager_signal, seat_changed, session_signal, signals}
 use Rattle.wire_out.specs.References.{session_reference}
-use Rattle.wire_out.specs.inner.Parts.{IsBody, IsPart, IsWritable, most_body}
+use Rattle.wire_out.specs.inner.Parts.{IsBody, IsWritable, most_body}
 use Rattle.wire_out.specs.inner.Sendable.{CanBeTold, IsSeat}
 use Rattle.wire_out.specs.inner.Numbers.{HasNoticeNumbers, IsNumber, IsNumberIf}
 use Rattle.wire_out.proofs.Properties.{reference_part}
 use Rattle.wire_out.proofs.ValueParts.{body_of, id_part, one, seat_reference_parts, session_part, user_part}
-use Rattle.wire_out.proofs.Parts.{entries_room, flag_part, more_parts, no_parts, number_part, text_part, weaker}
+use Rattle.wire_out.proofs.Parts.{IsPart, entries_room, flag_part, more_parts, no_parts, number_part, text_part, weaker}
 use Rattle.wire_out.proofs.Texts.{plain_text, seat_path_short, session_path_short}
 use Rattle.wire_out.proofs.Writable.{signal_writable}
 
@@ -83,7 +83,7 @@ changed_values interface property v =
 property_bound : (at m : ℕ) (property : List ℕ) (v : Val) → length property ≤ 255 → IsWithin (shape v ∷ []) → m ≤ 255 → IsPart m v
     → entries_end (first_element at 8) (entry (Str property) (variant v) no_entries) ≤ at + 1024
 property_bound at m property v short w small p =
-    let s = p.short (basic_end (key_at (first_element at 8)) (Str property) + (length (signature_text (shape v ∷ [])) + 2)) in
+    let s = p.short (basic_end (next_boundary (first_element at 8)) (Str property) + (length (signature_text (shape v ∷ [])) + 2)) in
     let l = w.short in
     omega (arith, s, l, short, small)
 

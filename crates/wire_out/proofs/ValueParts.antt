@@ -14,11 +14,11 @@ use Rattle.bus_value.specs.Values.{Val, shape, shapes, vals}
 use Rattle.wire_out.specs.Messages.{path, structure, text}
 use Rattle.wire_out.specs.Replies.{seat_text}
 use Rattle.wire_out.specs.References.{seat_reference}
-use Rattle.wire_out.specs.inner.Parts.{AreParts, AreRows, IsBody, IsPart, most_body}
+use Rattle.wire_out.specs.inner.Parts.{IsBody, most_body}
 use Rattle.wire_out.specs.inner.Sendable.{IsSeat, IsSeatIf}
 use Rattle.wire_out.specs.inner.Numbers.{IsNumber}
 use Rattle.wire_out.proofs.Words.{AllPlain, all_append, joined_plain, joined_short, total, total_append}
-use Rattle.wire_out.proofs.Parts.{more_parts, no_parts, path_part, text_part, weaker}
+use Rattle.wire_out.proofs.Parts.{AreParts, AreRows, IsPart, more_parts, no_parts, path_part, text_part, weaker}
 use Rattle.wire_out.proofs.Texts.{ArePlain, plain_text, seat_path_is, seat_path_short, seat_plain, seat_short, session_path_is, session_path_short, session_plain, session_short, text_is, user_path_is, user_path_short}
 
 pub id_part : (s : SessId) → IsNumber s.0 → IsPart 32 (text (session_text s))

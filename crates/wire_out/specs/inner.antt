@@ -1,5 +1,4 @@
 -- What serves private functions.
-pub mod Spaced
 pub mod Parts
 pub mod Numbers
 pub mod Delivered

@@ -46,7 +46,8 @@ impl Cursor {
         }
     }
 
-    /// What of the mail by this journal was not fetched before, as bytes. It goes over the entries behind the place alone.
+    /// What of the mail by this journal was not fetched before, as bytes. It goes over the entries behind the place
+    /// alone.
     pub fn due(&mut self, alloc: Global, journal: &Journal) -> Result<Bytes, NoMemory>
         requires placed { IsPlaceIn self.old journal.now.items }
         requires mailable { IsMailable journal.now.items }

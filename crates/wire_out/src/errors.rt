@@ -6,7 +6,7 @@ ghost use Rattle.login_base.specs.SessionId.{session_text};
 ghost use Rattle.login_model.specs.RuleWords.{detail_words, limit_number, limit_words};
 ghost use Rattle.wire_out.specs.Errors.{error_name, nobody_error, rule_text};
 ghost use Rattle.wire_out.specs.inner.Numbers.{HasRuleNumber, IsNumber};
-ghost use Rattle.wire_out.specs.inner.Spaced.{spaced};
+ghost use Rattle.login_model.specs.inner.Prefixed.{spaced};
 
 use login_base::{NoMemory, SessId, Word, append_decimal};
 use login_model::{Call, Limit, Rule};

@@ -1,4 +1,5 @@
-// What no clause can show: that the calls succeed where there is memory, and what they answer to bytes of other programs.
+// What no clause can show: that the calls succeed where there is memory, and what they answer to bytes of other
+// programs.
 
 ghost use Rattle.std.specs.Prelude.{◌≡◌, false, true};
 ghost use Rattle.login_model.specs.Texts.{has_object};

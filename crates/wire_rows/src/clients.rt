@@ -1,5 +1,5 @@
-// The first messages of programs of a Debian 12, which a peer recorded: busctl of systemd 252, dbus-send of libdbus 1.14,
-// gdbus of GLib 2.74; and what they are.
+// The first messages of programs of a Debian 12, which a peer recorded: busctl of systemd 252, dbus-send of libdbus
+// 1.14, gdbus of GLib 2.74; and what they are.
 
 use crate::glib::Case;
 

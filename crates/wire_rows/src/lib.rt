@@ -1,5 +1,5 @@
-//! Tests of messages as calls, through public calls. The bytes are those of other D-Bus libraries and programs, and what
-//! is expected is written by hand.
+//! Tests of messages as calls, through public calls. The bytes are those of other D-Bus libraries and programs, and
+//! what is expected is written by hand.
 #![tactic(auto)]
 
 #[cfg(test)]

@@ -12,7 +12,8 @@ use Rattle.wire_calls.specs.Arguments.{are_short}
 use Rattle.wire_calls.specs.Calls.{any_call, is_short_any}
 use Rattle.wire_calls.specs.Methods.{signed_any}
 
--- all but the further properties of a session, and the value that would be set; a signature has no fewer letters than types
+-- all but the further properties of a session, and the value that would be set; a signature has no fewer letters than
+-- types
 abbrev pub kept : AnyMethod → ℕ
 kept (Own (Manager manager.CreateSession)) = 13
 kept (Properties path properties.Set) = 2

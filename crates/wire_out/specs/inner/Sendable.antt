@@ -40,7 +40,8 @@ most_seats = devices_limit + 1
 abbrev pub AreFew : {T : Type 0} → ℕ → (T → Type 0) → List T → Type 0
 AreFew most P xs = (length xs ≤ most) × AllByRecursion P xs
 
--- the text of a property is one, its seat has a seat's name, its time is one of a configuration, and its sessions are few
+-- the text of a property is one, its seat has a seat's name, its time is one of a configuration, and its sessions are
+-- few
 abbrev pub CanBeValue : PropertyValue → Type 0
 CanBeValue (property.Text t) = IsText text_limit t
 CanBeValue (property.Time m) = m.0 ≤ span_limit

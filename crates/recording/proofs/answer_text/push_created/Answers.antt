@@ -1,6 +1,6 @@
 use Rattle.std.proofs.Common.{sym, ◌++◌}
 use Rattle.recording.specs.AnswerWords.{found_words, value_words}
-use Rattle.recording.specs.inner.Spaced.{spaced}
+use Rattle.login_model.specs.inner.Prefixed.{spaced}
 use Rattle.recording.proofs.Printed.{two_parts, spaced-append}
 use Rattle.recording.proofs.answer_text.push_created.Goals as goal
 

@@ -4,7 +4,7 @@ use Rattle.std.specs.List.{flat_map}
 use Rattle.login_model.specs.declared.mark.Mark.{Mark}
 use Rattle.recording.specs.Lines.{event_words}
 use Rattle.recording.specs.Print.{mark_words, verdict_words}
-use Rattle.recording.specs.inner.Spaced.{spaced}
+use Rattle.login_model.specs.inner.Prefixed.{spaced}
 use Rattle.recording.proofs.Printed.{block-spaced}
 use Rattle.recording.proofs.entry.entry_text.Goals as goal
 

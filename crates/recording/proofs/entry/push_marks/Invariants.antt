@@ -2,7 +2,7 @@ use Rattle.std.proofs.Common.{◌≡◌, ◌++◌, ◌∷◌, [], take}
 use Rattle.std.specs.List.{flat_map}
 use Rattle.login_model.specs.declared.mark.Mark.{Mark}
 use Rattle.recording.specs.Print.{mark_words}
-use Rattle.recording.specs.inner.Spaced.{spaced}
+use Rattle.login_model.specs.inner.Prefixed.{spaced}
 use Rattle.recording.proofs.entry.push_marks.Given as goal
 
 abbrev pub invariant-loop-mark : goal.invariant-loop-mark

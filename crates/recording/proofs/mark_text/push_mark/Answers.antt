@@ -1,6 +1,6 @@
 use Rattle.std.proofs.Common.{◌≡◌, ◌++◌, ℕ, List, codes, ap, sym, ◌∙◌, append_assoc}
 use Rattle.recording.specs.MarkWords.{key_words, fact_words, mark_words}
-use Rattle.recording.specs.inner.Spaced.{spaced}
+use Rattle.login_model.specs.inner.Prefixed.{spaced}
 use Rattle.recording.proofs.Printed.{two_parts, spaced-append}
 use Rattle.recording.proofs.mark_text.push_mark.Goals as goal
 
