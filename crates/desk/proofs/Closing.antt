@@ -12,7 +12,7 @@ use Rattle.desk.specs.declared.view.Numbered.{Numbered}
 use Rattle.desk.specs.declared.view.Stage.TheVariants.{Idle, Holding}
 use Rattle.desk.specs.declared.view.View.{View}
 use Rattle.desk.specs.History.{entries, of_pass, of_who}
-use Rattle.desk.specs.Passes.{Closes}
+use Rattle.desk.specs.inner.Passes.{Closes}
 use Rattle.desk.specs.Standing.{StandsFor}
 use Rattle.desk.specs.inner.Rule.{FirstView, InStage, JoinedPass, LiveView, Placement, TurnRule, home, out}
 use Rattle.desk.specs.inner.Seats.{live_count}

@@ -11,7 +11,8 @@ use Rattle.desk.specs.declared.view.Numbered.{Numbered}
 use Rattle.desk.specs.declared.view.Stage.TheVariants.{Idle}
 use Rattle.desk.specs.declared.view.View.{View}
 use Rattle.desk.specs.History.{StartsWith, entries, of_pass, of_who}
-use Rattle.desk.specs.Passes.{Closes, JoinsPass, TakesTurn}
+use Rattle.desk.specs.Passes.{JoinsPass, TakesTurn}
+use Rattle.desk.specs.inner.Passes.{Closes}
 use Rattle.desk.specs.Views.{after_split, at_stage, first_view, split_view, with_own, with_seen}
 use Rattle.desk.proofs.Histories.{drop_entries, entries_append, entries_grown}
 use Rattle.desk.proofs.Lists.{append_nil}

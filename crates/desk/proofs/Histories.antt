@@ -1,13 +1,26 @@
 -- The entries of a number and those of a connection, as a history grows.
 use Rattle.std.proofs.Common.{◌≡◌, ◌≢◌, ℕ, zero, suc, ◌<◌, ◌≤◌, List, [], ◌∷◌, ◌++◌, length, drop, refl, sym, ap, ◌∙◌, subst, arith, eq-eqb, ne_eqb}
+use Rattle.std.specs.Prelude.{Bool, true, false, if◌then◌else◌, ◌==◌}
+use mathlib.Core.List.{map-append}
 use mathlib.Core.Option.{some, some-ne-none, some-injective}
 use lib.ListN.{get_elem?}
 use Rattle.desk.specs.declared.view.Numbered.{Numbered}
-use Rattle.desk.specs.History.{AreBelow, AreOf, AtMostOne, entries, numbered, of_pass, of_who, with_number}
+use Rattle.desk.specs.History.{AreBelow, AreOf, AtMostOne, entries, entry_of, numbered, of_pass, of_who, with_number}
 use Rattle.desk.proofs.Lists.{append_nil}
-pub use Rattle.desk.specs.inner.Appended.{entries_append, of_pass_append, of_who_append}
+
+-- an element that is kept or left out in front of two lists
+kept_front : {A : Type 0} (b : Bool) (a : A) (xs ys : List A) → (if b then a ∷ (xs ++ ys) else xs ++ ys) ≡ (if b then a ∷ xs else xs) ++ ys
+kept_front true a xs ys = refl
+kept_front false a xs ys = refl
 
 module _ {E : Type 0} where
+  pub entries_append : (xs ys : List (Numbered E)) → entries (xs ++ ys) ≡ entries xs ++ entries ys
+  entries_append xs ys = map-append entry_of xs ys
+
+  pub of_pass_append : (n : ℕ) (xs ys : List (Numbered E)) → of_pass n (xs ++ ys) ≡ of_pass n xs ++ of_pass n ys
+  of_pass_append n [] ys = refl
+  of_pass_append n (x ∷ xs) ys = ap (λ (l : List E). if x.number == n then x.entry ∷ l else l) (of_pass_append n xs ys) ∙ kept_front (x.number == n) x.entry (of_pass n xs) (of_pass n ys)
+
   pub of_pass_own : (n : ℕ) (es : List E) → of_pass n (numbered n es) ≡ es
   of_pass_own n [] = refl
   of_pass_own n (e ∷ es) = rw (eq-eqb n n refl) (ap (λ (l : List E). e ∷ l) (of_pass_own n es))
@@ -39,6 +52,10 @@ module _ {E : Type 0} where
   entries_grown n xs es = entries_append xs (numbered n es) ∙ ap (λ (l : List E). entries xs ++ l) (entries_own n es)
 
 module _ {E : Type 0} (who_of : E → ℕ) where
+  pub of_who_append : (c : ℕ) (xs ys : List E) → of_who who_of c (xs ++ ys) ≡ of_who who_of c xs ++ of_who who_of c ys
+  of_who_append c [] ys = refl
+  of_who_append c (x ∷ xs) ys = ap (λ (l : List E). if who_of x == c then x ∷ l else l) (of_who_append c xs ys) ∙ kept_front (who_of x == c) x (of_who who_of c xs) (of_who who_of c ys)
+
   pub of_who_own : (c : ℕ) (es : List E) → AtMostOne who_of c es → of_who who_of c es ≡ es
   of_who_own c [] h = refl
   of_who_own c (e ∷ es) h = rw (eq-eqb (who_of e) c h.0) (ap (λ (l : List E). e ∷ l) (ap (of_who who_of c) h.1 ∙ sym h.1))
@@ -53,10 +70,10 @@ module _ {E : Type 0} (who_of : E → ℕ) where
 
   -- what a connection has grows by its own entries
   pub of_who_grown : (c : ℕ) (xs es : List E) → AtMostOne who_of c es → of_who who_of c (xs ++ es) ≡ of_who who_of c xs ++ es
-  of_who_grown c xs es one = of_who_append who_of c xs es ∙ ap (λ (l : List E). of_who who_of c xs ++ l) (of_who_own c es one)
+  of_who_grown c xs es one = of_who_append c xs es ∙ ap (λ (l : List E). of_who who_of c xs ++ l) (of_who_own c es one)
 
   pub of_who_same : (c d : ℕ) (xs es : List E) → c ≢ d → AtMostOne who_of c es → of_who who_of d (xs ++ es) ≡ of_who who_of d xs
-  of_who_same c d xs es ne one = of_who_append who_of d xs es ∙ (ap (λ (l : List E). of_who who_of d xs ++ l) (of_who_other c d es ne one) ∙ append_nil (of_who who_of d xs))
+  of_who_same c d xs es ne one = of_who_append d xs es ∙ (ap (λ (l : List E). of_who who_of d xs ++ l) (of_who_other c d es ne one) ∙ append_nil (of_who who_of d xs))
 
   pub are_of_grown : (c : ℕ) (xs es : List E) → AreOf who_of c xs → AtMostOne who_of c es → AreOf who_of c (xs ++ es)
   are_of_grown c [] [] h one = tt

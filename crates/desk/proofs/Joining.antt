@@ -12,7 +12,8 @@ use Rattle.desk.specs.declared.view.Stage.TheVariants.{Idle, Holding}
 use Rattle.desk.specs.declared.view.View.{View}
 use Rattle.desk.specs.History.{of_pass}
 use Rattle.desk.specs.inner.Rule.{Covered, FirstView, InStage, JoinedPass, Knows, LiveView, Members, TurnRule}
-use Rattle.desk.specs.Views.{after_join, joined_of, spent_view}
+use Rattle.desk.specs.Views.{after_join, joined_of}
+use Rattle.desk.specs.inner.Passes.{spent_view}
 use Rattle.desk.specs.inner.Seats.{live_count, live_seats, ticket_count}
 use Rattle.desk.proofs.Lists.{at_below, at_end, same_at, starts_nil}
 use Rattle.desk.proofs.Stepping.{still}

@@ -12,7 +12,7 @@ use Rattle.desk.specs.declared.view.Stage.{Stage}
 use Rattle.desk.specs.declared.view.Stage.TheVariants.{Spent, Idle, Waiting, Holding}
 use Rattle.desk.specs.declared.view.View.{View}
 use Rattle.desk.specs.History.{entries, of_pass, of_who}
-use Rattle.desk.specs.Passes.{OneSettled}
+use Rattle.desk.specs.inner.Passes.{OneSettled}
 use Rattle.desk.specs.inner.Rule.{FirstView, InStage, JoinedPass, Knows, LiveView, Members, Placement, TurnRule, home, out}
 use Rattle.desk.specs.Views.{Settled, after_split, first_view, split_view}
 use Rattle.desk.specs.inner.Seats.{live_count, live_seats}

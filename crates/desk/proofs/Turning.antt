@@ -10,7 +10,8 @@ use Rattle.desk.specs.declared.view.Numbered.{Numbered}
 use Rattle.desk.specs.declared.view.Stage.TheVariants.{Idle, Waiting, Holding}
 use Rattle.desk.specs.declared.view.View.{View}
 use Rattle.desk.specs.History.{Appends, AtMostOne, StartsWith, entries, numbered, of_pass, of_who}
-use Rattle.desk.specs.Passes.{EndsTurn, JoinsPass, Waited}
+use Rattle.desk.specs.Passes.{JoinsPass}
+use Rattle.desk.specs.inner.Passes.{EndsTurn, Waited}
 use Rattle.desk.specs.Standing.{StandsFor}
 use Rattle.desk.specs.inner.Rule.{TurnRule}
 use Rattle.desk.specs.inner.Steps.{CatchUpTells, HoldsTurn, PublishTells, SeatState, Served, new_entries}

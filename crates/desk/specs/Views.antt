@@ -1,9 +1,9 @@
 -- The view of a seat, and how steps change it.
-use Rattle.std.specs.Prelude.{◌≡◌, ℕ, ◌+◌, ◌-◌, ◌==◌, if◌then◌else◌, List, [], ◌∷◌, ◌++◌, Some, None}
+use Rattle.std.specs.Prelude.{◌≡◌, ℕ, ◌+◌, ◌-◌, ◌==◌, if◌then◌else◌, List, [], ◌∷◌, ◌++◌, Some}
 use Rattle.desk.specs.declared.view.Joined.{Joined}
 use Rattle.desk.specs.declared.view.Numbered.{Numbered}
 use Rattle.desk.specs.declared.view.Stage.{Stage}
-use Rattle.desk.specs.declared.view.Stage.TheVariants.{Spent, Idle}
+use Rattle.desk.specs.declared.view.Stage.TheVariants.{Idle}
 use Rattle.desk.specs.declared.view.View.{View}
 use Rattle.desk.specs.History.{AreBelow, HasJoined, numbered, of_pass}
 
@@ -11,10 +11,6 @@ module _ {S E : Type 0} where
   -- the first pass as the desk is opened
   abbrev pub first_view : S → View S E
   first_view s = record { setup = Some s; number = 0; who = 0; seen = []; mine = []; inherited = []; stage = Idle; given = 0; made = 0; out = 0; joined = [] }
-
-  -- a pass that was joined, which can do nothing more
-  abbrev pub spent_view : View S E
-  spent_view = record { setup = None; number = 0; who = 0; seen = []; mine = []; inherited = []; stage = Spent; given = 0; made = 0; out = 0; joined = [] }
 
   abbrev pub at_stage : Stage → View S E → View S E
   at_stage st v = record v { stage = st }

@@ -1,5 +1,4 @@
--- What serves private functions: the rule of turns, and the steps of a turn.
-pub mod Appended
+-- What serves private functions and models: the rule of turns, the steps of a turn, and how passes are kept.
 pub mod Passes
 pub mod Rule
 pub mod Seats

@@ -2,8 +2,8 @@
 
 ghost use Rattle.std.specs.Prelude.{◌≡◌, ◌<◌, [], IfOk, Some};
 ghost use Rattle.desk.specs.History.{HasMade, StartsWith, entries, of_pass, of_who};
-ghost use Rattle.desk.specs.Passes.{AreDistinct, Closes, EachJoined, EndsTurn, HasNoOther, HasSeenAll, IsFirst, IsNew, JoinsPass, TakesTurn, Waited, most_passes};
-ghost use Rattle.desk.specs.inner.Passes.{IsSettled};
+ghost use Rattle.desk.specs.Passes.{AreDistinct, EachJoined, HasNoOther, HasSeenAll, IsFirst, IsNew, JoinsPass, TakesTurn, most_passes};
+ghost use Rattle.desk.specs.inner.Passes.{Closes, EndsTurn, IsSettled, Waited};
 ghost use Rattle.desk.specs.inner.Steps.{HoldsTurn};
 ghost use Rattle.desk.specs.Views.{first_view, after_split, split_view};
 

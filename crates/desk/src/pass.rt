@@ -15,7 +15,8 @@ pub struct Pass<S, E> {
 }
 
 impl<S, E> Model for Pass<S, E> {
-    ghost use Rattle.desk.specs.Passes.{PassState, OneSettled, one_view};
+    ghost use Rattle.desk.specs.Passes.{PassState};
+    ghost use Rattle.desk.specs.inner.Passes.{OneSettled, one_view};
 
     ghost Value = { PassState S E };
 

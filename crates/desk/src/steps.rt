@@ -2,7 +2,8 @@
 
 ghost use Rattle.std.specs.Prelude.{ℕ};
 ghost use Rattle.desk.specs.inner.Steps.{CatchUpTells, DrawTells, LookTells, PublishTells};
-ghost use Rattle.desk.specs.Views.{after_split, split_view, after_join, spent_view};
+ghost use Rattle.desk.specs.Views.{after_split, split_view, after_join};
+ghost use Rattle.desk.specs.inner.Passes.{spent_view};
 
 use crate::journaled::Journaled;
 use crate::view::View;

@@ -37,20 +37,20 @@ none-of : (n : ℕ) → 0 < n → n ≡ 0 → ⊥
 none-of n above is = omega (arith, above, is)
 
 -- an event of the machine may be stepped behind any entries
-house-fits : (e : Event) (mine : List Entry) → FitsAlone e → event_who e ≡ 0 → FitsBehind e mine
-house-fits (Connect c u) mine alone is = absurd (none-of c.0 alone is)
-house-fits (Disconnect c) mine alone is = absurd (none-of c.0 alone is)
-house-fits (Calls r) mine alone is = absurd (none-of r.who.0 alone.0 is)
-house-fits (Happens x) mine alone is = tt
-house-fits (Tick m) mine alone is = tt
-house-fits Stop mine alone is = tt
+unowned-fits : (e : Event) (mine : List Entry) → FitsAlone e → event_who e ≡ 0 → FitsBehind e mine
+unowned-fits (Connect c u) mine alone is = absurd (none-of c.0 alone is)
+unowned-fits (Disconnect c) mine alone is = absurd (none-of c.0 alone is)
+unowned-fits (Calls r) mine alone is = absurd (none-of r.who.0 alone.0 is)
+unowned-fits (Happens x) mine alone is = tt
+unowned-fits (Tick m) mine alone is = tt
+unowned-fits Stop mine alone is = tt
 
 -- what an act may ask of the entries of its connection is what an event has to have behind it
 pub fits-own : (e : Event) (who : ℕ) (J : List Entry) → FitsAlone e → event_who e ≡ who → (0 < who → FitsBehind e (of_who entry_who who J)) → FitsBehind e (entries_of (record { 0 = event_who e }) J)
 fits-own e who J alone is may = by who is may
   where
     by : (n : ℕ) → event_who e ≡ n → (0 < n → FitsBehind e (of_who entry_who n J)) → FitsBehind e (entries_of (record { 0 = event_who e }) J)
-    by zero is may = house-fits e (entries_of (record { 0 = event_who e }) J) alone is
+    by zero is may = unowned-fits e (entries_of (record { 0 = event_who e }) J) alone is
     by (suc n) is may = subst (λ (k : ℕ). FitsBehind e (of_who entry_who k J)) (sym is) (may (omega arith))
 
 -- a place in a journal is one in each that begins with it

@@ -12,7 +12,7 @@ use Rattle.login_model.specs.declared.event.Event.TheVariants.{Connect, Disconne
 use Rattle.login_model.specs.declared.event.Request.{Request}
 use Rattle.login_model.specs.declared.mark.Entry.{Entry}
 use Rattle.desk.specs.History.{of_who}
-use Rattle.desk.specs.inner.Appended.{of_who_append}
+use Rattle.desk.proofs.Histories.{of_who_append}
 use Rattle.bus_message.specs.declared.message.Message.{Message}
 use Rattle.wire_out.specs.Mail.{behind_connect, before_disconnect, bytes_of, connects, is_connect, is_disconnect, mail, messages_of, numbered, messages_to, wire}
 use Rattle.wire_out.proofs.Connected.{messages_later, messages_none}

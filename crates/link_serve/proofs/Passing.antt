@@ -7,7 +7,7 @@ use Rattle.login_model.specs.declared.setup.Setup.{Setup}
 use Rattle.desk.specs.History.{entries, numbered, of_pass, of_who}
 use Rattle.desk.specs.Passes.{TakesTurn}
 use Rattle.desk.specs.declared.view.View.{View}
-use Rattle.desk.specs.inner.Appended.{entries_append, of_pass_append}
+use Rattle.desk.proofs.Histories.{entries_append, of_pass_append}
 use Rattle.link_serve.specs.Owners.{entry_who}
 use Rattle.link_serve.specs.Turned.{Acts}
 

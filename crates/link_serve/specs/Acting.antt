@@ -49,8 +49,8 @@ pub record MakesOne (U : Setup) (e : Event) (old new : List Entry) (made : Made)
   pub verdict_is : made.granted ≡ is_granted entry.verdict
   pub room : refusal (stopped old e) (full U old e) ≡ None
 
--- an event was stepped, or refused: for the stop, then for a full journal, then for want of memory, which a disconnect and
--- the stop never meet
+-- an event was stepped, or refused: for the stop, then for a full journal, then for want of memory, which a disconnect
+-- and the stop never meet
 abbrev pub StepGives : Setup → Event → List Entry → List Entry → Result Made Refused → Type 0
 StepGives U e old new (Ok made) = MakesOne U e old new made
 StepGives U e old new (Err refused.NoMemory) = (new ≡ old) × (refusal (stopped old e) (full U old e) ≡ None) × (always_fits e ≡ true → ⊥)

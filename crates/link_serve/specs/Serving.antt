@@ -27,8 +27,8 @@ use Rattle.link_serve.specs.Owners.{ending, entries_of, events_heard, is_let_in,
 -- ---- what is said, and when
 
 module _ (c : ConnId) (u : Uid) (guid : List ℕ) where
-  -- what was said is the replies to the bytes that were heard, and all mail by a front of the journal in which the link has
-  -- just these events
+  -- what was said is the replies to the bytes that were heard, and all mail by a front of the journal in which the link
+  -- has just these events
   pub record SaidThrough (J : List Entry) (events : List Event) (text spoken : List ℕ) : Type 0 where
     pub front : List Entry
     pub rest : List Entry
@@ -41,9 +41,9 @@ module _ (c : ConnId) (u : Uid) (guid : List ℕ) where
     pub through : SaidThrough J events text spoken
     pub no_stop : stop_from 1 through.front ≡ None
 
-  -- before each piece that was heard, and before each answer without bytes, all was said that is due to the bytes before:
-  -- the replies, and the mail through the entry of the last call that these bytes make, and no stop was seen. This text was
-  -- heard and this was said before these exchanges
+  -- before each piece that was heard, and before each answer without bytes, all was said that is due to the bytes
+  -- before: the replies, and the mail through the entry of the last call that these bytes make, and no stop was seen.
+  -- This text was heard and this was said before these exchanges
   abbrev pub Prompt : List Entry → (text spoken : List ℕ) → List Exchange → Type 0
   Prompt J text spoken [] = Unit {0}
   Prompt J text spoken (heard piece ∷ es) = SaidUnstopped J (events_heard c u guid text) text spoken × Prompt J (text ++ piece) spoken es
@@ -125,8 +125,8 @@ module _ (U : Setup) (c : ConnId) (u : Uid) (J own : List Entry) (text : List �
   Causes (end.Stopped n) = stop_from 1 J ≡ Some n
   Causes end.TooMany = (e : Entry) × (own ≡ e ∷ []) × (e.verdict ≡ Denied (Limit Links))
 
-  -- where the bytes show an end and all their events were made, it is this one, but for a fault of writing, want of memory,
-  -- and a link that was not let in
+  -- where the bytes show an end and all their events were made, it is this one, but for a fault of writing, want of
+  -- memory, and a link that was not let in
   abbrev pub IsShown : LinkEnd → Type 0
   IsShown e = (shown : LinkEnd) → end_heard u U.guid text ≡ Some shown → AllMade → (e ≡ shown) ⊎ ((is_cut e ≡ true) ⊎ (e ≡ end.TooMany))
 
@@ -178,8 +178,8 @@ ServingGoesOn = (U : Setup) (c : ConnId) (u : Uid) (J more mine : List Entry) (o
 
 -- ---- a link that nothing stops
 
--- the bytes that a link had to come begin, and show no end; its count of faults did not rise, and its connect was not denied;
--- the journal has no stop, and behind none of its fronts it is full for an event of these bytes
+-- the bytes that a link had to come begin, and show no end; its count of faults did not rise, and its connect was not
+-- denied; the journal has no stop, and behind none of its fronts it is full for an event of these bytes
 pub record NothingStops (U : Setup) (c : ConnId) (u : Uid) (J mine : List Entry) (had : Option (List ℕ)) (before now : ℕ) : Type 0 where
   pub bytes : List ℕ
   pub had_is : had ≡ Some bytes

@@ -164,8 +164,8 @@ impl Act<CoreAtDesk> for Step {
     ghost use Rattle.std.specs.Prelude.{[]};
     ghost use Rattle.link_serve.specs.inner.Acting.{MayStep, Steps};
 
-    /// The entry, or why there is none; nothing where the event is of another connection than the pass, or the act was made
-    /// before.
+    /// The entry, or why there is none; nothing where the event is of another connection than the pass, or the act was
+    /// made before.
     type Answer = Option<Result<Made, Refused>>;
 
     ghost does = { λ before who setup old new after answer. Steps before who setup old new answer };
@@ -184,7 +184,8 @@ impl Act<CoreAtDesk> for Step {
     }
 }
 
-/// Makes the entry of the end of a connection, if it is connected. It answers whether an entry was made that tells something.
+/// Makes the entry of the end of a connection, if it is connected. It answers whether an entry was made that tells
+/// something.
 #[derive(Drop)]
 pub struct Close;
 

@@ -133,8 +133,8 @@ impl CoreAtDesk {
         }
     }
 
-    /// Steps the disconnect of a connection, if it is connected. It takes no memory. Whether an entry was made that tells
-    /// something.
+    /// Steps the disconnect of a connection, if it is connected. It takes no memory. Whether an entry was made that
+    /// tells something.
     pub(crate) fn close(&mut self, who: ConnId) -> bool
         ensures { Closes who self.old self.new }
     {

@@ -1,4 +1,5 @@
-//! Serving a link: a client's calls are stepped by turns at the desk of the core, and it is written its replies and signals.
+//! Serving a link: a client's calls are stepped by turns at the desk of the core, and it is written its replies and
+//! signals.
 #![tactic(auto)]
 
 mod acts;

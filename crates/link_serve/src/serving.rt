@@ -340,8 +340,8 @@ impl<'a, R: Wait, G: Gate> Server<'a, R, G> {
     }
 }
 
-/// Serves a link, with a client that is to be this user, until it ends. Before each read all mail that is due is written. Each
-/// end of a link that was let in closes its connection.
+/// Serves a link, with a client that is to be this user, until it ends. Before each read all mail that is due is
+/// written. Each end of a link that was let in closes its connection.
 pub fn serve_link<R: Wait, L: Link, G: Gate>(
     rt: &R,
     alloc: Global,

@@ -12,8 +12,8 @@ use login_edge::Gate;
 use login_model::Event;
 use std::sync::Wait;
 
-/// Makes the entry of an event that is of the pass's connection, and wakes the links where it tells something. Whether it
-/// was granted, or why there is no entry.
+/// Makes the entry of an event that is of the pass's connection, and wakes the links where it tells something. Whether
+/// it was granted, or why there is no entry.
 pub fn step_event<R: Wait, G: Gate>(
     rt: &R,
     desk: &DeskOfCore,

@@ -1,7 +1,7 @@
 // Mail of connections: the events of each case, and the messages as libdbus 1.14 wrote them.
 
 /// The mail of a connection by the journal of the events on these lines, behind the first messages.
-pub struct Case {
+pub struct MailCase {
     pub name: &'static str,
     pub events: &'static [u8],
     pub who: u32,
@@ -9,10 +9,10 @@ pub struct Case {
     pub messages: &'static [u8],
 }
 
-/// Each kind of reply and of signal once, each error but those of a limit and of an absent user, and where a mail begins
-/// and ends.
-pub const CASES: &[Case] = &[
-    Case {
+/// Each kind of reply and of signal once, each error but those of a limit and of an absent user, and where a mail
+/// begins and ends.
+pub const CASES: &[MailCase] = &[
+    MailCase {
         name: "a session by its id",
         events: b"\
 connect 1 0\n\
@@ -24,7 +24,7 @@ call 2 1 get-session c1",
         messages: b"\
 l\x02\0\x01'\0\0\0\x01\0\0\0\x1f\0\0\0\x05\x01u\0\x01\0\0\0\x07\x01s\0\x04\0\0\0:1.0\0\0\0\0\x08\x01g\0\x01o\0\0\"\0\0\0/org/freedesktop/login1/session/c1\0",
     },
-    Case {
+    MailCase {
         name: "paths",
         events: b"\
 connect 1 0\n\
@@ -38,7 +38,7 @@ call 2 2 get-seat seat0",
 l\x02\0\x01'\0\0\0\x01\0\0\0\x1f\0\0\0\x05\x01u\0\x01\0\0\0\x07\x01s\0\x04\0\0\0:1.0\0\0\0\0\x08\x01g\0\x01o\0\0\"\0\0\0/org/freedesktop/login1/user/_1000\0\
 l\x02\0\x01'\0\0\0\x02\0\0\0\x1f\0\0\0\x05\x01u\0\x02\0\0\0\x07\x01s\0\x04\0\0\0:1.0\0\0\0\0\x08\x01g\0\x01o\0\0\"\0\0\0/org/freedesktop/login1/seat/seat0\0",
     },
-    Case {
+    MailCase {
         name: "lists",
         events: b"\
 connect 1 0\n\
@@ -58,7 +58,7 @@ l\x02\0\x01s\0\0\0\x02\0\0\0$\0\0\0\x05\x01u\0\x02\0\0\0\x07\x01s\0\x04\0\0\0:1.
 l\x02\0\x01s\0\0\0\x03\0\0\0#\0\0\0\x05\x01u\0\x03\0\0\0\x07\x01s\0\x04\0\0\0:1.0\0\0\0\0\x08\x01g\0\x05a(so)\0\0\0\0\0\0k\0\0\0\0\0\0\0\x06\0\0\0seat-1\0\0%\0\0\0/org/freedesktop/login1/seat/seat_2d1\0\0\0\x05\0\0\0seat0\0\0\0\"\0\0\0/org/freedesktop/login1/seat/seat0\0\
 l\x02\0\x01\x08\0\0\0\x04\0\0\0'\0\0\0\x05\x01u\0\x04\0\0\0\x07\x01s\0\x04\0\0\0:1.0\0\0\0\0\x08\x01g\0\x09a(ssssuu)\0\0\0\0\0\0\0\0\0\0",
     },
-    Case {
+    MailCase {
         name: "locks",
         events: b"\
 connect 1 0\n\
@@ -73,7 +73,7 @@ l\x02\0\x01\x04\0\0\0\x01\0\0\0\x1f\0\0\0\x05\x01u\0\x01\0\0\0\x07\x01s\0\x04\0\
 l\x02\0\x01\x04\0\0\0\x02\0\0\0\x1f\0\0\0\x05\x01u\0\x02\0\0\0\x07\x01s\0\x04\0\0\0:1.0\0\0\0\0\x08\x01g\0\x01u\0\0\x02\0\0\0\
 l\x02\0\x01\xb8\0\0\0\x03\0\0\0'\0\0\0\x05\x01u\0\x03\0\0\0\x07\x01s\0\x04\0\0\0:1.0\0\0\0\0\x08\x01g\0\x09a(ssssuu)\0\0\xb0\0\0\0\0\0\0\0\x0e\0\0\0shutdown:sleep\0\0\x03\0\0\0w x\0\x01\0\0\0y\0\0\0\x05\0\0\0delay\0\0\0\0\0\0\0\x02\0\0\0O\0\0\0idle:handle-power-key:handle-suspend-key:handle-hibernate-key:handle-lid-switch\0\0\0\0\0\0\0\0\0\0\0\0\0\0\0\0\0\x05\0\0\0block\0\0\0\0\0\0\0\x02\0\0\0",
     },
-    Case {
+    MailCase {
         name: "what the policy says",
         events: b"\
 connect 1 0\n\
@@ -87,7 +87,7 @@ call 3 1 can poweroff",
         messages: b"\
 l\x02\0\x01\x0e\0\0\0\x01\0\0\0\x1f\0\0\0\x05\x01u\0\x01\0\0\0\x07\x01s\0\x04\0\0\0:1.0\0\0\0\0\x08\x01g\0\x01s\0\0\x09\0\0\0challenge\0",
     },
-    Case {
+    MailCase {
         name: "devices",
         events: b"\
 connect 1 0\n\
@@ -113,7 +113,7 @@ l\x02\0\x01\x08\0\0\0\x04\0\0\0$\0\0\0\x05\x01u\0\x04\0\0\0\x07\x01s\0\x04\0\0\0
 l\x02\0\x01\x08\0\0\0\x05\0\0\0 \0\0\0\x05\x01u\0\x05\0\0\0\x07\x01s\0\x04\0\0\0:1.0\0\0\0\0\x08\x01g\0\x02ub\0\x03\0\0\0\0\0\0\0\
 l\x02\0\x01\0\0\0\0\x06\0\0\0\x15\0\0\0\x05\x01u\0\x06\0\0\0\x07\x01s\0\x04\0\0\0:1.0\0\0\0\0",
     },
-    Case {
+    MailCase {
         name: "a session is made",
         events: b"\
 connect 2 0\n\
@@ -131,7 +131,7 @@ l\x02\0\x01\\\0\0\0\x06\0\0\0&\0\0\0\x05\x01u\0\x08\0\0\0\x07\x01s\0\x04\0\0\0:1
 l\x04\0\x01+\0\0\0\x07\0\0\0p\0\0\0\x01\x01o\0\x17\0\0\0/org/freedesktop/login1\0\x02\x01s\0\x1e\0\0\0org.freedesktop.login1.Manager\0\0\x03\x01s\0\x07\0\0\0UserNew\0\x07\x01s\0\x04\0\0\0:1.0\0\0\0\0\x08\x01g\0\x02uo\0\xe9\x03\0\0\"\0\0\0/org/freedesktop/login1/user/_1001\0\
 l\x04\0\x01/\0\0\0\x08\0\0\0x\0\0\0\x01\x01o\0\x17\0\0\0/org/freedesktop/login1\0\x02\x01s\0\x1e\0\0\0org.freedesktop.login1.Manager\0\0\x03\x01s\0\x0a\0\0\0SessionNew\0\0\0\0\0\0\x07\x01s\0\x04\0\0\0:1.0\0\0\0\0\x08\x01g\0\x02so\0\x02\0\0\0c2\0\0\"\0\0\0/org/freedesktop/login1/session/c2\0",
     },
-    Case {
+    MailCase {
         name: "quiet calls and messages that are none have no reply",
         events: b"\
 connect 1 0\n\
@@ -147,7 +147,7 @@ call 2 4 get-seat seat0",
 l\x04\0\x01\0\0\0\0\x01\0\0\0u\0\0\0\x01\x01o\0\"\0\0\0/org/freedesktop/login1/session/c1\0\0\0\0\0\0\x02\x01s\0\x1e\0\0\0org.freedesktop.login1.Session\0\0\x03\x01s\0\x04\0\0\0Lock\0\0\0\0\x07\x01s\0\x04\0\0\0:1.0\0\0\0\0\
 l\x02\0\x01'\0\0\0\x02\0\0\0\x1f\0\0\0\x05\x01u\0\x04\0\0\0\x07\x01s\0\x04\0\0\0:1.0\0\0\0\0\x08\x01g\0\x01o\0\0\"\0\0\0/org/freedesktop/login1/seat/seat0\0",
     },
-    Case {
+    MailCase {
         name: "none of before the connect, none of the own disconnect",
         events: b"\
 connect 1 0\n\
@@ -163,7 +163,7 @@ call 1 3 unlock c1",
 l\x02\0\x01\0\0\0\0\x01\0\0\0\x15\0\0\0\x05\x01u\0\x01\0\0\0\x07\x01s\0\x04\0\0\0:1.0\0\0\0\0\
 l\x04\0\x01\0\0\0\0\x02\0\0\0u\0\0\0\x01\x01o\0\"\0\0\0/org/freedesktop/login1/session/c1\0\0\0\0\0\0\x02\x01s\0\x1e\0\0\0org.freedesktop.login1.Session\0\0\x03\x01s\0\x04\0\0\0Lock\0\0\0\0\x07\x01s\0\x04\0\0\0:1.0\0\0\0\0",
     },
-    Case {
+    MailCase {
         name: "no mail before a connect",
         events: b"\
 connect 1 0\n\
@@ -172,7 +172,7 @@ call 1 1 create 1000 0 login tty user % seat0 1 tty1 % false % %",
         from: 0,
         messages: b"",
     },
-    Case {
+    MailCase {
         name: "the first messages are left out",
         events: b"\
 connect 2 0\n\
@@ -184,7 +184,7 @@ call 2 7 get-seat seat1",
         messages: b"\
 l\x03\0\x01\x1a\0\0\0\x03\0\0\0O\0\0\0\x04\x01s\0!\0\0\0org.freedesktop.login1.NoSuchSeat\0\0\0\0\0\0\0\x05\x01u\0\x07\0\0\0\x07\x01s\0\x04\0\0\0:1.0\0\0\0\0\x08\x01g\0\x01s\0\0\x15\0\0\0rule P06 no-such-seat\0",
     },
-    Case {
+    MailCase {
         name: "signals to all",
         events: b"\
 connect 1 0\n\
@@ -213,7 +213,7 @@ l\x04\0\x01/\0\0\0\x0a\0\0\0x\0\0\0\x01\x01o\0\x17\0\0\0/org/freedesktop/login1\
 l\x04\0\x01+\0\0\0\x0b\0\0\0x\0\0\0\x01\x01o\0\x17\0\0\0/org/freedesktop/login1\0\x02\x01s\0\x1e\0\0\0org.freedesktop.login1.Manager\0\0\x03\x01s\0\x0b\0\0\0UserRemoved\0\0\0\0\0\x07\x01s\0\x04\0\0\0:1.0\0\0\0\0\x08\x01g\0\x02uo\0\xe8\x03\0\0\"\0\0\0/org/freedesktop/login1/user/_1000\0\
 l\x04\0\x016\0\0\0\x0c\0\0\0x\0\0\0\x01\x01o\0\x17\0\0\0/org/freedesktop/login1\0\x02\x01s\0\x1e\0\0\0org.freedesktop.login1.Manager\0\0\x03\x01s\0\x0b\0\0\0SeatRemoved\0\0\0\0\0\x07\x01s\0\x04\0\0\0:1.0\0\0\0\0\x08\x01g\0\x02so\0\x06\0\0\0seat-1\0\0%\0\0\0/org/freedesktop/login1/seat/seat_2d1\0",
     },
-    Case {
+    MailCase {
         name: "operations",
         events: b"\
 connect 1 0\n\
@@ -234,7 +234,7 @@ l\x04\0\x01\x04\0\0\0\x04\0\0\0w\0\0\0\x01\x01o\0\x17\0\0\0/org/freedesktop/logi
 l\x04\0\x01\x04\0\0\0\x05\0\0\0\x7f\0\0\0\x01\x01o\0\x17\0\0\0/org/freedesktop/login1\0\x02\x01s\0\x1e\0\0\0org.freedesktop.login1.Manager\0\0\x03\x01s\0\x12\0\0\0PrepareForShutdown\0\0\0\0\0\0\x07\x01s\0\x04\0\0\0:1.0\0\0\0\0\x08\x01g\0\x01b\0\0\x01\0\0\0\
 l\x04\0\x01\x04\0\0\0\x06\0\0\0\x7f\0\0\0\x01\x01o\0\x17\0\0\0/org/freedesktop/login1\0\x02\x01s\0\x1e\0\0\0org.freedesktop.login1.Manager\0\0\x03\x01s\0\x12\0\0\0PrepareForShutdown\0\0\0\0\0\0\x07\x01s\0\x04\0\0\0:1.0\0\0\0\0\x08\x01g\0\x01b\0\0\0\0\0\0",
     },
-    Case {
+    MailCase {
         name: "a switch, to the session that is left",
         events: b"\
 connect 1 0\n\
@@ -273,7 +273,7 @@ l\x04\0\x01@\0\0\0\x0e\0\0\0\x96\0\0\0\x01\x01o\0\"\0\0\0/org/freedesktop/login1
 l\x04\0\x01@\0\0\0\x0f\0\0\0\x96\0\0\0\x01\x01o\0\"\0\0\0/org/freedesktop/login1/session/c2\0\0\0\0\0\0\x02\x01s\0\x1f\0\0\0org.freedesktop.DBus.Properties\0\x03\x01s\0\x11\0\0\0PropertiesChanged\0\0\0\0\0\0\0\x07\x01s\0\x04\0\0\0:1.0\0\0\0\0\x08\x01g\0\x08sa{sv}as\0\0\0\x1e\0\0\0org.freedesktop.login1.Session\0\0\x14\0\0\0\x06\0\0\0Active\0\x01b\0\0\0\x01\0\0\0\0\0\0\0\
 l\x04\0\x01t\0\0\0\x10\0\0\0\x96\0\0\0\x01\x01o\0\"\0\0\0/org/freedesktop/login1/seat/seat0\0\0\0\0\0\0\x02\x01s\0\x1f\0\0\0org.freedesktop.DBus.Properties\0\x03\x01s\0\x11\0\0\0PropertiesChanged\0\0\0\0\0\0\0\x07\x01s\0\x04\0\0\0:1.0\0\0\0\0\x08\x01g\0\x08sa{sv}as\0\0\0\x1b\0\0\0org.freedesktop.login1.Seat\0G\0\0\0\0\0\0\0\x0d\0\0\0ActiveSession\0\x04(so)\0\x02\0\0\0c2\0\0\"\0\0\0/org/freedesktop/login1/session/c2\0\0\0\0\0\0",
     },
-    Case {
+    MailCase {
         name: "a switch, to the session that comes",
         events: b"\
 connect 1 0\n\
@@ -310,7 +310,7 @@ l\x04\0\x01t\0\0\0\x0c\0\0\0\x96\0\0\0\x01\x01o\0\"\0\0\0/org/freedesktop/login1
 l\x04\0\x01\x0c\0\0\0\x0d\0\0\0\x89\0\0\0\x01\x01o\0\"\0\0\0/org/freedesktop/login1/session/c2\0\0\0\0\0\0\x02\x01s\0\x1e\0\0\0org.freedesktop.login1.Session\0\0\x03\x01s\0\x0c\0\0\0ResumeDevice\0\0\0\0\x07\x01s\0\x04\0\0\0:1.0\0\0\0\0\x08\x01g\0\x03uuu\0\0\0\0\0\0\0\0\x0d\0\0\0@\0\0\0\x07\0\0\0\
 l\x04\0\x01\x0c\0\0\0\x0e\0\0\0\x89\0\0\0\x01\x01o\0\"\0\0\0/org/freedesktop/login1/session/c2\0\0\0\0\0\0\x02\x01s\0\x1e\0\0\0org.freedesktop.login1.Session\0\0\x03\x01s\0\x0c\0\0\0ResumeDevice\0\0\0\0\x07\x01s\0\x04\0\0\0:1.0\0\0\0\0\x08\x01g\0\x03uuu\0\0\0\0\0\0\0\0\xe2\0\0\0\0\0\0\0\x05\0\0\0",
     },
-    Case {
+    MailCase {
         name: "a device goes",
         events: b"\
 connect 1 0\n\
@@ -341,7 +341,7 @@ l\x02\0\x01\x08\0\0\0\x08\0\0\0 \0\0\0\x05\x01u\0\x02\0\0\0\x07\x01s\0\x04\0\0\0
 l\x02\0\x01\x08\0\0\0\x09\0\0\0 \0\0\0\x05\x01u\0\x03\0\0\0\x07\x01s\0\x04\0\0\0:1.0\0\0\0\0\x08\x01g\0\x02ub\0\x04\0\0\0\0\0\0\0\
 l\x04\0\x01\x11\0\0\0\x0a\0\0\0\x89\0\0\0\x01\x01o\0\"\0\0\0/org/freedesktop/login1/session/c1\0\0\0\0\0\0\x02\x01s\0\x1e\0\0\0org.freedesktop.login1.Session\0\0\x03\x01s\0\x0b\0\0\0PauseDevice\0\0\0\0\0\x07\x01s\0\x04\0\0\0:1.0\0\0\0\0\x08\x01g\0\x03uus\0\0\0\0\0\0\0\0\x0d\0\0\0@\0\0\0\x04\0\0\0gone\0",
     },
-    Case {
+    MailCase {
         name: "a device is taken by force",
         events: b"\
 connect 1 0\n\
@@ -376,7 +376,7 @@ l\x04\0\x01@\0\0\0\x0d\0\0\0\x96\0\0\0\x01\x01o\0\"\0\0\0/org/freedesktop/login1
 l\x04\0\x01@\0\0\0\x0e\0\0\0\x96\0\0\0\x01\x01o\0\"\0\0\0/org/freedesktop/login1/session/c2\0\0\0\0\0\0\x02\x01s\0\x1f\0\0\0org.freedesktop.DBus.Properties\0\x03\x01s\0\x11\0\0\0PropertiesChanged\0\0\0\0\0\0\0\x07\x01s\0\x04\0\0\0:1.0\0\0\0\0\x08\x01g\0\x08sa{sv}as\0\0\0\x1e\0\0\0org.freedesktop.login1.Session\0\0\x14\0\0\0\x06\0\0\0Active\0\x01b\0\0\0\x01\0\0\0\0\0\0\0\
 l\x04\0\x01t\0\0\0\x0f\0\0\0\x96\0\0\0\x01\x01o\0\"\0\0\0/org/freedesktop/login1/seat/seat0\0\0\0\0\0\0\x02\x01s\0\x1f\0\0\0org.freedesktop.DBus.Properties\0\x03\x01s\0\x11\0\0\0PropertiesChanged\0\0\0\0\0\0\0\x07\x01s\0\x04\0\0\0:1.0\0\0\0\0\x08\x01g\0\x08sa{sv}as\0\0\0\x1b\0\0\0org.freedesktop.login1.Seat\0G\0\0\0\0\0\0\0\x0d\0\0\0ActiveSession\0\x04(so)\0\x02\0\0\0c2\0\0\"\0\0\0/org/freedesktop/login1/session/c2\0\0\0\0\0\0",
     },
-    Case {
+    MailCase {
         name: "errors of root",
         events: b"\
 connect 1 0\n\
@@ -424,7 +424,7 @@ l\x03\0\x01\x14\0\0\0\x0f\0\0\0W\0\0\0\x04\x01s\0/\0\0\0org.freedesktop.DBus.Err
 l\x03\0\x01\x1f\0\0\0\x10\0\0\0O\0\0\0\x04\x01s\0&\0\0\0org.freedesktop.login1.DelayNotOffered\0\0\x05\x01u\0\x10\0\0\0\x07\x01s\0\x04\0\0\0:1.0\0\0\0\0\x08\x01g\0\x01s\0\0\x1a\0\0\0rule P25 delay-not-offered\0\
 l\x03\0\x01\x17\0\0\0\x11\0\0\0O\0\0\0\x04\x01s\0'\0\0\0org.freedesktop.DBus.Error.AccessDenied\0\x05\x01u\0\x11\0\0\0\x07\x01s\0\x04\0\0\0:1.0\0\0\0\0\x08\x01g\0\x01s\0\0\x12\0\0\0rule P28 not-yours\0",
     },
-    Case {
+    MailCase {
         name: "errors of another user",
         events: b"\
 connect 1 0\n\
@@ -448,7 +448,7 @@ l\x03\0\x01:\0\0\0\x04\0\0\0g\0\0\0\x04\x01s\0;\0\0\0org.freedesktop.DBus.Error.
 l\x03\0\x01\x1c\0\0\0\x05\0\0\0O\0\0\0\x04\x01s\0#\0\0\0org.freedesktop.login1.NotInControl\0\0\0\0\0\x05\x01u\0\x05\0\0\0\x07\x01s\0\x04\0\0\0:1.0\0\0\0\0\x08\x01g\0\x01s\0\0\x17\0\0\0rule P18 not-in-control\0\
 l\x03\0\x01,\0\0\0\x06\0\0\0g\0\0\0\x04\x01s\0;\0\0\0org.freedesktop.DBus.Error.InteractiveAuthorizationRequired\0\0\0\0\0\x05\x01u\0\x06\0\0\0\x07\x01s\0\x04\0\0\0:1.0\0\0\0\0\x08\x01g\0\x01s\0\0'\0\0\0rule P12 action-challenge lock-sessions\0",
     },
-    Case {
+    MailCase {
         name: "errors of what stands in the way",
         events: b"\
 connect 1 0\n\
@@ -471,7 +471,7 @@ l\x03\0\x01\x19\0\0\0\x02\0\0\0O\0\0\0\x04\x01s\0 \0\0\0org.freedesktop.login1.I
 l\x04\0\x01\x04\0\0\0\x03\0\0\0w\0\0\0\x01\x01o\0\x17\0\0\0/org/freedesktop/login1\0\x02\x01s\0\x1e\0\0\0org.freedesktop.login1.Manager\0\0\x03\x01s\0\x0f\0\0\0PrepareForSleep\0\x07\x01s\0\x04\0\0\0:1.0\0\0\0\0\x08\x01g\0\x01b\0\0\x01\0\0\0\
 l\x03\0\x01+\0\0\0\x04\0\0\0W\0\0\0\x04\x01s\0*\0\0\0org.freedesktop.login1.OperationInProgress\0\0\0\0\0\0\x05\x01u\0\x03\0\0\0\x07\x01s\0\x04\0\0\0:1.0\0\0\0\0\x08\x01g\0\x01s\0\0&\0\0\0rule P23 operation-in-progress suspend\0",
     },
-    Case {
+    MailCase {
         name: "errors of a handle",
         events: b"\
 connect 1 0\n\
@@ -517,7 +517,7 @@ l\x03\0\x01\x16\0\0\0\x11\0\0\0G\0\0\0\x04\x01s\0\x1e\0\0\0org.freedesktop.login
 l\x03\0\x01\x18\0\0\0\x12\0\0\0O\0\0\0\x04\x01s\0 \0\0\0org.freedesktop.login1.WrongKind\0\0\0\0\0\0\0\0\x05\x01u\0\x07\0\0\0\x07\x01s\0\x04\0\0\0:1.0\0\0\0\0\x08\x01g\0\x01s\0\0\x13\0\0\0rule P29 wrong-kind\0\
 l\x03\0\x01\x1d\0\0\0\x13\0\0\0O\0\0\0\x04\x01s\0%\0\0\0org.freedesktop.login1.SessionClosing\0\0\0\x05\x01u\0\x08\0\0\0\x07\x01s\0\x04\0\0\0:1.0\0\0\0\0\x08\x01g\0\x01s\0\0\x18\0\0\0rule P13 session-closing\0",
     },
-    Case {
+    MailCase {
         name: "properties, and calls of peers and of the bus",
         events: b"\
 connect 1 0\n\

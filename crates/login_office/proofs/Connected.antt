@@ -27,7 +27,7 @@ use Rattle.login_model.specs.declared.setup.Setup.{Setup}
 use Rattle.std.proofs.lemmas.Bool.{eqb-true}
 use Rattle.login_model.proofs.Values.{value-put}
 use Rattle.login_laws.proofs.Carried.{ends-carried, settle-carried}
-use Rattle.login_laws.proofs.Comings.{IsNew, IsTame, event-comes, event-tame}
+use Rattle.login_laws.proofs.Comings.{IsCreation, IsTame, event-comes, event-tame}
 use Rattle.login_laws.proofs.Tame.{tame, tame-clocked, tame-operated, tame-switched}
 use Rattle.wire_out.specs.Mail.{is_connect, is_disconnect}
 
@@ -60,7 +60,7 @@ unfolding direct
 call-keeps U r t c (call.Create x) e =
     let same : direct_call U r.who r.call t ≡ direct_call U r.who (call.Create x) t = ap (λ (y : Call). direct_call U r.who y t) e in
     ap (λ (v : Trail). is_connected (settle U v) c) same ∙ ap is_connected_fact ((event-comes U r.who x (next_session t) (next_handle t) t).connections c)
-call-keeps U r t c x e = tame-keeps U (Calls r) t c (λ n. subst IsNew e n)
+call-keeps U r t c x e = tame-keeps U (Calls r) t c (λ n. subst IsCreation e n)
 
 -- a granted event connects the client of a connect, and disconnects that of a disconnect
 by_event : (U : Setup) (e : Event) (t : Trail) (c : ConnId) → is_connected (settle U (direct U e t)) c ≡ connected_by c e Granted (is_connected t c)

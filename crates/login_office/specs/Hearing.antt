@@ -53,7 +53,8 @@ pub record Hears (old : TellerState) (piece : List ℕ) (new : TellerState) (tol
       → calls old.who old.auth.uid old.auth.guid (text ++ piece) ≡ calls old.who old.auth.uid old.auth.guid text ++ told.calls
   pub end : (text : List ℕ) → HasHeard old text → told.end ≡ end_heard old.auth.uid old.auth.guid (text ++ piece)
 
--- each call is one of the link's connection, and may come next in a journal in which that is connected and that has no stop
+-- each call is one of the link's connection, and may come next in a journal in which that is connected and that has no
+-- stop
 abbrev pub MayCome : ConnId → List Request → Type 0
 MayCome c rs = AllByRecursion (λ (r : Request). (r.who ≡ c) × MayStand r) rs
 
@@ -72,8 +73,8 @@ IsEnded (Err e) end = ⊥
 abbrev pub times : Bool → ℕ
 times told = if told then 1 else 0
 
--- a teller that is new or was fed these pieces, whatever mail was fetched between them, with all that it replied, how often
--- it told that the client begins, all calls, and the end that it told last
+-- a teller that is new or was fed these pieces, whatever mail was fetched between them, with all that it replied, how
+-- often it told that the client begins, all calls, and the end that it told last
 pub data WasFed : TellerState → List (List ℕ) → List ℕ → ℕ → List Request → Option LinkEnd → Type 0 where
   new : {teller : TellerState} → HasHeard teller [] → WasFed teller [] [] 0 [] None
   kept : {old new : TellerState} {pieces : List (List ℕ)} {replies : List ℕ} {begins : ℕ} {calls : List Request} {end : Option LinkEnd}

@@ -13,8 +13,8 @@ pub fn ended_for_good()
     ensures { EndedForGood }
 {}
 
-/// However often the mail of a link is fetched, all that was given is its mail by the last journal, where each journal goes
-/// on from the one before.
+/// However often the mail of a link is fetched, all that was given is its mail by the last journal, where each journal
+/// goes on from the one before.
 pub fn all_mail()
     ensures { AllMail }
 {}

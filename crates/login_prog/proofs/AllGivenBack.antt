@@ -7,13 +7,13 @@ use Rattle.login_edge.specs.Register.{Arrived}
 use Rattle.login_model.specs.declared.mark.Entry.{Entry}
 use Rattle.login_model.specs.declared.setup.Setup.{Setup}
 use Rattle.login_office.specs.declared.end.LinkEnd.{LinkEnd}
-use Rattle.desk.specs.Passes.{Closes}
+use Rattle.desk.specs.inner.Passes.{Closes}
 use Rattle.desk.specs.declared.view.View.{View}
 use Rattle.link_serve.specs.Owners.{entries_of, entry_who}
 use Rattle.link_serve.specs.Serving.{ServedBy}
 use Rattle.link_serve.proofs.ConnectionsClosed.{serving-goes-on}
 use Rattle.login_prog.specs.Served.{AreGivenBack, GivenBack}
-use Rattle.login_prog.specs.inner.House.{ArePlaced, HasJoinedPass, IsPlaced, TookIn}
+use Rattle.login_prog.specs.inner.Accepting.{ArePlaced, HasJoinedPass, IsPlaced, TookIn}
 
 zero-more : (c : ℕ) → c + 0 ≡ c
 zero-more c = omega arith

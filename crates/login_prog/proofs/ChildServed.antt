@@ -11,7 +11,7 @@ use Rattle.desk.specs.declared.view.View.{View}
 use Rattle.link_serve.specs.Serving.{Served}
 use Rattle.login_prog.specs.declared.serve.accepting.Child.{Child}
 use Rattle.login_prog.specs.declared.serve.link_job.LinkOut.{LinkOut}
-use Rattle.login_prog.specs.inner.House.{ComesBack, IsChild, held_of}
+use Rattle.login_prog.specs.inner.Accepting.{ComesBack, IsChild, held_of}
 use Rattle.login_prog.specs.inner.Jobs.{LinkGives, PassOfCore}
 
 module _ {L : Type 0} (number : L → ℕ) (talk : L → Option (List Exchange)) (left : L → Option (List ℕ)) (faults : L → ℕ) where

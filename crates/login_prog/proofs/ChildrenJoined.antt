@@ -8,8 +8,8 @@ use Rattle.login_edge.specs.Register.{Register}
 use Rattle.login_model.specs.declared.mark.Entry.{Entry}
 use Rattle.login_office.specs.declared.end.LinkEnd.{LinkEnd}
 use Rattle.login_prog.specs.declared.serve.accepting.Child.{Child}
-use Rattle.login_prog.specs.declared.serve.accepting.House.{House}
-use Rattle.login_prog.specs.inner.House.{AreOut, ArePlaced, Door, Far, FewDropped, Held, IsChild, IsFirstOf, IsHeld, KeepsAt, Since, all_out, count_of, held_of}
+use Rattle.login_prog.specs.declared.serve.accepting.Accepting.{Accepting}
+use Rattle.login_prog.specs.inner.Accepting.{AreOut, ArePlaced, Far, FewDropped, Held, IsChild, IsFirstOf, IsHeld, KeepsAt, Listened, Since, all_out, count_of, held_of}
 use Rattle.login_prog.proofs.Outs.{all-append, all-front, count-append}
 use Rattle.login_prog.proofs.Placing.{all-placed-out}
 
@@ -134,15 +134,15 @@ module _ {A : Type 0} where
     all-at (y ∷ xs) zero x e p = subst Q (same_Some y x e) p.0
     all-at (y ∷ xs) (suc i) x e p = all-at xs i x e p.1
 
-module _ {L N P : Type 0} (number : L → ℕ) (talk : L → Option (List Exchange)) (left : L → Option (List ℕ)) (faults : L → ℕ) (spawner_faults : P → ℕ) (door : Door L) (x : Since L) (t : Far) where
-  abbrev At : List (Held L) → House L N P → Type 0
-  At hands house = KeepsAt number talk left faults spawner_faults door x t hands house
+module _ {L N P : Type 0} (number : L → ℕ) (talk : L → Option (List Exchange)) (left : L → Option (List ℕ)) (faults : L → ℕ) (spawner_faults : P → ℕ) (listened : Listened L) (x : Since L) (t : Far) where
+  abbrev At : List (Held L) → Accepting L N P → Type 0
+  At hands accepting = KeepsAt number talk left faults spawner_faults listened x t hands accepting
 
   -- a child is taken in hand
-  module _ (house : House L N P) (place : ℕ) (child : Child L) (children : Vec (Child L) Global) (below : place < length house.children.items)
-      (is : child ≡ slice_index_or house.children.items place child) (are : children.items ≡ swap_remove house.children.items place child) (k : At [] house) where
+  module _ (accepting : Accepting L N P) (place : ℕ) (child : Child L) (children : Vec (Child L) Global) (below : place < length accepting.children.items)
+      (is : child ≡ slice_index_or accepting.children.items place child) (are : children.items ≡ swap_remove accepting.children.items place child) (k : At [] accepting) where
     abbrev old : List (Child L)
-    old = house.children.items
+    old = accepting.children.items
 
     abbrev new : List (Child L)
     new = swap_remove old place child
@@ -176,36 +176,36 @@ module _ {L N P : Type 0} (number : L → ℕ) (talk : L → Option (List Exchan
         add-one-front n = omega arith
 
     abbrev Is : Child L → Type 0
-    Is y = IsHeld house.ends.items door.register (held_of y)
+    Is y = IsHeld accepting.ends.items listened.register (held_of y)
 
-    mapped : (ys : List (Child L)) → AllByRecursion (IsHeld house.ends.items door.register) (map held_of ys) → AllByRecursion Is ys
+    mapped : (ys : List (Child L)) → AllByRecursion (IsHeld accepting.ends.items listened.register) (map held_of ys) → AllByRecursion Is ys
     mapped [] p = tt
     mapped (y ∷ ys) p = (p.0, mapped ys p.1)
 
-    unmapped : (ys : List (Child L)) → AllByRecursion Is ys → AllByRecursion (IsHeld house.ends.items door.register) (map held_of ys)
+    unmapped : (ys : List (Child L)) → AllByRecursion Is ys → AllByRecursion (IsHeld accepting.ends.items listened.register) (map held_of ys)
     unmapped [] p = tt
     unmapped (y ∷ ys) p = (p.0, unmapped ys p.1)
 
     each-old : AllByRecursion Is old
-    each-old = mapped old (all-front (IsHeld house.ends.items door.register) (map held_of old) [] k.out.each)
+    each-old = mapped old (all-front (IsHeld accepting.ends.items listened.register) (map held_of old) [] k.out.each)
 
-    out-new : AreOut house.ends.items door.register (all_out new (held_of child ∷ []))
+    out-new : AreOut accepting.ends.items listened.register (all_out new (held_of child ∷ []))
     out-new = record {
-      each = all-append (IsHeld house.ends.items door.register) (map held_of new) (held_of child ∷ []) (unmapped new (all-swap Is old place child below each-old)) (all-at Is old place child at each-old, tt);
+      each = all-append (IsHeld accepting.ends.items listened.register) (map held_of new) (held_of child ∷ []) (unmapped new (all-swap Is old place child below each-old)) (all-at Is old place child at each-old, tt);
       distinct = λ c. let s = counted c in let d = k.out.distinct c in omega (arith, s, d);
     }
 
-    kept : (cs : List (Child L)) → cs ≡ new → (v : Vec (Child L) Global) → v.items ≡ cs → At (held_of child ∷ []) (record house { children = v })
+    kept : (cs : List (Child L)) → cs ≡ new → (v : Vec (Child L) Global) → v.items ≡ cs → At (held_of child ∷ []) (record accepting { children = v })
     kept cs e v f =
         let c : v.items ≡ new = f ∙ e in
         let l : length (all_out v.items (held_of child ∷ [])) ≡ length (all_out old []) = ap (λ (ys : List (Child L)). length (all_out ys (held_of child ∷ []))) c ∙ long in
         record {
-          pass = subst (λ (n : ℕ). IsFirstOf x.desk x.setup (length house.ends.items) n house.pass) (sym l) k.pass;
+          pass = subst (λ (n : ℕ). IsFirstOf x.desk x.setup (length accepting.ends.items) n accepting.pass) (sym l) k.pass;
           stopped = k.stopped;
           children = subst (λ (cs : List (Child L)). AllByRecursion (IsChild number talk left faults x.desk x.setup) cs) (sym c) (all-swap (IsChild number talk left faults x.desk x.setup) old place child below k.children);
-          out = subst (λ (ys : List (Child L)). AreOut house.ends.items door.register (all_out ys (held_of child ∷ []))) (sym c) out-new;
-          placed = subst (λ (ys : List (Child L)). IfSome door.register (λ r. ArePlaced talk left faults x.setup house.pass.view (all_out ys (held_of child ∷ [])) r.links house.ends.items)) (sym c)
-              (IfSome_then door.register k.placed (λ r p. all-placed-out talk left faults x.setup house.pass.view (all_out old []) (all_out new (held_of child ∷ [])) r.links house.ends.items (λ n. let s = counted n in omega (arith, s)) p));
+          out = subst (λ (ys : List (Child L)). AreOut accepting.ends.items listened.register (all_out ys (held_of child ∷ []))) (sym c) out-new;
+          placed = subst (λ (ys : List (Child L)). IfSome listened.register (λ r. ArePlaced talk left faults x.setup accepting.pass.view (all_out ys (held_of child ∷ [])) r.links accepting.ends.items)) (sym c)
+              (IfSome_then listened.register k.placed (λ r p. all-placed-out talk left faults x.setup accepting.pass.view (all_out old []) (all_out new (held_of child ∷ [])) r.links accepting.ends.items (λ n. let s = counted n in omega (arith, s)) p));
           counted = k.counted;
           ticked = k.ticked;
           full = k.full;
@@ -214,24 +214,24 @@ module _ {L N P : Type 0} (number : L → ℕ) (talk : L → Option (List Exchan
           asked = k.asked;
           listener_or_clock = k.listener_or_clock;
           spawner = k.spawner;
-          dropped = subst (λ (n : ℕ). FewDropped x.spawner_faults (spawner_faults house.spawner) house.ends.items n) (sym l) k.dropped;
+          dropped = subst (λ (n : ℕ). FewDropped x.spawner_faults (spawner_faults accepting.spawner) accepting.ends.items n) (sym l) k.dropped;
           untold = k.untold;
         }
 
-    pub taken-keeps : At (held_of child ∷ []) (record house { children = children })
+    pub taken-keeps : At (held_of child ∷ []) (record accepting { children = children })
     taken-keeps = kept new refl children are
 
   -- all children are taken in hand
-  pub all-taken : (house : House L N P) (children : Vec (Child L) Global) → children.items ≡ [] → At [] house → At (map held_of house.children.items) (record house { children = children })
-  all-taken house children none k =
-      let same : all_out children.items (map held_of house.children.items) ≡ all_out house.children.items [] =
-      ap (λ (cs : List (Child L)). all_out cs (map held_of house.children.items)) none ∙ sym (append-nil (map held_of house.children.items)) in
+  pub all-taken : (accepting : Accepting L N P) (children : Vec (Child L) Global) → children.items ≡ [] → At [] accepting → At (map held_of accepting.children.items) (record accepting { children = children })
+  all-taken accepting children none k =
+      let same : all_out children.items (map held_of accepting.children.items) ≡ all_out accepting.children.items [] =
+      ap (λ (cs : List (Child L)). all_out cs (map held_of accepting.children.items)) none ∙ sym (append-nil (map held_of accepting.children.items)) in
       record {
-        pass = subst (λ (o : List (Held L)). IsFirstOf x.desk x.setup (length house.ends.items) (length o) house.pass) (sym same) k.pass;
+        pass = subst (λ (o : List (Held L)). IsFirstOf x.desk x.setup (length accepting.ends.items) (length o) accepting.pass) (sym same) k.pass;
         stopped = k.stopped;
         children = subst (λ (cs : List (Child L)). AllByRecursion (IsChild number talk left faults x.desk x.setup) cs) (sym none) tt;
-        out = subst (λ (o : List (Held L)). AreOut house.ends.items door.register o) (sym same) k.out;
-        placed = subst (λ (o : List (Held L)). IfSome door.register (λ r. ArePlaced talk left faults x.setup house.pass.view o r.links house.ends.items)) (sym same) k.placed;
+        out = subst (λ (o : List (Held L)). AreOut accepting.ends.items listened.register o) (sym same) k.out;
+        placed = subst (λ (o : List (Held L)). IfSome listened.register (λ r. ArePlaced talk left faults x.setup accepting.pass.view o r.links accepting.ends.items)) (sym same) k.placed;
         counted = k.counted;
         ticked = k.ticked;
         full = k.full;
@@ -240,12 +240,12 @@ module _ {L N P : Type 0} (number : L → ℕ) (talk : L → Option (List Exchan
         asked = k.asked;
         listener_or_clock = k.listener_or_clock;
         spawner = k.spawner;
-        dropped = subst (λ (o : List (Held L)). FewDropped x.spawner_faults (spawner_faults house.spawner) house.ends.items (length o)) (sym same) k.dropped;
+        dropped = subst (λ (o : List (Held L)). FewDropped x.spawner_faults (spawner_faults accepting.spawner) accepting.ends.items (length o)) (sym same) k.dropped;
         untold = k.untold;
       }
 
   -- the first of those in hand
-  pub first-taken : (house : House L N P) (children rest : List (Child L)) (child : Child L) → children ≡ child ∷ rest
-      → AllByRecursion (IsChild number talk left faults x.desk x.setup) children × At (map held_of children) house
-      → (IsChild number talk left faults x.desk x.setup child × AllByRecursion (IsChild number talk left faults x.desk x.setup) rest) × At (held_of child ∷ map held_of rest) house
-  first-taken house children rest child is both = subst (λ (cs : List (Child L)). AllByRecursion (IsChild number talk left faults x.desk x.setup) cs × At (map held_of cs) house) is both
+  pub first-taken : (accepting : Accepting L N P) (children rest : List (Child L)) (child : Child L) → children ≡ child ∷ rest
+      → AllByRecursion (IsChild number talk left faults x.desk x.setup) children × At (map held_of children) accepting
+      → (IsChild number talk left faults x.desk x.setup child × AllByRecursion (IsChild number talk left faults x.desk x.setup) rest) × At (held_of child ∷ map held_of rest) accepting
+  first-taken accepting children rest child is both = subst (λ (cs : List (Child L)). AllByRecursion (IsChild number talk left faults x.desk x.setup) cs × At (map held_of cs) accepting) is both

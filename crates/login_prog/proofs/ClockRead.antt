@@ -10,8 +10,8 @@ use Rattle.login_edge.specs.declared.clock.Reading.{Reading}
 use Rattle.login_edge.specs.declared.clock.Reading.TheVariants.{At, Failed}
 use Rattle.login_prog.specs.Outcome.{BothTold, after_calls}
 use Rattle.login_prog.specs.Served.{AreTicks, due, early, last_tick, refused, tick_length}
-use Rattle.login_prog.specs.inner.House.{Door, FaultsSay, Far, Goes, GoesUpTo, HasCalled, Held, IsClockOf, KeepsAt, Since, WasClocked, failing}
-use Rattle.login_prog.specs.declared.serve.accepting.House.{House}
+use Rattle.login_prog.specs.inner.Accepting.{Listened, FaultsSay, Far, Goes, GoesUpTo, HasCalled, Held, IsClockOf, KeepsAt, Since, WasClocked, failing}
+use Rattle.login_prog.specs.declared.serve.accepting.Accepting.{Accepting}
 
 pub one-call-more : (before calls now : ℕ) → HasCalled before calls now → HasCalled before (calls + 1) (one_more now)
 one-call-more before calls now h = inr (⊎_elim
@@ -114,11 +114,11 @@ pub clock-failed : (flag : Bool) (before faults started clock now : ℕ) → Ros
 clock-failed true before faults started clock now rose f = ⊎_elim (λ l. inl l) (λ c. inr (rose-more started clock now c rose)) f
 clock-failed false before faults started clock now rose f = inr (subst (λ (n : ℕ). Rose n now) f.1 rose)
 
-module _ {L N P : Type 0} (number : L → ℕ) (talk : L → Option (List Exchange)) (left : L → Option (List ℕ)) (faults : L → ℕ) (spawner_faults : P → ℕ) (door : Door L) (x : Since L) where
+module _ {L N P : Type 0} (number : L → ℕ) (talk : L → Option (List Exchange)) (left : L → Option (List ℕ)) (faults : L → ℕ) (spawner_faults : P → ℕ) (listened : Listened L) (x : Since L) where
   -- the clock has failed
-  pub clock-keeps : (t : Far) (hands : List (Held L)) (house : House L N P) (now : ℕ) → Rose t.clock_faults now → KeepsAt number talk left faults spawner_faults door x t hands house
-      → KeepsAt number talk left faults spawner_faults door x (record t { clock_faults = now }) hands (failing house)
-  clock-keeps t hands house now rose k = record {
+  pub clock-keeps : (t : Far) (hands : List (Held L)) (accepting : Accepting L N P) (now : ℕ) → Rose t.clock_faults now → KeepsAt number talk left faults spawner_faults listened x t hands accepting
+      → KeepsAt number talk left faults spawner_faults listened x (record t { clock_faults = now }) hands (failing accepting)
+  clock-keeps t hands accepting now rose k = record {
     pass = k.pass;
     stopped = k.stopped;
     children = k.children;
@@ -130,13 +130,13 @@ module _ {L N P : Type 0} (number : L → ℕ) (talk : L → Option (List Exchan
     listed = k.listed;
     closed = k.closed;
     asked = record { asked = k.asked.asked; as_often = k.asked.as_often };
-    listener_or_clock = clock-failed house.troubles.listener_or_clock x.listener_faults door.faults x.clock_faults t.clock_faults now rose k.listener_or_clock;
+    listener_or_clock = clock-failed accepting.troubles.listener_or_clock x.listener_faults listened.faults x.clock_faults t.clock_faults now rose k.listener_or_clock;
     spawner = k.spawner;
     dropped = k.dropped;
     untold = record { read_fault = k.untold.read_fault; refused_line = k.untold.refused_line; write_fault = k.untold.write_fault };
   }
 
   -- the clock gave a moment, and its count of faults stands
-  pub clock-stands : (t : Far) (hands : List (Held L)) (house : House L N P) (now : ℕ) → now ≡ t.clock_faults → KeepsAt number talk left faults spawner_faults door x t hands house
-      → KeepsAt number talk left faults spawner_faults door x (record t { clock_faults = now }) hands house
-  clock-stands t hands house now same k = subst (λ (n : ℕ). KeepsAt number talk left faults spawner_faults door x (record t { clock_faults = n }) hands house) (sym same) k
+  pub clock-stands : (t : Far) (hands : List (Held L)) (accepting : Accepting L N P) (now : ℕ) → now ≡ t.clock_faults → KeepsAt number talk left faults spawner_faults listened x t hands accepting
+      → KeepsAt number talk left faults spawner_faults listened x (record t { clock_faults = now }) hands accepting
+  clock-stands t hands accepting now same k = subst (λ (n : ℕ). KeepsAt number talk left faults spawner_faults listened x (record t { clock_faults = n }) hands accepting) (sym same) k

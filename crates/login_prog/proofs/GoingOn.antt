@@ -23,9 +23,9 @@ use Rattle.desk.specs.Views.{after_join, joined_of}
 use Rattle.desk.specs.declared.view.Joined.{Joined}
 use Rattle.desk.specs.declared.view.Numbered.{Numbered}
 use Rattle.desk.specs.declared.view.View.{View}
-use Rattle.desk.specs.inner.Appended.{entries_append}
+use Rattle.desk.proofs.Histories.{entries_append}
 use Rattle.link_serve.specs.Turned.{Acts}
-use Rattle.login_prog.specs.inner.House.{ArePlaced, FullForTick, HasJoinedPass, Held, IsFirstOf, IsPlaced, TookIn}
+use Rattle.login_prog.specs.inner.Accepting.{ArePlaced, FullForTick, HasJoinedPass, Held, IsFirstOf, IsPlaced, TookIn}
 use Rattle.login_prog.specs.inner.Jobs.{PassOfCore}
 
 -- the stop is still there

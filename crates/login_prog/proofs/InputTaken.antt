@@ -11,7 +11,7 @@ use Rattle.replay.specs.declared.cause.Cause.{Cause}
 use Rattle.desk.specs.declared.view.View.{View}
 use Rattle.login_prog.specs.Outcome.{BehindGo, Change, HasFailed, IsOpened, IsSteady, IsWellRead}
 use Rattle.login_prog.specs.Script.{BrokenOff, CutAt, ReadSome, ReadToStop, RefusedAt, hardware_line, hardware_lines}
-use Rattle.login_prog.specs.inner.House.{IsUntold, with_end}
+use Rattle.login_prog.specs.inner.Accepting.{IsUntold, with_end}
 use Rattle.login_prog.specs.inner.Input.{ReadUpTo}
 use Rattle.login_prog.specs.inner.Left.{Took}
 use Rattle.login_prog.specs.declared.serve.reader_job.ReaderEnd.{ReaderEnd}
@@ -164,18 +164,18 @@ module _ (U : Setup) (count : ℕ) (input : Change (Option (List ℕ))) (by : Vi
     pub record IsBefore : Type 0 where
       pub memory : t.no_memory ≡ false → own.no_memory ≡ false
       pub full : t.full ≡ None → own.full ≡ None
-      pub door : t.listener_or_clock ≡ own.listener_or_clock
+      pub listened : t.listener_or_clock ≡ own.listener_or_clock
       pub spawn : t.spawn_fault ≡ own.spawn_fault
       pub written : t.write_fault ≡ own.write_fault
 
     pub before : (e : Option ReaderEnd) → t ≡ with_end e own → IsBefore
-    before None is = record { memory = λ h. sym (ap (λ (z : Troubles). z.no_memory) is) ∙ h; full = λ h. sym (ap (λ (z : Troubles). z.full) is) ∙ h; door = ap (λ (z : Troubles). z.listener_or_clock) is; spawn = ap (λ (z : Troubles). z.spawn_fault) is; written = ap (λ (z : Troubles). z.write_fault) is }
-    before (Some reader.Stop) is = record { memory = λ h. sym (ap (λ (z : Troubles). z.no_memory) is) ∙ h; full = λ h. sym (ap (λ (z : Troubles). z.full) is) ∙ h; door = ap (λ (z : Troubles). z.listener_or_clock) is; spawn = ap (λ (z : Troubles). z.spawn_fault) is; written = ap (λ (z : Troubles). z.write_fault) is }
-    before (Some (reader.Script n c)) is = record { memory = λ h. sym (ap (λ (z : Troubles). z.no_memory) is) ∙ h; full = λ h. sym (ap (λ (z : Troubles). z.full) is) ∙ h; door = ap (λ (z : Troubles). z.listener_or_clock) is; spawn = ap (λ (z : Troubles). z.spawn_fault) is; written = ap (λ (z : Troubles). z.write_fault) is }
-    before (Some (reader.Full c)) is = record { memory = λ h. sym (ap (λ (z : Troubles). z.no_memory) is) ∙ h; full = λ h. none-is t.full c h (ap (λ (z : Troubles). z.full) is); door = ap (λ (z : Troubles). z.listener_or_clock) is; spawn = ap (λ (z : Troubles). z.spawn_fault) is; written = ap (λ (z : Troubles). z.write_fault) is }
-    before (Some reader.Stopped) is = record { memory = λ h. sym (ap (λ (z : Troubles). z.no_memory) is) ∙ h; full = λ h. sym (ap (λ (z : Troubles). z.full) is) ∙ h; door = ap (λ (z : Troubles). z.listener_or_clock) is; spawn = ap (λ (z : Troubles). z.spawn_fault) is; written = ap (λ (z : Troubles). z.write_fault) is }
-    before (Some reader.ReadFault) is = record { memory = λ h. sym (ap (λ (z : Troubles). z.no_memory) is) ∙ h; full = λ h. sym (ap (λ (z : Troubles). z.full) is) ∙ h; door = ap (λ (z : Troubles). z.listener_or_clock) is; spawn = ap (λ (z : Troubles). z.spawn_fault) is; written = ap (λ (z : Troubles). z.write_fault) is }
-    before (Some reader.NoMemory) is = record { memory = λ h. no-fault t.no_memory h (ap (λ (z : Troubles). z.no_memory) is); full = λ h. sym (ap (λ (z : Troubles). z.full) is) ∙ h; door = ap (λ (z : Troubles). z.listener_or_clock) is; spawn = ap (λ (z : Troubles). z.spawn_fault) is; written = ap (λ (z : Troubles). z.write_fault) is }
+    before None is = record { memory = λ h. sym (ap (λ (z : Troubles). z.no_memory) is) ∙ h; full = λ h. sym (ap (λ (z : Troubles). z.full) is) ∙ h; listened = ap (λ (z : Troubles). z.listener_or_clock) is; spawn = ap (λ (z : Troubles). z.spawn_fault) is; written = ap (λ (z : Troubles). z.write_fault) is }
+    before (Some reader.Stop) is = record { memory = λ h. sym (ap (λ (z : Troubles). z.no_memory) is) ∙ h; full = λ h. sym (ap (λ (z : Troubles). z.full) is) ∙ h; listened = ap (λ (z : Troubles). z.listener_or_clock) is; spawn = ap (λ (z : Troubles). z.spawn_fault) is; written = ap (λ (z : Troubles). z.write_fault) is }
+    before (Some (reader.Script n c)) is = record { memory = λ h. sym (ap (λ (z : Troubles). z.no_memory) is) ∙ h; full = λ h. sym (ap (λ (z : Troubles). z.full) is) ∙ h; listened = ap (λ (z : Troubles). z.listener_or_clock) is; spawn = ap (λ (z : Troubles). z.spawn_fault) is; written = ap (λ (z : Troubles). z.write_fault) is }
+    before (Some (reader.Full c)) is = record { memory = λ h. sym (ap (λ (z : Troubles). z.no_memory) is) ∙ h; full = λ h. none-is t.full c h (ap (λ (z : Troubles). z.full) is); listened = ap (λ (z : Troubles). z.listener_or_clock) is; spawn = ap (λ (z : Troubles). z.spawn_fault) is; written = ap (λ (z : Troubles). z.write_fault) is }
+    before (Some reader.Stopped) is = record { memory = λ h. sym (ap (λ (z : Troubles). z.no_memory) is) ∙ h; full = λ h. sym (ap (λ (z : Troubles). z.full) is) ∙ h; listened = ap (λ (z : Troubles). z.listener_or_clock) is; spawn = ap (λ (z : Troubles). z.spawn_fault) is; written = ap (λ (z : Troubles). z.write_fault) is }
+    before (Some reader.ReadFault) is = record { memory = λ h. sym (ap (λ (z : Troubles). z.no_memory) is) ∙ h; full = λ h. sym (ap (λ (z : Troubles). z.full) is) ∙ h; listened = ap (λ (z : Troubles). z.listener_or_clock) is; spawn = ap (λ (z : Troubles). z.spawn_fault) is; written = ap (λ (z : Troubles). z.write_fault) is }
+    before (Some reader.NoMemory) is = record { memory = λ h. no-fault t.no_memory h (ap (λ (z : Troubles). z.no_memory) is); full = λ h. sym (ap (λ (z : Troubles). z.full) is) ∙ h; listened = ap (λ (z : Troubles). z.listener_or_clock) is; spawn = ap (λ (z : Troubles). z.spawn_fault) is; written = ap (λ (z : Troubles). z.write_fault) is }
 
 -- ---- behind `go`
 

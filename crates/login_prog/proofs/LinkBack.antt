@@ -18,14 +18,14 @@ use Rattle.desk.specs.Passes.{JoinsPass}
 use Rattle.desk.specs.Views.{joined_of}
 use Rattle.desk.specs.declared.view.Joined.{Joined}
 use Rattle.desk.specs.declared.view.View.{View}
-use Rattle.desk.specs.inner.Appended.{entries_append}
+use Rattle.desk.proofs.Histories.{entries_append}
 use Rattle.desk.proofs.Lists.{each_longer}
 use Rattle.link_serve.specs.Serving.{Served, ServedBy}
 use Rattle.login_prog.specs.Outcome.{BothTold, after_calls}
 use Rattle.login_prog.specs.Served.{dropped_among}
-use Rattle.login_prog.specs.declared.serve.accepting.House.{House}
+use Rattle.login_prog.specs.declared.serve.accepting.Accepting.{Accepting}
 use Rattle.login_prog.specs.declared.serve.link_job.LinkOut.{LinkOut}
-use Rattle.login_prog.specs.inner.House.{AreOut, ArePlaced, CameAs, ComesBack, Door, Far, FaultsSay, FewDropped, FullForTick, HasCalled, HasJoinedPass, HasTicked, Held, IsFirstOf, IsHeld, IsListed, KeepsAt, NoMore, Since, TookIn, WasAsked, all_out, held_of}
+use Rattle.login_prog.specs.inner.Accepting.{AreOut, ArePlaced, CameAs, ComesBack, Far, FaultsSay, FewDropped, FullForTick, HasCalled, HasJoinedPass, HasTicked, Held, IsFirstOf, IsHeld, IsListed, KeepsAt, Listened, NoMore, Since, TookIn, WasAsked, all_out, held_of}
 use Rattle.login_prog.specs.inner.Jobs.{LinkGives, PassOfCore}
 use Rattle.login_prog.proofs.ClockRead.{both-map}
 use Rattle.login_prog.proofs.GoingOn.{SeesMore, at-last, full-on, joins-more, placed-on, stopped-on}
@@ -38,27 +38,27 @@ is-out ends None h i = tt
 is-out ends (Some r) h i = record { arrived = i.came.arrived; first = i.above; came = i.came.came; out = i.came.out }
 
 -- the first link in hand has a number
-pub hands-above : {L N P : Type 0} (number : L → ℕ) (talk : L → Option (List Exchange)) (left : L → Option (List ℕ)) (faults : L → ℕ) (spawner_faults : P → ℕ) (door : Door L) (x : Since L) (t : Far)
-    (h : Held L) (hands : List (Held L)) (house : House L N P) → KeepsAt number talk left faults spawner_faults door x t (h ∷ hands) house → 0 < h.who
-hands-above number talk left faults spawner_faults door x t h hands house k = (the-held house.ends.items door.register (map held_of house.children.items) h hands k.out).above
+pub hands-above : {L N P : Type 0} (number : L → ℕ) (talk : L → Option (List Exchange)) (left : L → Option (List ℕ)) (faults : L → ℕ) (spawner_faults : P → ℕ) (listened : Listened L) (x : Since L) (t : Far)
+    (h : Held L) (hands : List (Held L)) (accepting : Accepting L N P) → KeepsAt number talk left faults spawner_faults listened x t (h ∷ hands) accepting → 0 < h.who
+hands-above number talk left faults spawner_faults listened x t h hands accepting k = (the-held accepting.ends.items listened.register (map held_of accepting.children.items) h hands k.out).above
 
-module _ {L N P : Type 0} (number : L → ℕ) (talk : L → Option (List Exchange)) (left : L → Option (List ℕ)) (faults : L → ℕ) (spawner_faults : P → ℕ) (door : Door L) (x : Since L) (t : Far)
-    (h : Held L) (hands : List (Held L)) (house : House L N P) (k : KeepsAt number talk left faults spawner_faults door x t (h ∷ hands) house)
+module _ {L N P : Type 0} (number : L → ℕ) (talk : L → Option (List Exchange)) (left : L → Option (List ℕ)) (faults : L → ℕ) (spawner_faults : P → ℕ) (listened : Listened L) (x : Since L) (t : Far)
+    (h : Held L) (hands : List (Held L)) (accepting : Accepting L N P) (k : KeepsAt number talk left faults spawner_faults listened x t (h ∷ hands) accepting)
     (out : LinkOut L) (b : ComesBack number talk left faults x.desk x.setup h out) where
   abbrev v : View Setup Entry
-  v = house.pass.view
+  v = accepting.pass.view
 
   abbrev w : View Setup Entry
   w = out.pass.view
 
   abbrev xs : List (Held L)
-  xs = map held_of house.children.items
+  xs = map held_of accepting.children.items
 
-  held : IsHeld house.ends.items door.register h
-  held = the-held house.ends.items door.register xs h hands k.out
+  held : IsHeld accepting.ends.items listened.register h
+  held = the-held accepting.ends.items listened.register xs h hands k.out
 
-  pub back-out : IfSome door.register (λ r. IsOut h.who r.links)
-  back-out = is-out house.ends.items door.register h held
+  pub back-out : IfSome listened.register (λ r. IsOut h.who r.links)
+  back-out = is-out accepting.ends.items listened.register h held
 
   pub back-number : number out.link ≡ h.who
   back-number = b.gives.numbered ∙ b.numbered
@@ -66,7 +66,7 @@ module _ {L N P : Type 0} (number : L → ℕ) (talk : L → Option (List Exchan
   pub back-desk : out.pass.desk ≡ x.desk
   back-desk = b.gives.desk ∙ b.desk_is
 
-  pub back-above : (0 < h.who) × (h.who ≤ length house.ends.items)
+  pub back-above : (0 < h.who) × (h.who ≤ length accepting.ends.items)
   back-above = (held.above, held.within)
 
   who-by : (e : Option LinkEnd) → MatchOption e ((w ≡ b.before.view) × (out.link ≡ h.link)) (λ y. Served h.uid b.before.view w (talk h.link) (talk out.link) (left h.link) (left out.link) (faults h.link) (faults out.link) y)
@@ -77,7 +77,7 @@ module _ {L N P : Type 0} (number : L → ℕ) (talk : L → Option (List Exchan
   w-who : w.who ≡ h.who
   w-who = who-by out.end b.gives.outcome
 
-  module _ (pass : PassOfCore) (same : pass.desk ≡ house.pass.desk) (j : JoinsPass v w pass.view) where
+  module _ (pass : PassOfCore) (same : pass.desk ≡ accepting.pass.desk) (j : JoinsPass v w pass.view) where
     abbrev u : View Setup Entry
     u = pass.view
 
@@ -117,7 +117,7 @@ module _ {L N P : Type 0} (number : L → ℕ) (talk : L → Option (List Exchan
     came-back = came-by out.end b.gives.outcome
 
     abbrev many : ℕ
-    many = length house.ends.items
+    many = length accepting.ends.items
 
     one-joined : (i : ℕ) (y : Joined Entry) → get_elem? (joined_of w ∷ []) i ≡ some y → (0 < y.who) × (y.who ≤ many)
     one-joined zero y e =
@@ -143,32 +143,32 @@ module _ {L N P : Type 0} (number : L → ℕ) (talk : L → Option (List Exchan
       joined = each-joined;
     }
 
-    module _ (ends : Vec (Option LinkEnd) Global) (ends-are : ends.items ≡ slice_set house.ends.items (h.who - 1) out.end) (listener : N) (register : Option (Register L)) (tells : register ≡ option_map (given_back h.who out.link) door.register)
-        (dropped : out.end ≡ None → FewDropped x.spawner_faults (spawner_faults house.spawner) house.ends.items (length (xs ++ hands))) where
+    module _ (ends : Vec (Option LinkEnd) Global) (ends-are : ends.items ≡ slice_set accepting.ends.items (h.who - 1) out.end) (listener : N) (register : Option (Register L)) (tells : register ≡ option_map (given_back h.who out.link) listened.register)
+        (dropped : out.end ≡ None → FewDropped x.spawner_faults (spawner_faults accepting.spawner) accepting.ends.items (length (xs ++ hands))) where
       abbrev place : ℕ
       place = h.who - 1
 
       abbrev set : List (Option LinkEnd)
-      set = slice_set house.ends.items place out.end
+      set = slice_set accepting.ends.items place out.end
 
       long : length set ≡ many
-      long = long-set house.ends.items place out.end
+      long = long-set accepting.ends.items place out.end
 
-      out-by : (r : Option (Register L)) → AreOut house.ends.items r (xs ++ (h ∷ hands)) → AreOut set (option_map (given_back h.who out.link) r) (xs ++ hands)
-      out-by None o = out-without house.ends.items None xs h hands o set None (held-apart-untold house.ends.items h out.end held.above)
-      out-by (Some r) o = out-without house.ends.items (Some r) xs h hands o set (Some (given_back h.who out.link r))
-          (held-apart house.ends.items r.asked r.closed r.links h out.link out.end held.above)
+      out-by : (r : Option (Register L)) → AreOut accepting.ends.items r (xs ++ (h ∷ hands)) → AreOut set (option_map (given_back h.who out.link) r) (xs ++ hands)
+      out-by None o = out-without accepting.ends.items None xs h hands o set None (held-apart-untold accepting.ends.items h out.end held.above)
+      out-by (Some r) o = out-without accepting.ends.items (Some r) xs h hands o set (Some (given_back h.who out.link r))
+          (held-apart accepting.ends.items r.asked r.closed r.links h out.link out.end held.above)
 
-      placed-by : (r : Option (Register L)) → IsHeld house.ends.items r h → IfSome r (λ r. ArePlaced talk left faults x.setup v (xs ++ (h ∷ hands)) r.links house.ends.items)
+      placed-by : (r : Option (Register L)) → IsHeld accepting.ends.items r h → IfSome r (λ r. ArePlaced talk left faults x.setup v (xs ++ (h ∷ hands)) r.links accepting.ends.items)
           → IfSome (option_map (given_back h.who out.link) r) (λ r. ArePlaced talk left faults x.setup u (xs ++ hands) r.links set)
       placed-by None i p = tt
       placed-by (Some r) i p =
-          placed-back talk left faults x.setup u r.links house.ends.items xs h hands out.link out.end
-          (placed-on v u more talk left faults x.setup (xs ++ (h ∷ hands)) r.links house.ends.items p)
+          placed-back talk left faults x.setup u r.links accepting.ends.items xs h hands out.link out.end
+          (placed-on v u more talk left faults x.setup (xs ++ (h ∷ hands)) r.links accepting.ends.items p)
           (record { above = i.above; within = i.within; unended = i.unended; came = i.came })
           came-back
 
-      counted-by : (r : Option (Register L)) → IfSome r (λ r. length r.links ≡ door.given) → IfSome (option_map (given_back h.who out.link) r) (λ r. length r.links ≡ door.given)
+      counted-by : (r : Option (Register L)) → IfSome r (λ r. length r.links ≡ listened.given) → IfSome (option_map (given_back h.who out.link) r) (λ r. length r.links ≡ listened.given)
       counted-by None c = tt
       counted-by (Some r) c = long-back place out.link r.links ∙ c
 
@@ -176,41 +176,41 @@ module _ {L N P : Type 0} (number : L → ℕ) (talk : L → Option (List Exchan
       closed-by None c = tt
       closed-by (Some r) c = c
 
-      dropped-by : (e : Option LinkEnd) → (e ≡ None → FewDropped x.spawner_faults (spawner_faults house.spawner) house.ends.items (length (xs ++ hands)))
-          → FewDropped x.spawner_faults (spawner_faults house.spawner) (slice_set house.ends.items place e) (length (xs ++ hands))
-      dropped-by None d = subst (λ (es : List (Option LinkEnd)). FewDropped x.spawner_faults (spawner_faults house.spawner) es (length (xs ++ hands))) (sym (set-same house.ends.items place None held.unended)) (d refl)
+      dropped-by : (e : Option LinkEnd) → (e ≡ None → FewDropped x.spawner_faults (spawner_faults accepting.spawner) accepting.ends.items (length (xs ++ hands)))
+          → FewDropped x.spawner_faults (spawner_faults accepting.spawner) (slice_set accepting.ends.items place e) (length (xs ++ hands))
+      dropped-by None d = subst (λ (es : List (Option LinkEnd)). FewDropped x.spawner_faults (spawner_faults accepting.spawner) es (length (xs ++ hands))) (sym (set-same accepting.ends.items place None held.unended)) (d refl)
       dropped-by (Some e) d = record {
         rises = k.dropped.rises;
         rose = k.dropped.rose;
-        few = let f = k.dropped.few in let l = long-without xs h hands in let s = dropped-set house.ends.items place e held.unended in omega (arith, f, l, s);
+        few = let f = k.dropped.few in let l = long-without xs h hands in let s = dropped-set accepting.ends.items place e held.unended in omega (arith, f, l, s);
       }
 
-      abbrev now : Door L
-      now = record { register = option_map (given_back h.who out.link) door.register; given = door.given; faults = door.faults }
+      abbrev now : Listened L
+      now = record { register = option_map (given_back h.who out.link) listened.register; given = listened.given; faults = listened.faults }
 
-      keeps-so : (es : Vec (Option LinkEnd) Global) → es.items ≡ set → KeepsAt number talk left faults spawner_faults now x t hands (record house { pass = pass; ends = es; listener = listener })
+      keeps-so : (es : Vec (Option LinkEnd) Global) → es.items ≡ set → KeepsAt number talk left faults spawner_faults now x t hands (record accepting { pass = pass; ends = es; listener = listener })
       keeps-so es are = record {
         pass = subst (λ (n : ℕ). IsFirstOf x.desk x.setup n (length (xs ++ hands)) pass) (sym (ap length are ∙ long)) first-joined;
         stopped = λ e. stopped-on v u more (k.stopped e);
         children = k.children;
-        out = subst (λ (z : List (Option LinkEnd)). AreOut z now.register (xs ++ hands)) (sym are) (out-by door.register k.out);
-        placed = subst (λ (z : List (Option LinkEnd)). IfSome now.register (λ r. ArePlaced talk left faults x.setup u (xs ++ hands) r.links z)) (sym are) (placed-by door.register held k.placed);
-        counted = counted-by door.register k.counted;
-        ticked = subst (λ (z : List Entry). HasTicked house.troubles t.ticks t.is_alone z) (sym mine-now) k.ticked;
+        out = subst (λ (z : List (Option LinkEnd)). AreOut z now.register (xs ++ hands)) (sym are) (out-by listened.register k.out);
+        placed = subst (λ (z : List (Option LinkEnd)). IfSome now.register (λ r. ArePlaced talk left faults x.setup u (xs ++ hands) r.links z)) (sym are) (placed-by listened.register held k.placed);
+        counted = counted-by listened.register k.counted;
+        ticked = subst (λ (z : List Entry). HasTicked accepting.troubles t.ticks t.is_alone z) (sym mine-now) k.ticked;
         full = λ count e. let f = k.full count e in (f.0, f.1, full-on v u more x.setup t.ticks f.0 count f.2);
-        listed = subst (λ (n : ℕ). IsListed house.came house.is_closed house.troubles.no_memory n door.given) (sym (ap length are ∙ long)) k.listed;
-        closed = λ e. ⊎_elim (λ m. inl m) (λ c. inr (closed-by door.register c)) (k.closed e);
+        listed = subst (λ (n : ℕ). IsListed accepting.came accepting.is_closed accepting.troubles.no_memory n listened.given) (sym (ap length are ∙ long)) k.listed;
+        closed = λ e. ⊎_elim (λ m. inl m) (λ c. inr (closed-by listened.register c)) (k.closed e);
         asked = record {
-          asked = both-map (given_back h.who out.link) x.register door.register now.register (λ r s. HasCalled r.asked t.accepts s.asked) (λ r s. HasCalled r.asked t.accepts s.asked) (λ r s e. e) refl k.asked.asked;
-          as_often = ⊎_elim (λ e. inl e) (λ p. inr (⊎_elim (λ m. inl m) (λ q. inr (⊎_elim (λ c. inl (closed-by door.register c)) (λ c. inr c) q)) p.0, p.1)) k.asked.as_often;
+          asked = both-map (given_back h.who out.link) x.register listened.register now.register (λ r s. HasCalled r.asked t.accepts s.asked) (λ r s. HasCalled r.asked t.accepts s.asked) (λ r s e. e) refl k.asked.asked;
+          as_often = ⊎_elim (λ e. inl e) (λ p. inr (⊎_elim (λ m. inl m) (λ q. inr (⊎_elim (λ c. inl (closed-by listened.register c)) (λ c. inr c) q)) p.0, p.1)) k.asked.as_often;
         };
         listener_or_clock = k.listener_or_clock;
         spawner = k.spawner;
-        dropped = subst (λ (z : List (Option LinkEnd)). FewDropped x.spawner_faults (spawner_faults house.spawner) z (length (xs ++ hands))) (sym are) (dropped-by out.end dropped);
+        dropped = subst (λ (z : List (Option LinkEnd)). FewDropped x.spawner_faults (spawner_faults accepting.spawner) z (length (xs ++ hands))) (sym are) (dropped-by out.end dropped);
         untold = k.untold;
       }
 
       -- it was joined and given back
-      pub back-keeps : KeepsAt number talk left faults spawner_faults (record { register = register; given = door.given; faults = door.faults }) x t hands (record house { pass = pass; ends = ends; listener = listener })
-      back-keeps = subst (λ (r : Option (Register L)). KeepsAt number talk left faults spawner_faults (record { register = r; given = door.given; faults = door.faults }) x t hands (record house { pass = pass; ends = ends; listener = listener })) (sym tells)
+      pub back-keeps : KeepsAt number talk left faults spawner_faults (record { register = register; given = listened.given; faults = listened.faults }) x t hands (record accepting { pass = pass; ends = ends; listener = listener })
+      back-keeps = subst (λ (r : Option (Register L)). KeepsAt number talk left faults spawner_faults (record { register = r; given = listened.given; faults = listened.faults }) x t hands (record accepting { pass = pass; ends = ends; listener = listener })) (sym tells)
           (keeps-so ends ends-are)

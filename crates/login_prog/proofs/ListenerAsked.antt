@@ -11,9 +11,9 @@ use Rattle.login_model.specs.declared.setup.Setup.{Setup}
 use Rattle.login_office.specs.declared.end.LinkEnd.{LinkEnd}
 use Rattle.desk.specs.declared.view.View.{View}
 use Rattle.login_prog.specs.Outcome.{BothTold, after_calls}
-use Rattle.login_prog.specs.declared.serve.accepting.House.{House}
+use Rattle.login_prog.specs.declared.serve.accepting.Accepting.{Accepting}
 use Rattle.login_prog.specs.declared.serve.troubles.Troubles.{Troubles}
-use Rattle.login_prog.specs.inner.House.{AreOut, ArePlaced, CameAs, Door, Far, FaultsSay, Held, IsHeld, KeepsAt, NoMore, Since, WasAsked, all_out, asked_once}
+use Rattle.login_prog.specs.inner.Accepting.{AreOut, ArePlaced, CameAs, Far, FaultsSay, Held, IsHeld, KeepsAt, Listened, NoMore, Since, WasAsked, all_out, asked_once}
 use Rattle.login_prog.proofs.ClockRead.{rose-more}
 use Rattle.login_prog.proofs.Keeping.{Worse, ticked-worse}
 use Rattle.login_prog.proofs.LinkCame.{asked-again}
@@ -37,12 +37,12 @@ failed-now true before faults now started clock rose f = ⊎_elim (λ l. inl (ro
 failed-now false before faults now started clock rose f = inl (subst (λ (n : ℕ). Rose n now) f.0 rose)
 
 module _ {L N P : Type 0} (number : L → ℕ) (talk : L → Option (List Exchange)) (left : L → Option (List ℕ)) (faults : L → ℕ) (spawner_faults : P → ℕ) (x : Since L) (t : Far) where
-  abbrev At : Door L → Far → House L N P → Type 0
-  At door t house = KeepsAt number talk left faults spawner_faults door x t [] house
+  abbrev At : Listened L → Far → Accepting L N P → Type 0
+  At listened t accepting = KeepsAt number talk left faults spawner_faults listened x t [] accepting
 
   -- it was not asked, since no link comes any more
-  pub skip-keeps : (door : Door L) (house : House L N P) → NoMore house.came house.troubles.no_memory door.register → At door t house → At door (record t { turns = t.turns + 1 }) house
-  skip-keeps door house none k = record {
+  pub skip-keeps : (listened : Listened L) (accepting : Accepting L N P) → NoMore accepting.came accepting.troubles.no_memory listened.register → At listened t accepting → At listened (record t { turns = t.turns + 1 }) accepting
+  skip-keeps listened accepting none k = record {
     pass = k.pass;
     stopped = k.stopped;
     children = k.children;
@@ -63,40 +63,40 @@ module _ {L N P : Type 0} (number : L → ℕ) (talk : L → Option (List Exchan
     untold = k.untold;
   }
 
-  module _ (door : Door L) (house : House L N P) (a : Accepted L) (none : NoLink L a) (k : At door t house) where
+  module _ (listened : Listened L) (accepting : Accepting L N P) (a : Accepted L) (none : NoLink L a) (k : At listened t accepting) where
     abbrev out : List (Held L)
-    out = all_out house.children.items []
+    out = all_out accepting.children.items []
 
     abbrev ends : List (Option LinkEnd)
-    ends = house.ends.items
+    ends = accepting.ends.items
 
     abbrev now : Option (Register L)
-    now = option_map (accepted a) door.register
+    now = option_map (accepted a) listened.register
 
     held-still : (r : Option (Register L)) (h : Held L) → IsHeld ends r h → IsHeld ends (option_map (accepted a) r) h
     held-still None h i = i
     held-still (Some r) h i = record { above = i.above; within = i.within; unended = i.unended; came = subst (λ (links : List (Arrived L)). CameAs h links) (sym (links-same a none r)) i.came }
 
-    placed-still : (r : Option (Register L)) → IfSome r (λ r. ArePlaced talk left faults x.setup house.pass.view out r.links ends) → IfSome (option_map (accepted a) r) (λ r. ArePlaced talk left faults x.setup house.pass.view out r.links ends)
+    placed-still : (r : Option (Register L)) → IfSome r (λ r. ArePlaced talk left faults x.setup accepting.pass.view out r.links ends) → IfSome (option_map (accepted a) r) (λ r. ArePlaced talk left faults x.setup accepting.pass.view out r.links ends)
     placed-still None p = tt
-    placed-still (Some r) p = subst (λ (links : List (Arrived L)). ArePlaced talk left faults x.setup house.pass.view out links ends) (sym (links-same a none r)) p
+    placed-still (Some r) p = subst (λ (links : List (Arrived L)). ArePlaced talk left faults x.setup accepting.pass.view out links ends) (sym (links-same a none r)) p
 
-    counted-still : (r : Option (Register L)) → IfSome r (λ r. length r.links ≡ door.given) → IfSome (option_map (accepted a) r) (λ r. length r.links ≡ door.given)
+    counted-still : (r : Option (Register L)) → IfSome r (λ r. length r.links ≡ listened.given) → IfSome (option_map (accepted a) r) (λ r. length r.links ≡ listened.given)
     counted-still None c = tt
     counted-still (Some r) c = ap length (links-same a none r) ∙ c
 
     pub answered-keeps : (listener : N) (listener_faults : ℕ) (flag is_closed : Bool) → FaultsSay flag x.listener_faults listener_faults x.clock_faults t.clock_faults
-        → (house.troubles.listener_or_clock ≡ true → flag ≡ true) → (house.is_closed ≡ true → is_closed ≡ true)
-        → (is_closed ≡ true → (house.troubles.no_memory ≡ true) ⊎ IfSome now (λ r. r.closed ≡ true))
-        → KeepsAt number talk left faults spawner_faults (record { register = now; given = door.given; faults = listener_faults }) x (asked_once t) []
-        (record house { listener = listener; is_closed = is_closed; troubles = record house.troubles { listener_or_clock = flag } })
+        → (accepting.troubles.listener_or_clock ≡ true → flag ≡ true) → (accepting.is_closed ≡ true → is_closed ≡ true)
+        → (is_closed ≡ true → (accepting.troubles.no_memory ≡ true) ⊎ IfSome now (λ r. r.closed ≡ true))
+        → KeepsAt number talk left faults spawner_faults (record { register = now; given = listened.given; faults = listener_faults }) x (asked_once t) []
+        (record accepting { listener = listener; is_closed = is_closed; troubles = record accepting.troubles { listener_or_clock = flag } })
     answered-keeps listener listener_faults flag is_closed says known shut shut-so = record {
       pass = k.pass;
       stopped = k.stopped;
       children = k.children;
-      out = out-still ends ends door.register now out (λ h i. held-still door.register h i) k.out;
-      placed = placed-still door.register k.placed;
-      counted = counted-still door.register k.counted;
+      out = out-still ends ends listened.register now out (λ h i. held-still listened.register h i) k.out;
+      placed = placed-still listened.register k.placed;
+      counted = counted-still listened.register k.counted;
       ticked = record {
         last = k.ticked.last;
         mine_is = k.ticked.mine_is;
@@ -105,7 +105,7 @@ module _ {L N P : Type 0} (number : L → ℕ) (talk : L → Option (List Exchan
       full = k.full;
       listed = record { came_is = k.listed.came_is; within = k.listed.within; few = k.listed.few; all = ⊎_elim (λ e. inl e) (λ p. inr (p.0, shut p.1)) k.listed.all };
       closed = shut-so;
-      asked = asked-again x t house.came house.came house.troubles.no_memory house.troubles.no_memory door.register a (λ e. e) (λ e. e) k.asked;
+      asked = asked-again x t accepting.came accepting.came accepting.troubles.no_memory accepting.troubles.no_memory listened.register a (λ e. e) (λ e. e) k.asked;
       listener_or_clock = says;
       spawner = k.spawner;
       dropped = k.dropped;

@@ -6,7 +6,7 @@ use Rattle.std.specs.List.{AllByRecursion, slice_get, slice_set}
 use Rattle.login_edge.specs.Register.{Arrived, Register, back_behind}
 use Rattle.login_office.specs.declared.end.LinkEnd.{LinkEnd}
 use Rattle.login_prog.specs.Served.{dropped_among}
-use Rattle.login_prog.specs.inner.House.{AreOut, CameAs, Held, IsHeld, count_of}
+use Rattle.login_prog.specs.inner.Accepting.{AreOut, CameAs, Held, IsHeld, count_of}
 
 -- ---- lists
 

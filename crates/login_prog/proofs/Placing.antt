@@ -11,7 +11,7 @@ use Rattle.login_model.specs.declared.mark.Entry.{Entry}
 use Rattle.login_model.specs.declared.setup.Setup.{Setup}
 use Rattle.login_office.specs.declared.end.LinkEnd.{LinkEnd}
 use Rattle.desk.specs.declared.view.View.{View}
-use Rattle.login_prog.specs.inner.House.{AreOut, ArePlaced, CameAs, HasJoinedPass, Held, IsHeld, IsPlaced, TookIn, count_of}
+use Rattle.login_prog.specs.inner.Accepting.{AreOut, ArePlaced, CameAs, HasJoinedPass, Held, IsHeld, IsPlaced, TookIn, count_of}
 use Rattle.login_prog.proofs.Outs.{all-append, back-here, back-other, count-append, count-one, count-past, count-without, get-front, get-set, get-set-other, get-snoc, long-back, long-set, out-one-more, out-still, out-without}
 
 -- a place in a longer list is one of the old ones, or the new one

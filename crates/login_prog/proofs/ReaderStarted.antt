@@ -18,10 +18,10 @@ use Rattle.desk.specs.declared.view.View.{View}
 use Rattle.login_prog.specs.Outcome.{BothTold, after_calls}
 use Rattle.login_prog.specs.Served.{dropped_among}
 use Rattle.login_prog.specs.declared.serve.accepting.Child.{Child}
-use Rattle.login_prog.specs.declared.serve.accepting.House.{House}
+use Rattle.login_prog.specs.declared.serve.accepting.Accepting.{Accepting}
 use Rattle.login_prog.specs.declared.serve.troubles.Troubles.{Troubles}
 use Rattle.replay.specs.Rising.{Rises}
-use Rattle.login_prog.specs.inner.House.{AreOut, ArePlaced, Door, Far, FaultsSay, FewDropped, HasCalled, HasTicked, Held, IsChild, IsFirstOf, IsListed, IsNew, IsUntold, Keeps, KeepsAt, Since, all_out, at_start, no_troubles}
+use Rattle.login_prog.specs.inner.Accepting.{AreOut, ArePlaced, Far, FaultsSay, FewDropped, HasCalled, HasTicked, Held, IsChild, IsFirstOf, IsListed, IsNew, IsUntold, Keeps, KeepsAt, Listened, Since, all_out, at_start, no_troubles}
 use Rattle.login_prog.specs.inner.Jobs.{PassOfCore, ReaderGives}
 use Rattle.login_prog.specs.declared.serve.reader_job.ReaderEnd.{ReaderEnd}
 use Rattle.atomic_table.specs.Seated.{TableId}
@@ -34,8 +34,8 @@ reader-from left faults count all p desk view old after new e d v g =
     (subst (λ (w : View Setup Entry). ReaderGives left faults count all (record { desk = p.desk; view = w }) old after new e) v g)
 
 module _ {L N P : Type 0} (number : L → ℕ) (talk : L → Option (List Exchange)) (left : L → Option (List ℕ)) (faults : L → ℕ) (spawner_faults : P → ℕ)
-    (told : N → Option (Register L)) (given listener_faults : N → ℕ) (x : Since L) (house : House L N P) (n : IsNew number talk left faults spawner_faults told given listener_faults x house) where
-  abbrev now : House L N P → Door L
+    (told : N → Option (Register L)) (given listener_faults : N → ℕ) (x : Since L) (accepting : Accepting L N P) (n : IsNew number talk left faults spawner_faults told given listener_faults x accepting) where
+  abbrev now : Accepting L N P → Listened L
   now h = record { register = told h.listener; given = given h.listener; faults = listener_faults h.listener }
 
   -- nothing was asked
@@ -50,15 +50,15 @@ module _ {L N P : Type 0} (number : L → ℕ) (talk : L → Option (List Exchan
   nobody-placed v out ends None c = tt
   nobody-placed v out ends (Some r) c = λ k a there. absurd (let b = slice_get_within r.links k a there in omega (arith, b, c))
 
-  pub fresh-keeps : (pass : PassOfCore) (spawner : P) (flag is_alone : Bool) → pass.desk ≡ house.pass.desk → pass.view ≡ after_split 0 house.pass.view
-      → Rises flag (spawner_faults house.spawner) (spawner_faults spawner) → after_calls (spawner_faults house.spawner) 0 ≤ spawner_faults spawner
-      → Keeps number talk left faults spawner_faults told given listener_faults x (at_start x.clock_faults is_alone) [] (record house { pass = pass; spawner = spawner; troubles = record house.troubles { spawn_fault = flag } })
+  pub fresh-keeps : (pass : PassOfCore) (spawner : P) (flag is_alone : Bool) → pass.desk ≡ accepting.pass.desk → pass.view ≡ after_split 0 accepting.pass.view
+      → Rises flag (spawner_faults accepting.spawner) (spawner_faults spawner) → after_calls (spawner_faults accepting.spawner) 0 ≤ spawner_faults spawner
+      → Keeps number talk left faults spawner_faults told given listener_faults x (at_start x.clock_faults is_alone) [] (record accepting { pass = pass; spawner = spawner; troubles = record accepting.troubles { spawn_fault = flag } })
   fresh-keeps pass spawner flag is_alone same split says more =
       let view : pass.view ≡ after_split 0 (first_view x.setup) = split ∙ ap (after_split 0) n.view_is in
-      let no-out : all_out house.children.items [] ≡ [] = ap (λ (cs : List (Child L)). all_out cs []) n.no_children in
-      let counted : IfSome (told house.listener) (λ r. length r.links ≡ given house.listener) = subst (λ (r : Option (Register L)). IfSome r (λ r. length r.links ≡ given house.listener)) (sym n.register_is) n.counted in
-      let trouble : house.troubles ≡ no_troubles = n.no_trouble in
-      let no-ends : length house.ends.items ≡ 0 = ap length n.no_ends in
+      let no-out : all_out accepting.children.items [] ≡ [] = ap (λ (cs : List (Child L)). all_out cs []) n.no_children in
+      let counted : IfSome (told accepting.listener) (λ r. length r.links ≡ given accepting.listener) = subst (λ (r : Option (Register L)). IfSome r (λ r. length r.links ≡ given accepting.listener)) (sym n.register_is) n.counted in
+      let trouble : accepting.troubles ≡ no_troubles = n.no_trouble in
+      let no-ends : length accepting.ends.items ≡ 0 = ap length n.no_ends in
       record {
         pass = record {
           desk_is = same ∙ n.desk_is;
@@ -69,12 +69,12 @@ module _ {L N P : Type 0} (number : L → ℕ) (talk : L → Option (List Exchan
           made = let e : pass.view.made ≡ 1 = ap (λ (z : View Setup Entry). z.made) view in omega (arith, e);
           out_is = ap (λ (z : View Setup Entry). z.out) view ∙ sym (ap (λ (o : List (Held L)). length o + 1) no-out);
           own_seen = ap (λ (z : View Setup Entry). of_pass 0 z.seen) view ∙ sym (ap (λ (z : View Setup Entry). z.mine) view);
-          joined = nobody-joined pass.view.joined (ap (λ (z : View Setup Entry). z.joined) view) (λ y. (0 < y.who) × (y.who ≤ length house.ends.items));
+          joined = nobody-joined pass.view.joined (ap (λ (z : View Setup Entry). z.joined) view) (λ y. (0 < y.who) × (y.who ≤ length accepting.ends.items));
         };
         stopped = λ e. absurd (let k : false ≡ true = e in let no : ⊥ = cc in no);
         children = subst (λ (cs : List (Child L)). AllByRecursion (IsChild number talk left faults x.desk x.setup) cs) (sym n.no_children) tt;
-        out = subst (λ (o : List (Held L)). AreOut house.ends.items (told house.listener) o) (sym no-out) (record { each = tt; distinct = λ c. omega arith });
-        placed = nobody-placed pass.view (all_out house.children.items []) house.ends.items (told house.listener) (IfSome_then (told house.listener) counted (λ r c. c ∙ n.fresh));
+        out = subst (λ (o : List (Held L)). AreOut accepting.ends.items (told accepting.listener) o) (sym no-out) (record { each = tt; distinct = λ c. omega arith });
+        placed = nobody-placed pass.view (all_out accepting.children.items []) accepting.ends.items (told accepting.listener) (IfSome_then (told accepting.listener) counted (λ r c. c ∙ n.fresh));
         counted = counted;
         ticked = record { last = []; mine_is = ap (λ (z : View Setup Entry). events_of z.mine) view; stop = inl refl };
         full = λ count e. absurd (none-some count (sym (ap (λ (z : Troubles). z.full) trouble) ∙ e));
@@ -85,9 +85,9 @@ module _ {L N P : Type 0} (number : L → ℕ) (talk : L → Option (List Exchan
           all = inl (let c = n.none_came in omega (arith, no-ends, c));
         };
         closed = λ e. absurd (let k : false ≡ true = sym n.open_is ∙ e in let no : ⊥ = cc in no);
-        asked = record { asked = subst (λ (r : Option (Register L)). BothTold r (told house.listener) (λ q s. HasCalled q.asked 0 s.asked)) n.register_is (unasked (told house.listener)); as_often = inl refl };
-        listener_or_clock = subst (λ (b : Bool). FaultsSay b x.listener_faults (listener_faults house.listener) x.clock_faults x.clock_faults) (sym (ap (λ (z : Troubles). z.listener_or_clock) trouble)) (n.listener_faults_are, refl);
+        asked = record { asked = subst (λ (r : Option (Register L)). BothTold r (told accepting.listener) (λ q s. HasCalled q.asked 0 s.asked)) n.register_is (unasked (told accepting.listener)); as_often = inl refl };
+        listener_or_clock = subst (λ (b : Bool). FaultsSay b x.listener_faults (listener_faults accepting.listener) x.clock_faults x.clock_faults) (sym (ap (λ (z : Troubles). z.listener_or_clock) trouble)) (n.listener_faults_are, refl);
         spawner = subst (λ (f : ℕ). Rises flag f (spawner_faults spawner)) n.spawner_faults_are says;
-        dropped = record { rises = 0; rose = let e = n.spawner_faults_are in omega (arith, more, e); few = let e : dropped_among house.ends.items ≡ 0 = ap dropped_among n.no_ends in omega (arith, e) };
+        dropped = record { rises = 0; rose = let e = n.spawner_faults_are in omega (arith, more, e); few = let e : dropped_among accepting.ends.items ≡ 0 = ap dropped_among n.no_ends in omega (arith, e) };
         untold = record { read_fault = ap (λ (z : Troubles). z.read_fault) trouble; refused_line = ap (λ (z : Troubles). z.refused_line) trouble; write_fault = ap (λ (z : Troubles). z.write_fault) trouble };
       }

@@ -113,27 +113,27 @@ module _ (t : Troubles) where
     pub read : t.read_fault ≡ false
     pub line : t.refused_line ≡ None
     pub full : t.full ≡ None
-    pub door : t.listener_or_clock ≡ false
+    pub listened : t.listener_or_clock ≡ false
 
   pub few-late : (e : ServeEnd) → EndsSo t e → (status_of e ≡ 0) ⊎ ((status_of e ≡ 8) ⊎ (status_of e ≡ 4)) → HasFew
-  few-late end.SpawnFault s h = record { memory = s.0; read = s.1; line = s.2; full = s.3; door = s.4 }
-  few-late end.WriteFault s h = record { memory = s.0; read = s.1; line = s.2; full = s.3; door = s.4 }
-  few-late end.Done s h = record { memory = s.0; read = s.1; line = s.2; full = s.3; door = s.4 }
+  few-late end.SpawnFault s h = record { memory = s.0; read = s.1; line = s.2; full = s.3; listened = s.4 }
+  few-late end.WriteFault s h = record { memory = s.0; read = s.1; line = s.2; full = s.3; listened = s.4 }
+  few-late end.Done s h = record { memory = s.0; read = s.1; line = s.2; full = s.3; listened = s.4 }
   few-late end.NoMemory s h = absurd (⊎_elim (λ z. omega (arith, z)) (λ z. ⊎_elim (λ y. omega (arith, y)) (λ y. omega (arith, y)) z) h)
   few-late end.ReadFault s h = absurd (⊎_elim (λ z. omega (arith, z)) (λ z. ⊎_elim (λ y. omega (arith, y)) (λ y. omega (arith, y)) z) h)
   few-late (end.Script number cause) s h = absurd (⊎_elim (λ z. omega (arith, z)) (λ z. ⊎_elim (λ y. omega (arith, y)) (λ y. omega (arith, y)) z) h)
   few-late (end.Full count) s h = absurd (⊎_elim (λ z. omega (arith, z)) (λ z. ⊎_elim (λ y. omega (arith, y)) (λ y. omega (arith, y)) z) h)
   few-late end.ListenerOrClockFault s h = absurd (⊎_elim (λ z. omega (arith, z)) (λ z. ⊎_elim (λ y. omega (arith, y)) (λ y. omega (arith, y)) z) h)
 
-  pub door : (e : ServeEnd) → EndsSo t e → status_of e ≡ 7 → t.listener_or_clock ≡ true
-  door end.ListenerOrClockFault s h = s.4
-  door end.NoMemory s h = absurd (omega (arith, h))
-  door end.ReadFault s h = absurd (omega (arith, h))
-  door (end.Script number cause) s h = absurd (omega (arith, h))
-  door (end.Full count) s h = absurd (omega (arith, h))
-  door end.SpawnFault s h = absurd (omega (arith, h))
-  door end.WriteFault s h = absurd (omega (arith, h))
-  door end.Done s h = absurd (omega (arith, h))
+  pub listened : (e : ServeEnd) → EndsSo t e → status_of e ≡ 7 → t.listener_or_clock ≡ true
+  listened end.ListenerOrClockFault s h = s.4
+  listened end.NoMemory s h = absurd (omega (arith, h))
+  listened end.ReadFault s h = absurd (omega (arith, h))
+  listened (end.Script number cause) s h = absurd (omega (arith, h))
+  listened (end.Full count) s h = absurd (omega (arith, h))
+  listened end.SpawnFault s h = absurd (omega (arith, h))
+  listened end.WriteFault s h = absurd (omega (arith, h))
+  listened end.Done s h = absurd (omega (arith, h))
 
   pub spawn : (e : ServeEnd) → EndsSo t e → status_of e ≡ 8 → t.spawn_fault ≡ true
   spawn end.SpawnFault s h = s.5
@@ -203,17 +203,17 @@ pub record IsLater (t u : Troubles) : Type 0 where
   pub read : u.read_fault ≡ t.read_fault
   pub line : u.refused_line ≡ t.refused_line
   pub full : u.full ≡ t.full
-  pub door : u.listener_or_clock ≡ t.listener_or_clock
+  pub listened : u.listener_or_clock ≡ t.listener_or_clock
   pub spawn : u.spawn_fault ≡ t.spawn_fault
 
 written-later : (t u : Troubles) (w : WriteEnd) → IsLater t u → IsLater t (with_written w u)
 written-later t u written.Done l = l
-written-later t u written.Fault l = record { memory = l.memory; read = l.read; line = l.line; full = l.full; door = l.door; spawn = l.spawn }
+written-later t u written.Fault l = record { memory = l.memory; read = l.read; line = l.line; full = l.full; listened = l.listened; spawn = l.spawn }
 
 recorded-later : (U : Setup) (J : List Entry) (old new : Option (List ℕ)) (faults now : ℕ) (t u : Troubles) → Writes U J old new faults now t u → IsLater t u
-recorded-later U J old new faults now t u (inl h) = subst (IsLater t) (sym h.2) (record { memory = λ m. m; read = refl; line = refl; full = refl; door = refl; spawn = refl })
-recorded-later U J old new faults now t u (inr (inl h)) = subst (IsLater t) (sym h.2) (record { memory = λ m. m; read = refl; line = refl; full = refl; door = refl; spawn = refl })
-recorded-later U J old new faults now t u (inr (inr h)) = subst (IsLater t) (sym h.2) (record { memory = λ m. absurd (true≢false m); read = refl; line = refl; full = refl; door = refl; spawn = refl })
+recorded-later U J old new faults now t u (inl h) = subst (IsLater t) (sym h.2) (record { memory = λ m. m; read = refl; line = refl; full = refl; listened = refl; spawn = refl })
+recorded-later U J old new faults now t u (inr (inl h)) = subst (IsLater t) (sym h.2) (record { memory = λ m. m; read = refl; line = refl; full = refl; listened = refl; spawn = refl })
+recorded-later U J old new faults now t u (inr (inr h)) = subst (IsLater t) (sym h.2) (record { memory = λ m. absurd (true≢false m); read = refl; line = refl; full = refl; listened = refl; spawn = refl })
 
 -- ---- what was written
 

@@ -12,7 +12,7 @@ use Rattle.desk.specs.declared.view.Numbered.{Numbered}
 use Rattle.desk.specs.declared.view.View.{View}
 use Rattle.link_serve.specs.Turned.{Acts, StopTells}
 use Rattle.login_prog.specs.declared.serve.troubles.Troubles.{Troubles}
-use Rattle.login_prog.specs.inner.House.{HasTicked, HasTrouble, MayStopAfter, tick}
+use Rattle.login_prog.specs.inner.Accepting.{HasTicked, HasTrouble, MayStopAfter, tick}
 use Rattle.login_prog.proofs.GoingOn.{stop-stays}
 use Rattle.login_office.proofs.Entries.{events-append}
 

@@ -7,16 +7,16 @@ use Rattle.login_edge.specs.Register.{Register}
 use Rattle.login_model.specs.Stopping.{stop_from}
 use Rattle.desk.specs.History.{entries}
 use Rattle.link_serve.specs.Turned.{LookTells}
-use Rattle.login_prog.specs.declared.serve.accepting.House.{House}
+use Rattle.login_prog.specs.declared.serve.accepting.Accepting.{Accepting}
 use Rattle.login_prog.specs.declared.serve.accepting.Ticking.{Ticking}
-use Rattle.login_prog.specs.inner.House.{Accepts, Far, IsClock, IsClockOf, Keeps, Reads, Since, Turned, Turning, door_of}
+use Rattle.login_prog.specs.inner.Accepting.{Accepts, Far, IsClock, IsClockOf, Keeps, Reads, Since, Turned, Turning, listened_of}
 use Rattle.login_prog.specs.inner.Jobs.{PassOfCore}
 use Rattle.login_prog.proofs.GoingOn.{acts-more, stopped-on}
 use Rattle.login_prog.proofs.Keeping.{look-keeps}
 
 module _ {L N P C : Type 0} (number : L → ℕ) (talk : L → Option (List Exchange)) (left : L → Option (List ℕ)) (faults : L → ℕ) (spawner_faults : P → ℕ)
     (told : N → Option (Register L)) (given listener_faults : N → ℕ) (readings : C → Option Readings) (clock_faults : C → ℕ)
-    (h0 h1 h2 : House L N P) (c0 c2 : Ticking C)
+    (h0 h1 h2 : Accepting L N P) (c0 c2 : Ticking C)
     (accepts : (x : Since L) (t : Far) → Keeps number talk left faults spawner_faults told given listener_faults x t [] h0 → Accepts number talk left faults spawner_faults told given listener_faults x t h0 h1)
     (reads : (x : Since L) (t : Far) (calls : ℕ) → t.refused ≡ None → Keeps number talk left faults spawner_faults told given listener_faults x t [] h1
     → IsClock readings clock_faults x t calls c0
@@ -37,7 +37,7 @@ module _ {L N P C : Type 0} (number : L → ℕ) (talk : L → Option (List Exch
   pub turn-read : Keeps number talk left faults spawner_faults told given listener_faults x t2 [] h2
   turn-read = r.keeps
 
-  module _ (h3 : House L N P) (over : (x : Since L) (t : Far) → Keeps number talk left faults spawner_faults told given listener_faults x t [] h2 → Keeps number talk left faults spawner_faults told given listener_faults x t [] h3) where
+  module _ (h3 : Accepting L N P) (over : (x : Since L) (t : Far) → Keeps number talk left faults spawner_faults told given listener_faults x t [] h2 → Keeps number talk left faults spawner_faults told given listener_faults x t [] h3) where
     pub turn-looked-over : Keeps number talk left faults spawner_faults told given listener_faults x t2 [] h3
     turn-looked-over = over x t2 r.keeps
 
@@ -46,7 +46,7 @@ module _ {L N P C : Type 0} (number : L → ℕ) (talk : L → Option (List Exch
       t3 = record t2 { is_stopped = is_some result }
 
       looked : Keeps number talk left faults spawner_faults told given listener_faults x t3 [] (record h3 { pass = pass })
-      looked = look-keeps number talk left faults spawner_faults (door_of told given listener_faults h3.listener) x t2 [] h3 pass result same l turn-looked-over
+      looked = look-keeps number talk left faults spawner_faults (listened_of told given listener_faults h3.listener) x t2 [] h3 pass result same l turn-looked-over
 
       clock-so : IsClockOf x t3 t3.turns (readings c2.clock) (clock_faults c2.clock) c2.tick.0
       clock-so = record { told = r.clock.told; faults_is = r.clock.faults_is; last_is = r.clock.last_is }

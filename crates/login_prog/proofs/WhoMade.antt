@@ -1,4 +1,5 @@
--- Which pass has made which entries of a journal: its ticks are the calling thread's, its events of the hardware the reader's.
+-- Which pass has made which entries of a journal: its ticks are the calling thread's, its events of the hardware the
+-- reader's.
 use Rattle.std.proofs.Common.{◌≡◌, ℕ, zero, suc, ◌+◌, ◌<◌, ◌≤◌, ◌⊎◌, inl, inr, ⊎_elim, Bool, true, false, cond, true≢false, List, [], ◌∷◌, ◌++◌, map, Some, IsSome, refl, ap, sym, ◌∙◌, subst, arith, eqb, eq-eqb, append-nil}
 use mathlib.Core.Option.{some, some-ne-none, some-injective}
 use lib.ListN.{get_elem?}
@@ -15,7 +16,7 @@ use Rattle.desk.specs.declared.view.Numbered.{Numbered}
 use Rattle.desk.specs.declared.view.View.{View}
 use Rattle.link_serve.specs.Owners.{entry_who, event_who}
 use Rattle.login_prog.specs.Served.{happened, hardware_of, ticked, ticks_of}
-use Rattle.login_prog.specs.inner.House.{tick}
+use Rattle.login_prog.specs.inner.Accepting.{tick}
 use Rattle.login_prog.specs.inner.Input.{MayStop}
 use Rattle.login_prog.proofs.GoingOn.{there-still}
 
@@ -149,23 +150,23 @@ of-link Stop c is above = absurd (omega (arith, is, above))
 abbrev pub IsWhose : (reader many : ℕ) → Numbered Entry → Type 0
 IsWhose reader many l = (l.number ≡ 0) ⊎ ((l.number ≡ reader) ⊎ ((0 < entry_who l.entry) × (entry_who l.entry ≤ many)))
 
-pub record AreWhose (v by : View Setup Entry) (ticks : List ℕ) (xs : List Hardware) (house reader : List Event) (many : ℕ) : Type 0 where
+pub record AreWhose (v by : View Setup Entry) (ticks : List ℕ) (xs : List Hardware) (accepting reader : List Event) (many : ℕ) : Type 0 where
   pub whose : (k : ℕ) (l : Numbered Entry) → get_elem? v.seen k ≡ some l → IsWhose by.number many l
   pub first : of_pass 0 v.seen ≡ v.mine
   pub first_of : AllByRecursion (λ (e : Entry). entry_who e ≡ 0) v.mine
-  pub first_events : events_of v.mine ≡ map tick ticks ++ house
-  pub first_stop : MayStop house
+  pub first_events : events_of v.mine ≡ map tick ticks ++ accepting
+  pub first_stop : MayStop accepting
   pub second : of_pass by.number v.seen ≡ by.mine
   pub second_of : AllByRecursion (λ (e : Entry). entry_who e ≡ 0) by.mine
   pub second_events : events_of by.mine ≡ map Happens xs ++ reader
   pub second_stop : MayStop reader
 
-module _ (v by : View Setup Entry) (ticks : List ℕ) (xs : List Hardware) (house reader : List Event) (many : ℕ) (a : AreWhose v by ticks xs house reader many) where
+module _ (v by : View Setup Entry) (ticks : List ℕ) (xs : List Hardware) (accepting reader : List Event) (many : ℕ) (a : AreWhose v by ticks xs accepting reader many) where
   link-at : (k : ℕ) (l : Numbered Entry) → get_elem? v.seen k ≡ some l → 0 < entry_who l.entry → IsOfLink l.entry.event
   link-at k l e above = of-link l.entry.event (entry_who l.entry) refl above
 
   -- what the first pass has made has none of these, where its events have none
-  none-first : {A : Type 0} (f : Event → List A) → AllByRecursion (none_of f) (map tick ticks ++ house) → (k : ℕ) (l : Numbered Entry) → get_elem? v.seen k ≡ some l → l.number ≡ 0 → f l.entry.event ≡ []
+  none-first : {A : Type 0} (f : Event → List A) → AllByRecursion (none_of f) (map tick ticks ++ accepting) → (k : ℕ) (l : Numbered Entry) → get_elem? v.seen k ≡ some l → l.number ≡ 0 → f l.entry.event ≡ []
   none-first f h k l e is = in-pass (λ (z : Entry). none_of f z.event) 0 k l v.seen e is
       (subst (AllByRecursion (λ (z : Entry). none_of f z.event)) (sym a.first) (all-events (none_of f) v.mine (subst (AllByRecursion (none_of f)) (sym a.first_events) h)))
 
@@ -178,7 +179,7 @@ module _ (v by : View Setup Entry) (ticks : List ℕ) (xs : List Hardware) (hous
   hardware-in front later is = only-of happened by.number front (λ k l e. by-whose k l (subst (λ (z : List (Numbered Entry)). get_elem? z k ≡ some l) (sym is) (there-still front later k l e)))
     where
       by-whose : (k : ℕ) (l : Numbered Entry) → get_elem? v.seen k ≡ some l → (l.number ≡ by.number) ⊎ (happened l.entry.event ≡ [])
-      by-whose k l e = ⊎_elim (λ z. inr (none-first happened (ticks-no-hardware ticks house a.first_stop) k l e z))
+      by-whose k l e = ⊎_elim (λ z. inr (none-first happened (ticks-no-hardware ticks accepting a.first_stop) k l e z))
           (λ z. ⊎_elim (λ y. inl y) (λ y. inr (link-at k l e y.0).no_hardware) z) (a.whose k l e)
 
   pub ticks-in : (front later : List (Numbered Entry)) → v.seen ≡ front ++ later → ticks_of (entries front) ≡ ticks_of (of_pass 0 front)
@@ -192,10 +193,10 @@ module _ (v by : View Setup Entry) (ticks : List ℕ) (xs : List Hardware) (hous
   all-hardware = hardware-in v.seen [] (sym (append-nil v.seen)) ∙ (ap (λ (es : List Entry). hardware_of es) a.second ∙ (ap (flat_map happened) a.second_events ∙ hardware-picked xs reader a.second_stop))
 
   pub all-ticks : ticks_of (entries v.seen) ≡ ticks
-  all-ticks = ticks-in v.seen [] (sym (append-nil v.seen)) ∙ (ap (λ (es : List Entry). ticks_of es) a.first ∙ (ap (flat_map ticked) a.first_events ∙ ticks-picked ticks house a.first_stop))
+  all-ticks = ticks-in v.seen [] (sym (append-nil v.seen)) ∙ (ap (λ (es : List Entry). ticks_of es) a.first ∙ (ap (flat_map ticked) a.first_events ∙ ticks-picked ticks accepting a.first_stop))
 
   -- where the reader has made no stop, the first pass has
-  pub first-stopped : reader ≡ [] → IsSome (stop_from 1 (entries v.seen)) → house ≡ Stop ∷ []
+  pub first-stopped : reader ≡ [] → IsSome (stop_from 1 (entries v.seen)) → accepting ≡ Stop ∷ []
   first-stopped none s = ⊎_elim (λ z. absurd (none-stops 1 (entries v.seen) (all ∙ z) s)) (λ z. z) a.first_stop
     where
       no-reader : AllByRecursion (none_of stopping) (map Happens xs ++ reader)
@@ -204,8 +205,8 @@ module _ (v by : View Setup Entry) (ticks : List ℕ) (xs : List Hardware) (hous
       by-whose : (k : ℕ) (l : Numbered Entry) → get_elem? v.seen k ≡ some l → (l.number ≡ 0) ⊎ (stopping l.entry.event ≡ [])
       by-whose k l e = ⊎_elim (λ z. inl z) (λ z. ⊎_elim (λ y. inr (none-second stopping no-reader k l e y)) (λ y. inr (link-at k l e y.0).no_stop) z) (a.whose k l e)
 
-      all : flat_map stopping (events_of (entries v.seen)) ≡ house
-      all = only-of stopping 0 v.seen by-whose ∙ (ap (λ (es : List Entry). flat_map stopping (events_of es)) a.first ∙ (ap (flat_map stopping) a.first_events ∙ ticks-stop ticks house a.first_stop))
+      all : flat_map stopping (events_of (entries v.seen)) ≡ accepting
+      all = only-of stopping 0 v.seen by-whose ∙ (ap (λ (es : List Entry). flat_map stopping (events_of es)) a.first ∙ (ap (flat_map stopping) a.first_events ∙ ticks-stop ticks accepting a.first_stop))
 
   -- each entry is of the machine itself, or of one of so many links
   pub no-others : AllByRecursion (λ (e : Entry). entry_who e ≤ many) (entries v.seen)
@@ -225,8 +226,8 @@ module _ (v by : View Setup Entry) (ticks : List ℕ) (xs : List Hardware) (hous
       over (l ∷ ls) h = (h zero l refl, over ls (λ k m e. h (suc k) m e))
 
   -- where nobody was served and nothing was read, the stop is alone
-  pub alone : ticks ≡ [] → many ≡ 0 → by.mine ≡ [] → house ≡ Stop ∷ [] → events_of (entries v.seen) ≡ Stop ∷ []
-  alone no-ticks no-links nothing stop = ap events_of (whole v.seen by-whose) ∙ (ap events_of a.first ∙ (a.first_events ∙ (ap (λ (z : List ℕ). map tick z ++ house) no-ticks ∙ stop)))
+  pub alone : ticks ≡ [] → many ≡ 0 → by.mine ≡ [] → accepting ≡ Stop ∷ [] → events_of (entries v.seen) ≡ Stop ∷ []
+  alone no-ticks no-links nothing stop = ap events_of (whole v.seen by-whose) ∙ (ap events_of a.first ∙ (a.first_events ∙ (ap (λ (z : List ℕ). map tick z ++ accepting) no-ticks ∙ stop)))
     where
       empty : (n k : ℕ) (l : Numbered Entry) → get_elem? v.seen k ≡ some l → l.number ≡ n → of_pass n v.seen ≡ [] → ⊥
       empty n k l e is none = in-pass (λ (z : Entry). ⊥) n k l v.seen e is (subst (AllByRecursion (λ (z : Entry). ⊥)) (sym none) tt)

@@ -21,12 +21,12 @@ use Rattle.login_model.specs.declared.setup.Setup.{Setup}
 use Rattle.login_office.specs.declared.end.LinkEnd.{LinkEnd}
 use Rattle.replay.specs.Reporting.{full_line}
 use Rattle.desk.specs.History.{entries}
-use Rattle.desk.specs.Passes.{Closes}
+use Rattle.desk.specs.inner.Passes.{Closes}
 use Rattle.desk.specs.Views.{joined_of}
 use Rattle.desk.specs.declared.view.Joined.{Joined}
 use Rattle.desk.specs.declared.view.Numbered.{Numbered}
 use Rattle.desk.specs.declared.view.View.{View}
-use Rattle.desk.specs.inner.Appended.{entries_append}
+use Rattle.desk.proofs.Histories.{entries_append}
 use Rattle.link_serve.specs.Owners.{entry_who}
 use Rattle.login_prog.specs.Outcome.{BehindGo, BothTold, Change, GaveBack, Given, HasServed, IsFirstTrouble, IsLastReading, IsOpened, IsWellRead, TookTurns, WasFull, WasRefused, WasTaken, WasTicked, after_calls, change}
 use Rattle.login_prog.specs.inner.Causes.{Caused, IsEnding}
@@ -34,13 +34,13 @@ use Rattle.login_prog.specs.Script.{BrokenOff, CutAt, ReadSome, ReadToStop, Refu
 use Rattle.login_prog.specs.Served.{AreTicks, HasStopped, IsStopAlone, dropped_among, happened, hardware_of, last_tick, most_links, none, tick_length, ticked, ticks_of}
 use Rattle.login_prog.specs.inner.Endings.{last_line, status_of}
 use Rattle.replay.specs.Rising.{Rises}
-use Rattle.login_prog.specs.inner.House.{ArePlaced, Door, Far, FaultsSay, FullForTick, Goes, GoesUpTo, HasCalled, HasTrouble, KeepsAt, NoMore, Since, all_out, tick, with_end}
-use Rattle.login_prog.specs.inner.House.{WasClocked}
+use Rattle.login_prog.specs.inner.Accepting.{ArePlaced, Far, FaultsSay, FullForTick, Goes, GoesUpTo, HasCalled, HasTrouble, KeepsAt, Listened, NoMore, Since, all_out, tick, with_end}
+use Rattle.login_prog.specs.inner.Accepting.{WasClocked}
 use Rattle.login_prog.specs.inner.Input.{MayStop}
 use Rattle.login_prog.specs.inner.Input.{WasFullFor}
 use Rattle.login_prog.specs.inner.Left.{Finishes, HasLeft, IsUnserved, Took, Went}
 use Rattle.login_prog.specs.declared.serve.accepting.Child.{Child}
-use Rattle.login_prog.specs.declared.serve.accepting.House.{House}
+use Rattle.login_prog.specs.declared.serve.accepting.Accepting.{Accepting}
 use Rattle.login_prog.specs.declared.serve.reader_job.ReaderEnd.{ReaderEnd}
 use Rattle.login_prog.specs.declared.serve.reader_job.ReaderEnd.TheVariants as reader
 use Rattle.login_prog.specs.declared.serve.troubles.Troubles.{Troubles}
@@ -104,10 +104,10 @@ say-neither false before now started later h e = h
 -- ---- all
 
 module _ {L N P : Type 0} (number : L → ℕ) (talk : L → Option (List Exchange)) (left : L → Option (List ℕ)) (faults : L → ℕ) (spawner_faults : P → ℕ) (x : Since L) (count : ℕ) (all : Option (List ℕ)) (input : Change (Option (List ℕ)))
-    (door : Door L) (readings : Option Readings) (clock_faults : ℕ) (house : House L N P) (H : HasLeft number talk left faults spawner_faults x count input door readings clock_faults house)
+    (listened : Listened L) (readings : Option Readings) (clock_faults : ℕ) (accepting : Accepting L N P) (H : HasLeft number talk left faults spawner_faults x count input listened readings clock_faults accepting)
     (opened : IfSome all (λ text. (rest : List ℕ) × (input.old ≡ Some rest) × IsOpened text x.setup count rest)) (fresh : IfSome x.register (λ r. r.links ≡ []))
-    (J : List Entry) (closed : Closes entry_who house.pass.view x.setup J) (lawful : IsLawful x.setup J) where
-  abbrev before : House L N P
+    (J : List Entry) (closed : Closes entry_who accepting.pass.view x.setup J) (lawful : IsLawful x.setup J) where
+  abbrev before : Accepting L N P
   before = H.before
 
   abbrev far : Far
@@ -117,9 +117,9 @@ module _ {L N P : Type 0} (number : L → ℕ) (talk : L → Option (List Exchan
   own = before.troubles
 
   abbrev v : View Setup Entry
-  v = house.pass.view
+  v = accepting.pass.view
 
-  abbrev keeps : KeepsAt number talk left faults spawner_faults door x far [] before
+  abbrev keeps : KeepsAt number talk left faults spawner_faults listened x far [] before
   keeps = H.keeps
 
   abbrev many : ℕ
@@ -133,11 +133,11 @@ module _ {L N P : Type 0} (number : L → ℕ) (talk : L → Option (List Exchan
 
   -- ---- the passes
 
-  abbrev ends_are : house.ends.items ≡ before.ends.items
-  ends_are = ap (λ (h : House L N P). h.ends.items) H.leaves.same
+  abbrev ends_are : accepting.ends.items ≡ before.ends.items
+  ends_are = ap (λ (h : Accepting L N P). h.ends.items) H.leaves.same
 
-  troubles-are : house.troubles ≡ with_end H.reader_end own
-  troubles-are = ap (λ (h : House L N P). h.troubles) H.leaves.same
+  troubles-are : accepting.troubles ≡ with_end H.reader_end own
+  troubles-are = ap (λ (h : Accepting L N P). h.troubles) H.leaves.same
 
   more : SeesMore before.pass.view v
   more = joins-more before.pass.view H.by v H.leaves.joins
@@ -185,16 +185,16 @@ module _ {L N P : Type 0} (number : L → ℕ) (talk : L → Option (List Exchan
               let bound = keeps.pass.joined z.0 z.1 there in
               inr (subst (λ (n : ℕ). (0 < n) × (n ≤ many)) (sym is) bound)
 
-  abbrev house_events : List Event
-  house_events = keeps.ticked.last
+  abbrev own_events : List Event
+  own_events = keeps.ticked.last
 
-  pub whose : AreWhose v H.by far.ticks xs house_events last many
+  pub whose : AreWhose v H.by far.ticks xs own_events last many
   whose = record {
     whose = whose-at;
     first = closed.own.0;
     first_of = subst (λ (n : ℕ). AllByRecursion (λ (e : Entry). entry_who e ≡ n) v.mine) who-is (are-of v.who v.mine closed.own.1);
     first_events = ap events_of mine-is ∙ keeps.ticked.mine_is;
-    first_stop = may-stop house_events (HasTrouble own ⊎ (far.is_alone ≡ true)) keeps.ticked.stop;
+    first_stop = may-stop own_events (HasTrouble own ⊎ (far.is_alone ≡ true)) keeps.ticked.stop;
     second = H.leaves.joins.other_mine;
     second_of = reader-of;
     second_events = reader-events H.reader_end H.took;
@@ -202,10 +202,10 @@ module _ {L N P : Type 0} (number : L → ℕ) (talk : L → Option (List Exchan
   }
 
   hardware-is : hardware_of J ≡ xs
-  hardware-is = ap (λ (es : List Entry). hardware_of es) closed.journal_is ∙ all-hardware v H.by far.ticks xs house_events last many whose
+  hardware-is = ap (λ (es : List Entry). hardware_of es) closed.journal_is ∙ all-hardware v H.by far.ticks xs own_events last many whose
 
   ticks-are : ticks_of J ≡ far.ticks
-  ticks-are = ap (λ (es : List Entry). ticks_of es) closed.journal_is ∙ all-ticks v H.by far.ticks xs house_events last many whose
+  ticks-are = ap (λ (es : List Entry). ticks_of es) closed.journal_is ∙ all-ticks v H.by far.ticks xs own_events last many whose
 
   stop-there : IsSome (stop_from 1 (entries v.seen))
   stop-there = stopped-on before.pass.view v more (keeps.stopped H.stopped)
@@ -213,16 +213,16 @@ module _ {L N P : Type 0} (number : L → ℕ) (talk : L → Option (List Exchan
   pub stopped : HasStopped J
   stopped = has-stopped x.setup J lawful.legal (subst (λ (es : List Entry). IsSome (stop_from 1 es)) (sym closed.journal_is) stop-there)
 
-  pub others : AllByRecursion (λ (e : Entry). entry_who e ≤ length house.ends.items) J
+  pub others : AllByRecursion (λ (e : Entry). entry_who e ≤ length accepting.ends.items) J
   others = subst (λ (n : ℕ). AllByRecursion (λ (e : Entry). entry_who e ≤ n) J) (ap length (sym ends_are))
-      (subst (AllByRecursion (λ (e : Entry). entry_who e ≤ many)) (sym closed.journal_is) (no-others v H.by far.ticks xs house_events last many whose))
+      (subst (AllByRecursion (λ (e : Entry). entry_who e ≤ many)) (sym closed.journal_is) (no-others v H.by far.ticks xs own_events last many whose))
 
   -- the first pass has made the stop, where the reader has not
   own-stop : last ≡ [] → HasTrouble own ⊎ (far.is_alone ≡ true)
   own-stop unmade = ⊎_elim (λ e. absurd (nothing (sym e ∙ made))) (λ h. h.1) keeps.ticked.stop
     where
-      made : house_events ≡ Stop ∷ []
-      made = first-stopped v H.by far.ticks xs house_events last many whose unmade stop-there
+      made : own_events ≡ Stop ∷ []
+      made = first-stopped v H.by far.ticks xs own_events last many whose unmade stop-there
 
       nothing : [] ≡ Stop ∷ [] → ⊥
       nothing e = let z : ⊥ = cc in z
@@ -238,8 +238,8 @@ module _ {L N P : Type 0} (number : L → ℕ) (talk : L → Option (List Exchan
 
   pub alone-where : IsUnserved far own many H.reader_end → IsStopAlone J
   alone-where u =
-      one-stop J (ap events_of closed.journal_is ∙ alone v H.by far.ticks xs house_events last many whose u.no_ticks u.no_links (nothing-made H.reader_end H.took u.unread)
-      (first-stopped v H.by far.ticks xs house_events last many whose (nothing-last H.reader_end H.took u.unread) stop-there))
+      one-stop J (ap events_of closed.journal_is ∙ alone v H.by far.ticks xs own_events last many whose u.no_ticks u.no_links (nothing-made H.reader_end H.took u.unread)
+      (first-stopped v H.by far.ticks xs own_events last many whose (nothing-last H.reader_end H.took u.unread) stop-there))
 
   -- a reader that found the stop has made none
   last-stopped : (e : Option ReaderEnd) (k : Took x.setup count input H.by e) → e ≡ Some reader.Stopped → last_by x.setup count input H.by e k ≡ []
@@ -248,57 +248,57 @@ module _ {L N P : Type 0} (number : L → ℕ) (talk : L → Option (List Exchan
 
   -- where the calling thread had no trouble, the reader has made the stop; or nobody was served
   pub stopped-by : own.no_memory ≡ false → own.full ≡ None → own.listener_or_clock ≡ false → last ≡ [] → IsUnserved far own many H.reader_end
-  stopped-by memory full door unmade = ⊎_elim (λ u. u) (λ w. absurd (trouble w.0)) H.went
+  stopped-by memory full listened unmade = ⊎_elim (λ u. u) (λ w. absurd (trouble w.0)) H.went
     where
       trouble : far.is_alone ≡ false → ⊥
       trouble served = ⊎_elim
-          (λ t. ⊎_elim (λ m. true≢false (sym m ∙ memory)) (λ z. ⊎_elim (λ f. true≢false (sym f ∙ ap is_some full)) (λ d. true≢false (sym d ∙ door)) z) t)
+          (λ t. ⊎_elim (λ m. true≢false (sym m ∙ memory)) (λ z. ⊎_elim (λ f. true≢false (sym f ∙ ap is_some full)) (λ d. true≢false (sym d ∙ listened)) z) t)
           (λ a. true≢false (sym a ∙ served)) (own-stop unmade)
 
   pub not-stopped : own.no_memory ≡ false → own.full ≡ None → own.listener_or_clock ≡ false → H.reader_end ≡ Some reader.Stopped → ⊥
-  not-stopped memory full door is = true≢false (ap is_some (sym is ∙ (stopped-by memory full door (last-stopped H.reader_end H.took is)).unread))
+  not-stopped memory full listened is = true≢false (ap is_some (sym is ∙ (stopped-by memory full listened (last-stopped H.reader_end H.took is)).unread))
 
   -- what holds of the input behind `go`
   pub behind : (Q : ℕ → List ℕ → List Hardware → Type 0) → IfSome input.old (λ text. Q count text xs) → BehindGo all x.setup (λ c rest. Q c rest (hardware_of J))
   behind Q h = subst (λ (hs : List Hardware). BehindGo all x.setup (λ c rest. Q c rest hs)) (sym hardware-is) (behind-go x.setup count all input.old (λ c rest. Q c rest xs) opened h)
 
-  module _ (output errors : Change (Option (List ℕ))) (status : ℕ) (F : Finishes x.setup J house.ends.items house.troubles output errors status) where
+  module _ (output errors : Change (Option (List ℕ))) (status : ℕ) (F : Finishes x.setup J accepting.ends.items accepting.troubles output errors status) where
     abbrev at_last : Troubles
-    at_last = says.last_troubles x.setup J house.ends.items house.troubles output errors status F
+    at_last = says.last_troubles x.setup J accepting.ends.items accepting.troubles output errors status F
 
-    later : says.IsLater house.troubles at_last
-    later = says.later x.setup J house.ends.items house.troubles output errors status F
+    later : says.IsLater accepting.troubles at_last
+    later = says.later x.setup J accepting.ends.items accepting.troubles output errors status F
 
     abbrev n : ℕ
     n = status_of F.end
 
-    earlier : taken.IsBefore x.setup count input H.by own house.troubles keeps.untold
-    earlier = taken.before x.setup count input H.by own house.troubles keeps.untold H.reader_end troubles-are
+    earlier : taken.IsBefore x.setup count input H.by own accepting.troubles keeps.untold
+    earlier = taken.before x.setup count input H.by own accepting.troubles keeps.untold H.reader_end troubles-are
 
     -- the troubles without those of the writing
-    memory : (n ≡ 5 → ⊥) → house.troubles.no_memory ≡ false
+    memory : (n ≡ 5 → ⊥) → accepting.troubles.no_memory ≡ false
     memory m = later.memory (says.memory at_last F.end F.ends_so m)
 
-    unbroken : (n ≡ 3 → ⊥) → (n ≡ 5 → ⊥) → house.troubles.read_fault ≡ false
+    unbroken : (n ≡ 3 → ⊥) → (n ≡ 5 → ⊥) → accepting.troubles.read_fault ≡ false
     unbroken r m = sym later.read ∙ says.unbroken at_last F.end F.ends_so r m
 
-    few : (n ≡ 0) ⊎ ((n ≡ 8) ⊎ (n ≡ 4)) → says.HasFew house.troubles
+    few : (n ≡ 0) ⊎ ((n ≡ 8) ⊎ (n ≡ 4)) → says.HasFew accepting.troubles
     few h = let f = says.few-late at_last F.end F.ends_so h in record {
       memory = later.memory f.memory;
       read = sym later.read ∙ f.read;
       line = sym later.line ∙ f.line;
       full = sym later.full ∙ f.full;
-      door = sym later.door ∙ f.door;
+      listened = sym later.listened ∙ f.listened;
     }
 
     read-whole : (n ≡ 0) ⊎ ((n ≡ 8) ⊎ (n ≡ 4)) → (H.reader_end ≡ None) ⊎ IfSome input.old (λ text. ReadToStop text xs count)
     read-whole h =
         let f = few h in
-        taken.whole x.setup count input H.by own house.troubles keeps.untold H.reader_end H.took troubles-are f.memory f.read f.line f.full
-        (not-stopped (earlier.memory f.memory) (earlier.full f.full) (sym earlier.door ∙ f.door))
+        taken.whole x.setup count input H.by own accepting.troubles keeps.untold H.reader_end H.took troubles-are f.memory f.read f.line f.full
+        (not-stopped (earlier.memory f.memory) (earlier.full f.full) (sym earlier.listened ∙ f.listened))
 
     unserved-where : (n ≡ 0) ⊎ ((n ≡ 8) ⊎ (n ≡ 4)) → H.reader_end ≡ None → IsUnserved far own many H.reader_end
-    unserved-where h nobody = let f = few h in stopped-by (earlier.memory f.memory) (earlier.full f.full) (sym earlier.door ∙ f.door) (nothing-last H.reader_end H.took nobody)
+    unserved-where h nobody = let f = few h in stopped-by (earlier.memory f.memory) (earlier.full f.full) (sym earlier.listened ∙ f.listened) (nothing-last H.reader_end H.took nobody)
 
     -- where somebody was served
     started : (n ≡ 0) ⊎ (n ≡ 4) → H.reader_end ≡ None → ⊥
@@ -314,7 +314,7 @@ module _ {L N P : Type 0} (number : L → ℕ) (talk : L → Option (List Exchan
     well : (n ≡ 6) ⊎ (n ≡ 7) → (hardware_of J ≡ []) ⊎ IfSome input.old (λ text. IsWellRead text xs count)
     well h =
         ⊎_elim (λ nobody. inl (hardware-is ∙ nothing-read H.reader_end H.took nobody)) (λ z. inr z)
-        (taken.well-read x.setup count input H.by own house.troubles keeps.untold H.reader_end H.took troubles-are (memory no5) (unbroken no3 no5)
+        (taken.well-read x.setup count input H.by own accepting.troubles keeps.untold H.reader_end H.took troubles-are (memory no5) (unbroken no3 no5)
         (sym later.line ∙ says.unrefused at_last F.end F.ends_so no2 no3 no5))
       where
         no5 : n ≡ 5 → ⊥
@@ -342,11 +342,11 @@ module _ {L N P : Type 0} (number : L → ℕ) (talk : L → Option (List Exchan
           cause = r.cause;
           said = r.said;
           line = behind (λ c rest hs. RefusedAt rest hs c r.number r.cause)
-              (taken.refused x.setup count input H.by own house.troubles keeps.untold r.number r.cause H.reader_end H.took troubles-are (sym later.line ∙ r.refused));
+              (taken.refused x.setup count input H.by own accepting.troubles keeps.untold r.number r.cause H.reader_end H.took troubles-are (sym later.line ∙ r.refused));
         }
 
-        broke : n ≡ 3 → taken.BrokeOff x.setup count input H.by own house.troubles keeps.untold H.reader_end H.took
-        broke h = taken.broken x.setup count input H.by own house.troubles keeps.untold H.reader_end H.took troubles-are (sym later.read ∙ says.broken at_last F.end F.ends_so h)
+        broke : n ≡ 3 → taken.BrokeOff x.setup count input H.by own accepting.troubles keeps.untold H.reader_end H.took
+        broke h = taken.broken x.setup count input H.by own accepting.troubles keeps.untold H.reader_end H.took troubles-are (sym later.read ∙ says.broken at_last F.end F.ends_so h)
 
     -- ---- a full journal
 
@@ -369,7 +369,7 @@ module _ {L N P : Type 0} (number : L → ℕ) (talk : L → Option (List Exchan
                 let rest : List (Numbered Entry) = w.later ++ H.leaves.joins.other_is.0 in
                 let parted : v.seen ≡ front ++ rest = H.leaves.joins.other_is.1 ∙ (ap (λ (z : List (Numbered Entry)). z ++ H.leaves.joins.other_is.0) w.seen_is ∙ append_assoc front w.later H.leaves.joins.other_is.0) in
                 let picked : hardware_of (entries front) ≡ k.made =
-                hardware-in v H.by far.ticks xs house_events last many whose front rest parted
+                hardware-in v H.by far.ticks xs own_events last many whose front rest parted
                 ∙ (ap (flat_map happened) (w.own ∙ sym (append-nil (map Happens k.made))) ∙ hardware-picked k.made [] (inl refl)) in
                 record {
                   event = Happens w.next;
@@ -412,7 +412,7 @@ module _ {L N P : Type 0} (number : L → ℕ) (talk : L → Option (List Exchan
         let rest : List (Numbered Entry) = f.later ++ more.more in
         let parted : v.seen ≡ f.front ++ rest = more.seen_is ∙ (ap (λ (z : List (Numbered Entry)). z ++ more.more) f.seen_is ∙ append_assoc f.front f.later more.more) in
         let picked : ticks_of (entries f.front) ≡ far.ticks =
-        ticks-in v H.by far.ticks xs house_events last many whose f.front rest parted ∙ (ap (flat_map ticked) (f.behind ∙ sym (append-nil (map tick far.ticks))) ∙ ticks-picked far.ticks [] (inl refl)) in
+        ticks-in v H.by far.ticks xs own_events last many whose f.front rest parted ∙ (ap (flat_map ticked) (f.behind ∙ sym (append-nil (map tick far.ticks))) ∙ ticks-picked far.ticks [] (inl refl)) in
         record {
           event = Tick k.0;
           front = entries f.front;
@@ -429,7 +429,7 @@ module _ {L N P : Type 0} (number : L → ℕ) (talk : L → Option (List Exchan
     was-full h =
         let f = says.full at_last F.end F.ends_so h in
         ⊎_elim (λ r. line-full f.full_count H.reader_end H.took r f.said refl) (λ o. tick-full f.full_count o f.said)
-        (taken.full x.setup count input H.by own house.troubles keeps.untold f.full_count H.reader_end troubles-are (sym later.full ∙ f.full))
+        (taken.full x.setup count input H.by own accepting.troubles keeps.untold f.full_count H.reader_end troubles-are (sym later.full ∙ f.full))
 
     -- ---- the clock, the links, the loop
 
@@ -451,52 +451,52 @@ module _ {L N P : Type 0} (number : L → ℕ) (talk : L → Option (List Exchan
             record { readings = w.readings; given_is = w.given_is; ticks = subst (λ (ts : List ℕ). AreTicks 0 w.readings ts) (sym ticks-are) g.are_ticks }
 
     -- how many links came, where it is told
-    came : (s : Register L) → door.register ≡ Some s → length s.links ≡ before.came
-    came s is = if-told door.register s (λ r. length r.links ≡ door.given) is keeps.counted ∙ sym keeps.listed.came_is
+    came : (s : Register L) → listened.register ≡ Some s → length s.links ≡ before.came
+    came s is = if-told listened.register s (λ r. length r.links ≡ listened.given) is keeps.counted ∙ sym keeps.listed.came_is
 
-    pub gave-back : BothTold x.register door.register (GaveBack talk left faults n x.setup J house.ends.items)
-    gave-back = both-all x.register door.register (λ r s. HasCalled r.asked far.accepts s.asked) (GaveBack talk left faults n x.setup J house.ends.items) keeps.asked.asked (λ r s a b. record {
+    pub gave-back : BothTold x.register listened.register (GaveBack talk left faults n x.setup J accepting.ends.items)
+    gave-back = both-all x.register listened.register (λ r s. HasCalled r.asked far.accepts s.asked) (GaveBack talk left faults n x.setup J accepting.ends.items) keeps.asked.asked (λ r s a b. record {
       fresh = if-told x.register r (λ r. r.links ≡ []) a fresh;
-      each = given-back talk left faults x.setup v J (length house.ends.items) closed others s.links house.ends.items refl (within s b) (placed s b);
+      each = given-back talk left faults x.setup v J (length accepting.ends.items) closed others s.links accepting.ends.items refl (within s b) (placed s b);
       all = λ m. in-all s b (memory m) keeps.listed.all;
     })
       where
-        within : (s : Register L) → door.register ≡ Some s → length house.ends.items ≤ length s.links
+        within : (s : Register L) → listened.register ≡ Some s → length accepting.ends.items ≤ length s.links
         within s b = let e = ap length ends_are in let c = came s b in let w = keeps.listed.within in omega (arith, e, c, w)
 
-        placed : (s : Register L) → door.register ≡ Some s → ArePlaced talk left faults x.setup v [] s.links house.ends.items
+        placed : (s : Register L) → listened.register ≡ Some s → ArePlaced talk left faults x.setup v [] s.links accepting.ends.items
         placed s b =
             subst (λ (ends : List (Option LinkEnd)). ArePlaced talk left faults x.setup v [] s.links ends) (sym ends_are)
             (placed-on before.pass.view v more talk left faults x.setup [] s.links before.ends.items
             (subst (λ (cs : List (Child L)). ArePlaced talk left faults x.setup before.pass.view (all_out cs []) s.links before.ends.items) H.no_children
-            (if-told door.register s (λ r. ArePlaced talk left faults x.setup before.pass.view (all_out before.children.items []) r.links before.ends.items) b keeps.placed)))
+            (if-told listened.register s (λ r. ArePlaced talk left faults x.setup before.pass.view (all_out before.children.items []) r.links before.ends.items) b keeps.placed)))
 
-        in-all : (s : Register L) → door.register ≡ Some s → house.troubles.no_memory ≡ false → (many ≡ min before.came most_links) ⊎ ((own.no_memory ≡ true) × (before.is_closed ≡ true)) → length house.ends.items ≡ min (length s.links) most_links
+        in-all : (s : Register L) → listened.register ≡ Some s → accepting.troubles.no_memory ≡ false → (many ≡ min before.came most_links) ⊎ ((own.no_memory ≡ true) × (before.is_closed ≡ true)) → length accepting.ends.items ≡ min (length s.links) most_links
         in-all s b m (inl e) = ap length ends_are ∙ (e ∙ ap (λ (k : ℕ). min k most_links) (sym (came s b)))
         in-all s b m (inr e) = absurd (true≢false (sym e.0 ∙ earlier.memory m))
 
-    pub few-links : length house.ends.items ≤ most_links
+    pub few-links : length accepting.ends.items ≤ most_links
     few-links = subst (λ (k : ℕ). k ≤ most_links) (ap length (sym ends_are)) keeps.listed.few
 
-    spawner-same : spawner_faults before.spawner ≡ spawner_faults house.spawner
-    spawner-same = sym (ap (λ (h : House L N P). spawner_faults h.spawner) H.leaves.same)
+    spawner-same : spawner_faults before.spawner ≡ spawner_faults accepting.spawner
+    spawner-same = sym (ap (λ (h : Accepting L N P). spawner_faults h.spawner) H.leaves.same)
 
-    pub few-dropped : after_calls x.spawner_faults (dropped_among house.ends.items) ≤ spawner_faults house.spawner
+    pub few-dropped : after_calls x.spawner_faults (dropped_among accepting.ends.items) ≤ spawner_faults accepting.spawner
     few-dropped =
-        subst (λ (ends : List (Option LinkEnd)). after_calls x.spawner_faults (dropped_among ends) ≤ spawner_faults house.spawner) (sym ends_are)
-        (few-fewer x.spawner_faults (dropped_among before.ends.items) keeps.dropped.rises (length (all_out before.children.items [])) (spawner_faults house.spawner) keeps.dropped.few
+        subst (λ (ends : List (Option LinkEnd)). after_calls x.spawner_faults (dropped_among ends) ≤ spawner_faults accepting.spawner) (sym ends_are)
+        (few-fewer x.spawner_faults (dropped_among before.ends.items) keeps.dropped.rises (length (all_out before.children.items [])) (spawner_faults accepting.spawner) keeps.dropped.few
         (ap (λ (cs : List (Child L)). length (all_out cs [])) H.no_children) (subst (λ (k : ℕ). after_calls x.spawner_faults keeps.dropped.rises ≤ k) spawner-same keeps.dropped.rose))
 
     -- the loop made turns, or the stop is alone
-    turns-are : Went far own many H.reader_end → (n ≡ 5 → ⊥) → (IsStopAlone J × Rose x.spawner_faults (spawner_faults house.spawner)) ⊎ BothTold x.register door.register (λ r s. BothTold x.readings readings (TookTurns (Rose x.listener_faults door.faults) r s))
+    turns-are : Went far own many H.reader_end → (n ≡ 5 → ⊥) → (IsStopAlone J × Rose x.spawner_faults (spawner_faults accepting.spawner)) ⊎ BothTold x.register listened.register (λ r s. BothTold x.readings readings (TookTurns (Rose x.listener_faults listened.faults) r s))
     turns-are (inl u) m = inl (
       alone-where u,
       subst (λ (k : ℕ). Rose x.spawner_faults k) spawner-same
           (say-one own.spawn_fault x.spawner_faults (spawner_faults before.spawner) keeps.spawner (ap (λ (t : Troubles). t.spawn_fault) u.troubles)),
     )
     turns-are (inr w) m =
-        inr (both-on x.register door.register (λ r s. HasCalled r.asked far.accepts s.asked) (λ r s. BothTold x.readings readings (TookTurns (Rose x.listener_faults door.faults) r s))
-        (λ r s a b h. both-on x.readings readings (WasClocked far.turns far.ticks far.refused) (TookTurns (Rose x.listener_faults door.faults) r s) (λ q p c d k. record {
+        inr (both-on x.register listened.register (λ r s. HasCalled r.asked far.accepts s.asked) (λ r s. BothTold x.readings readings (TookTurns (Rose x.listener_faults listened.faults) r s))
+        (λ r s a b h. both-on x.readings readings (WasClocked far.turns far.ticks far.refused) (TookTurns (Rose x.listener_faults listened.faults) r s) (λ q p c d k. record {
           accepts = far.accepts;
           readings = far.turns;
           some = w.1;
@@ -508,11 +508,11 @@ module _ {L N P : Type 0} (number : L → ℕ) (talk : L → Option (List Exchan
         turned : 0 < far.turns
         turned = let above = w.1 in ⊎_elim (λ z. omega (arith, above, z)) (λ z. let le = z.1 in omega (arith, above, le)) keeps.asked.as_often
 
-        no-more : (s : Register L) → door.register ≡ Some s → NoMore before.came own.no_memory door.register → (s.closed ≡ true) ⊎ (length s.links ≡ 4294967295)
-        no-more s b z = ⊎_elim (λ k. absurd (true≢false (sym k ∙ earlier.memory (memory m)))) (λ k. ⊎_elim (λ c. inl (if-told door.register s (λ r. r.closed ≡ true) b c)) (λ c. inr (came s b ∙ c)) k) z
+        no-more : (s : Register L) → listened.register ≡ Some s → NoMore before.came own.no_memory listened.register → (s.closed ≡ true) ⊎ (length s.links ≡ 4294967295)
+        no-more s b z = ⊎_elim (λ k. absurd (true≢false (sym k ∙ earlier.memory (memory m)))) (λ k. ⊎_elim (λ c. inl (if-told listened.register s (λ r. r.closed ≡ true) b c)) (λ c. inr (came s b ∙ c)) k) z
 
-    door-by : own.listener_or_clock ≡ house.troubles.listener_or_clock
-    door-by = sym earlier.door
+    listened-by : own.listener_or_clock ≡ accepting.troubles.listener_or_clock
+    listened-by = sym earlier.listened
 
     -- ---- the whole
 
@@ -521,25 +521,25 @@ module _ {L N P : Type 0} (number : L → ℕ) (talk : L → Option (List Exchan
       input = change all input.new input.before input.now;
       output = output;
       errors = errors;
-      listener = change x.register door.register x.listener_faults door.faults;
+      listener = change x.register listened.register x.listener_faults listened.faults;
       clock = change x.readings readings x.clock_faults clock_faults;
-      spawner = change tt tt x.spawner_faults (spawner_faults house.spawner);
+      spawner = change tt tt x.spawner_faults (spawner_faults accepting.spawner);
     }
 
     first-trouble : IsFirstTrouble n it
     first-trouble = record {
-      input_steady = λ r m. taken.steady x.setup count input H.by own house.troubles keeps.untold H.reader_end H.took troubles-are (unbroken r m);
-      listener_steady = λ h. let k = say-neither own.listener_or_clock x.listener_faults door.faults x.clock_faults far.clock_faults keeps.listener_or_clock (door-by ∙ (few h).door) in (k.0, sym H.clock_faults_are ∙ k.1);
+      input_steady = λ r m. taken.steady x.setup count input H.by own accepting.troubles keeps.untold H.reader_end H.took troubles-are (unbroken r m);
+      listener_steady = λ h. let k = say-neither own.listener_or_clock x.listener_faults listened.faults x.clock_faults far.clock_faults keeps.listener_or_clock (listened-by ∙ (few h).listened) in (k.0, sym H.clock_faults_are ∙ k.1);
       spawner_steady = λ h. sym spawner-same ∙ say-none own.spawn_fault x.spawner_faults (spawner_faults before.spawner) keeps.spawner (sym earlier.spawn ∙ (sym later.spawn ∙ says.started at_last F.end F.ends_so h));
       outputs_steady = λ h. let d = says.done at_last F.end F.ends_so h in
-          says.all-steady x.setup J house.ends.items house.troubles output errors status F d.0 d.1 (says.memory at_last F.end F.ends_so (λ e. omega (arith, h, e)));
+          says.all-steady x.setup J accepting.ends.items accepting.troubles output errors status F d.0 d.1 (says.memory at_last F.end F.ends_so (λ e. omega (arith, h, e)));
     }
 
     served-so : HasServed talk left faults n it
     served-so = record {
       setup = x.setup;
       journal = J;
-      ends = house.ends.items;
+      ends = accepting.ends.items;
       last = last_line F.end;
       lawful = lawful;
       stopped = stopped;
@@ -551,18 +551,18 @@ module _ {L N P : Type 0} (number : L → ℕ) (talk : L → Option (List Exchan
       links = gave-back;
       dropped = λ m. few-dropped;
       turns = λ m. turns-are H.went m;
-      output = says.wrote-recording x.setup J house.ends.items house.troubles output errors status F;
-      errors = says.wrote-lines x.setup J house.ends.items house.troubles output errors status F;
+      output = says.wrote-recording x.setup J accepting.ends.items accepting.troubles output errors status F;
+      errors = says.wrote-lines x.setup J accepting.ends.items accepting.troubles output errors status F;
       last_is = says.last-line F.end;
       first = first-trouble;
     }
 
     caused-so : Caused n it
     caused-so = record {
-      read = λ h. (taken.broken x.setup count input H.by own house.troubles keeps.untold H.reader_end H.took troubles-are (sym later.read ∙ says.broken at_last F.end F.ends_so h)).failed;
-      write = λ h. says.why-unwritten x.setup J house.ends.items house.troubles output errors status F (earlier.written ∙ keeps.untold.write_fault) (says.unwritten at_last F.end F.ends_so h);
+      read = λ h. (taken.broken x.setup count input H.by own accepting.troubles keeps.untold H.reader_end H.took troubles-are (sym later.read ∙ says.broken at_last F.end F.ends_so h)).failed;
+      write = λ h. says.why-unwritten x.setup J accepting.ends.items accepting.troubles output errors status F (earlier.written ∙ keeps.untold.write_fault) (says.unwritten at_last F.end F.ends_so h);
       asked = λ h. ⊎_elim (λ z. inl z) (λ z. inr (subst (λ (k : ℕ). Rose x.clock_faults k) H.clock_faults_are z))
-          (say-some own.listener_or_clock x.listener_faults door.faults x.clock_faults far.clock_faults keeps.listener_or_clock (sym earlier.door ∙ (sym later.door ∙ says.door at_last F.end F.ends_so h)));
+          (say-some own.listener_or_clock x.listener_faults listened.faults x.clock_faults far.clock_faults keeps.listener_or_clock (sym earlier.listened ∙ (sym later.listened ∙ says.listened at_last F.end F.ends_so h)));
       started = λ h. subst (λ (k : ℕ). Rose x.spawner_faults k) spawner-same
           (say-one own.spawn_fault x.spawner_faults (spawner_faults before.spawner) keeps.spawner (sym earlier.spawn ∙ (sym later.spawn ∙ says.spawn at_last F.end F.ends_so h)));
     }

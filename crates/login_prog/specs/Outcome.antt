@@ -101,8 +101,8 @@ pub record NotServed {L : Type 0} (status : ℕ) (x : Given L) : Type 0 where
 
 -- ---- the input
 
--- where the input is told: it opens with this setup, and this holds of how many lines were read through `go`, and of what
--- follows them
+-- where the input is told: it opens with this setup, and this holds of how many lines were read through `go`, and of
+-- what follows them
 abbrev pub BehindGo : Option (List ℕ) → Setup → (ℕ → List ℕ → Type 0) → Type 0
 BehindGo input U P = IfSome input (λ text. (count : ℕ) × (rest : List ℕ) × IsOpened text U count rest × P count rest)
 
@@ -133,8 +133,8 @@ pub record IsNextTick (J front : List Entry) (event : Event) (clock : Change (Op
   pub behind : ticks_of front ≡ ticks_of J
   pub read : Told clock (IsLastReading moment.0 (ticks_of J))
 
--- the journal was full for an event of the input or of the clock, behind a front of it without the stop: the last line on
--- the errors says by which count
+-- the journal was full for an event of the input or of the clock, behind a front of it without the stop: the last line
+-- on the errors says by which count
 pub record WasFull (U : Setup) (J : List Entry) (last : List ℕ) (input : Option (List ℕ)) (clock : Change (Option Readings)) : Type 0 where
   pub event : Event
   pub front : List Entry
@@ -146,7 +146,8 @@ pub record WasFull (U : Setup) (J : List Entry) (last : List ℕ) (input : Optio
   pub full_is : full U front event ≡ Some full_count
   pub said : last ≡ full_line full_count
 
--- the lines of the input that were read have these events: through `stop`, or before a line that was read and has no entry
+-- the lines of the input that were read have these events: through `stop`, or before a line that was read and has no
+-- entry
 abbrev pub IsWellRead : List ℕ → List Hardware → ℕ → Type 0
 IsWellRead rest xs count = ReadToStop rest xs count ⊎ ((next : Hardware) × CutAt rest xs count next)
 
@@ -172,7 +173,8 @@ pub record WasTicked (J : List Entry) (q p : Readings) : Type 0 where
 abbrev pub after_calls : ℕ → ℕ → ℕ
 after_calls before calls = min (before + calls) (2 ^ 64 - 1)
 
--- the listener was asked, and the clock as often; once less where the listener failed, and oftener where no link came any more
+-- the listener was asked, and the clock as often; once less where the listener failed, and oftener where no link came
+-- any more
 pub record TookTurns {L : Type 0} (failed : Type 0) (r s : Register L) (q p : Readings) : Type 0 where
   pub accepts : ℕ
   pub readings : ℕ
@@ -209,7 +211,8 @@ pub record IsLastLine (status : ℕ) (last : List ℕ) : Type 0 where
 
 -- ---- the links
 
--- no link had come, and each that came was given back; but for want of memory each of the first has an end, or was dropped
+-- no link had come, and each that came was given back; but for want of memory each of the first has an end, or was
+-- dropped
 pub record GaveBack {L : Type 0} (talk : L → Option (List Exchange)) (left : L → Option (List ℕ)) (faults : L → ℕ) (status : ℕ) (U : Setup) (J : List Entry)
     (ends : List (Option LinkEnd)) (r s : Register L) : Type 0 where
   pub fresh : r.links ≡ []

@@ -46,8 +46,8 @@ abbrev pub last_tick : ℕ → List ℕ → ℕ
 last_tick last [] = last
 last_tick last (tick ∷ ticks) = last_tick tick ticks
 
--- the ticks behind one at a moment are the readings that were far enough behind the tick before, but maybe the last one:
--- it may have found the stop, a full journal or no memory
+-- the ticks behind one at a moment are the readings that were far enough behind the tick before, but maybe the last
+-- one: it may have found the stop, a full journal or no memory
 pub data AreTicks : ℕ → List ℕ → List ℕ → Type 0 where
   none : {last : ℕ} → AreTicks last [] []
   due : {last reading : ℕ} {readings ticks : List ℕ} → last + tick_length ≤ reading → AreTicks reading readings ticks → AreTicks last (reading ∷ readings) (reading ∷ ticks)
@@ -92,7 +92,8 @@ link_lines c (Some e ∷ ends) = link_line c e ++ link_lines (c + 1) ends
 link_lines c (None ∷ ends) = link_lines (c + 1) ends
 
 module _ {L : Type 0} (talk : L → Option (List Exchange)) (left : L → Option (List ℕ)) (faults : L → ℕ) (U : Setup) (J : List Entry) where
-  -- a link was given back: as it came and with no entry, where it has no line; else as its line says, by the whole journal
+  -- a link was given back: as it came and with no entry, where it has no line; else as its line says, by the whole
+  -- journal
   abbrev pub GivenBack : ℕ → Arrived L → L → Option LinkEnd → Type 0
   GivenBack c came back None = (back ≡ came.link) × (entries_of (record { 0 = c }) J ≡ [])
   GivenBack c came back (Some e) =

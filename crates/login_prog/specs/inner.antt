@@ -2,7 +2,7 @@
 pub mod Endings
 pub mod Input
 pub mod Jobs
-pub mod House
+pub mod Accepting
 pub mod Left
 pub mod Words
 pub mod Causes

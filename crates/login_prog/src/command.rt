@@ -19,8 +19,8 @@ use std::thread::Threads;
 
 /// Runs `login` with these words, and answers its status and what it was given of the outside. `replay` reads a
 /// recording from the input and writes its transcript to the output. `serve` reads a setup and events of the hardware,
-/// serves the links of the listener until the stop, and writes the recording of the run. Each status but 0 has its line on the
-/// errors.
+/// serves the links of the listener until the stop, and writes the recording of the run. Each status but 0 has its line
+/// on the errors.
 pub fn run<
     R: Wait + Threads + Sync,
     S: Source + Drop + Send,

@@ -1,5 +1,5 @@
-//! Tests that cross crates: whole runs of `login`, over a source and sinks in memory, and calls of the core, of the judge, of
-//! offices and of mail that runs do not show.
+//! Tests that cross crates: whole runs of `login`, over a source and sinks in memory, and calls of the core, of the
+//! judge, of offices and of mail that runs do not show.
 //!
 //! The texts of the cases are those of `login_cases`.
 #![tactic(auto)]

@@ -47,7 +47,8 @@ fn denied(count: u32) -> &'static [u8] {
     }
 }
 
-/// Connects so many connections, and goes on with this line: the last line of the transcript, the errors and the status.
+/// Connects so many connections, and goes on with this line: the last line of the transcript, the errors and the
+/// status.
 fn connect<R: Abort + Wait + Threads + Sync>(
     rt: &R,
     alloc: Global,

@@ -7,14 +7,14 @@ ghost use Rattle.wire_out.specs.Places.{place_of};
 use crate::lines::{is_mailable, play};
 use crate::playing::{finish, new_core};
 use login_base::{ConnId, NoMemory};
-use login_cases::mail::{CASES, Case};
+use login_cases::mail::{CASES, MailCase};
 use login_core::Core;
 use std::alloc::Global;
 use std::test::Fail;
 use wire_out::{Cursor, out_of};
 
 /// The mail by the core's journal behind the first messages.
-fn mail_of(alloc: Global, core: &Core, case: &Case) -> Result<Vec<u8>, NoMemory>
+fn mail_of(alloc: Global, core: &Core, case: &MailCase) -> Result<Vec<u8>, NoMemory>
     requires { IsMailable core.now.journal }
 {
     let bytes = out_of(alloc, core.journal(), ConnId(case.who), case.from)?;
@@ -22,7 +22,7 @@ fn mail_of(alloc: Global, core: &Core, case: &Case) -> Result<Vec<u8>, NoMemory>
 }
 
 /// Whether a case's events can be played, and its mail is what is expected.
-fn sends(alloc: Global, core: &mut Core, case: &Case) -> Result<bool, NoMemory> {
+fn sends(alloc: Global, core: &mut Core, case: &MailCase) -> Result<bool, NoMemory> {
     for line in case.events.split(|byte| *byte == b'\n') {
         if !play(alloc, core, line) {
             return Ok(false);
@@ -36,7 +36,7 @@ fn sends(alloc: Global, core: &mut Core, case: &Case) -> Result<bool, NoMemory> 
 }
 
 /// The same of a new core.
-fn is_sent(alloc: Global, case: &Case) -> Result<bool, NoMemory> {
+fn is_sent(alloc: Global, case: &MailCase) -> Result<bool, NoMemory> {
     let mut core = new_core(alloc)?;
     let sent = sends(alloc, &mut core, case);
     finish(core);
@@ -63,7 +63,7 @@ fn add_due(
 }
 
 /// Whether what is due behind each event of a case makes up its mail.
-fn dues(alloc: Global, core: &mut Core, case: &Case) -> Result<bool, NoMemory>
+fn dues(alloc: Global, core: &mut Core, case: &MailCase) -> Result<bool, NoMemory>
     requires { core.old.journal ≡ [] }
 {
     let mut cursor = Cursor::new(ConnId(case.who));
@@ -77,7 +77,7 @@ fn dues(alloc: Global, core: &mut Core, case: &Case) -> Result<bool, NoMemory>
 }
 
 /// The same of a new core.
-fn is_due(alloc: Global, case: &Case) -> Result<bool, NoMemory> {
+fn is_due(alloc: Global, case: &MailCase) -> Result<bool, NoMemory> {
     let mut core = new_core(alloc)?;
     let due = dues(alloc, &mut core, case);
     finish(core);

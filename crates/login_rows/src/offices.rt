@@ -1,5 +1,5 @@
-// What no clause can show: that tellers hear, and that an office opens links, hears them and has mail for them, where there is
-// memory.
+// What no clause can show: that tellers hear, and that an office opens links, hears them and has mail for them, where
+// there is memory.
 
 mod cases;
 mod playing;

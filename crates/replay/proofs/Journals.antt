@@ -20,14 +20,14 @@ one_entry U before e f h k same =
     λ i. record { event = same i; verdict = verdicts i; answer = answers i; marks = marks i }
 
 -- what goes on behind the same entries
-pub record GoesOn (all es : List Entry) (more : List Event) : Type 0 where
+pub record JournalGoesOn (all es : List Entry) (more : List Event) : Type 0 where
   pub rest : List Entry
   pub is : all ≡ es ++ rest
   pub events : events_of rest ≡ more
 
 -- a legal journal whose events begin with those of another begins with that one
 pub journal_goes_on : (U : Setup) (before all es : List Entry) (more : List Event) → IsLegalAfter U before all → IsLegalAfter U before es
-    → events_of all ≡ events_of es ++ more → GoesOn all es more
+    → events_of all ≡ events_of es ++ more → JournalGoesOn all es more
 journal_goes_on U before all [] more h k e = record { rest = all; is = refl; events = e }
 journal_goes_on U before [] (e ∷ es) more h k same = cc
 journal_goes_on U before (a ∷ all) (e ∷ es) more h k same =

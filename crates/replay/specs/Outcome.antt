@@ -31,7 +31,8 @@ pub record IsRecordingText (text : List ℕ) : Type 0 where
   pub read : AreReadAs (cut text) (recording preamble played)
   pub within : length (recording preamble played) ≤ most_lines
 
--- the text is a recording, its journal has what every legal journal has, it was read to its end, and its transcript was written
+-- the text is a recording, its journal has what every legal journal has, it was read to its end, and its transcript was
+-- written
 pub record Replayed (text : List ℕ) (left before after : Option (List ℕ)) : Type 0 where
   pub recorded : IsRecordingText text
   pub lawful : IsLawful (setup_of recorded.preamble) (journal_of recorded.played)

@@ -1,3 +1,4 @@
+-- What serves private functions and models: how a replay stands, and what each line does to it.
 pub mod Ahead
 pub mod Opening
 pub mod Placing

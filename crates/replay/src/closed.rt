@@ -26,7 +26,8 @@ pub fn not_begun_number(why: Unbegun) -> u32
     }
 }
 
-/// Puts what follows the number of a link that has ended so at the end of a text, through the line feed, without memory.
+/// Puts what follows the number of a link that has ended so at the end of a text, through the line feed, without
+/// memory.
 fn push_end(out: &mut Vec<u8>, end: LinkEnd)
     requires room { vec_len out.old + end_room ≤ vec_capacity out.old }
     ensures items { out.new.items ≡ out.old.items ++ end_text end }

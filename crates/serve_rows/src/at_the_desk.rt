@@ -78,27 +78,28 @@ enum Deed {
     Stop,
 }
 
-/// A link that makes no call, and does something at the desk while it is read for the second time, when nothing is there.
+/// A link that makes no call, and does something at the desk while it is read for the second time, when nothing is
+/// there.
 #[derive(Drop)]
 struct Idle<'a, R> {
     site: &'a Site<'a, R>,
-    house: PassOfCore,
+    opened: PassOfCore,
     deed: Deed,
     reads: u32,
     said: Vec<u8>,
-    ghost fits: { house.desk ≡ site.now.desk.now },
-    ghost who: { house.view.who ≡ 0 },
+    ghost fits: { opened.desk ≡ site.now.desk.now },
+    ghost who: { opened.view.who ≡ 0 },
 }
 
 impl<'a, R: Wait> Idle<'a, R> {
     /// A link that does this by the first pass of the desk.
-    fn new(site: &'a Site<'a, R>, house: PassOfCore, deed: Deed) -> Idle<'a, R>
-        requires desk { house.desk ≡ site.now.desk.now }
-        requires who { house.view.who ≡ 0 }
+    fn new(site: &'a Site<'a, R>, opened: PassOfCore, deed: Deed) -> Idle<'a, R>
+        requires desk { opened.desk ≡ site.now.desk.now }
+        requires who { opened.view.who ≡ 0 }
     {
         Idle {
             site,
-            house,
+            opened,
             deed,
             reads: 0,
             said: Vec::new(site.alloc),
@@ -110,9 +111,9 @@ impl<'a, R: Wait> Idle<'a, R> {
         match self.deed {
             Deed::Switch => {
                 let event = Event::Hardware(Hardware::VtKey(3));
-                let _ = step_event(rt, desk, &OpenGate, &mut self.house, event);
+                let _ = step_event(rt, desk, &OpenGate, &mut self.opened, event);
             }
-            Deed::Stop => stop(rt, desk, &OpenGate, &mut self.house),
+            Deed::Stop => stop(rt, desk, &OpenGate, &mut self.opened),
         }
     }
 
@@ -279,12 +280,12 @@ fn add_devices<R: Wait>(
     rt: &R,
     alloc: Global,
     desk: &DeskOfCore,
-    house: &mut PassOfCore,
+    opened: &mut PassOfCore,
 ) -> Result<(), Fail>
-    requires desk { house.old.desk ≡ desk.now }
-    requires who { house.old.view.who ≡ 0 }
-    ensures desk { house.new.desk ≡ house.old.desk }
-    ensures who { house.new.view.who ≡ 0 }
+    requires desk { opened.old.desk ≡ desk.now }
+    requires who { opened.old.view.who ≡ 0 }
+    ensures desk { opened.new.desk ≡ opened.old.desk }
+    ensures who { opened.new.view.who ≡ 0 }
 {
     let drm = DevNo {
         major: 226,
@@ -296,8 +297,8 @@ fn add_devices<R: Wait>(
     };
     let seat = Boxed::new(alloc, SeatName::SEAT0)?;
     let same = Boxed::new(alloc, SeatName::SEAT0)?;
-    add(rt, desk, house, drm, DevKind::Drm, seat);
-    add(rt, desk, house, evdev, DevKind::Evdev, same);
+    add(rt, desk, opened, drm, DevKind::Drm, seat);
+    add(rt, desk, opened, evdev, DevKind::Evdev, same);
     Ok(())
 }
 
@@ -305,36 +306,36 @@ fn add_devices<R: Wait>(
 fn add<R: Wait>(
     rt: &R,
     desk: &DeskOfCore,
-    house: &mut PassOfCore,
+    opened: &mut PassOfCore,
     device: DevNo,
     kind: DevKind,
     seat: Boxed<SeatName>,
 )
-    requires desk { house.old.desk ≡ desk.now }
-    requires who { house.old.view.who ≡ 0 }
-    ensures desk { house.new.desk ≡ house.old.desk }
-    ensures who { house.new.view.who ≡ 0 }
+    requires desk { opened.old.desk ≡ desk.now }
+    requires who { opened.old.view.who ≡ 0 }
+    ensures desk { opened.new.desk ≡ opened.old.desk }
+    ensures who { opened.new.view.who ≡ 0 }
 {
     seat.get().tell_name();
     let event = Event::Hardware(Hardware::Add(device, kind, seat));
-    let _ = step_event(rt, desk, &OpenGate, house, event);
+    let _ = step_event(rt, desk, &OpenGate, opened, event);
 }
 
-/// The link of root, which creates two sessions. While it is read, that of the first session's user is served, while that
-/// one is read, that of the second's, and while this is read, an idle one.
+/// The link of root, which creates two sessions. While it is read, that of the first session's user is served, while
+/// that one is read, that of the second's, and while this is read, an idle one.
 fn four_links<'a, R: Wait>(
     site: &'a Site<'a, R>,
-    house: PassOfCore,
+    opened: PassOfCore,
     second: PassOfCore,
     third: PassOfCore,
     fourth: PassOfCore,
 ) -> Speaking<'a, R, Speaking<'a, R, Speaking<'a, R, Idle<'a, R>>>>
-    requires house { (house.desk ≡ site.now.desk.now) × (house.view.who ≡ 0) }
+    requires opened { (opened.desk ≡ site.now.desk.now) × (opened.view.who ≡ 0) }
     requires second { (second.desk ≡ site.now.desk.now) × (0 < second.view.who) × (second.view.mine ≡ []) }
     requires third { (third.desk ≡ site.now.desk.now) × (0 < third.view.who) × (third.view.mine ≡ []) }
     requires fourth { (fourth.desk ≡ site.now.desk.now) × (0 < fourth.view.who) × (fourth.view.mine ≡ []) }
 {
-    let idle = Idle::new(site, house, Deed::Switch);
+    let idle = Idle::new(site, opened, Deed::Switch);
     let idle = Guest::new(site, fourth, idle, Uid(0));
     let bob = Speaking::new([CONTROL_SECOND, NO_CALL], idle);
     let bob = Guest::new(site, third, bob, Uid(1001));
@@ -343,25 +344,25 @@ fn four_links<'a, R: Wait>(
     Speaking::new([CREATE_FIRST, CREATE_SECOND], alice)
 }
 
-/// A link that makes no call is told what another brought about before it is read again: two sessions are there, each with a
-/// client that controls it, and the terminal of the active one is switched away from.
+/// A link that makes no call is told what another brought about before it is read again: two sessions are there, each
+/// with a client that controls it, and the terminal of the active one is switched away from.
 #[test]
 fn idle_link_is_told_before_its_next_read(rt: HostRuntime) -> Result<(), Fail> {
     let alloc = rt.alloc();
     let seen = Seen::new();
-    let (desk, mut house) = Desk::open(alloc, core(alloc)?)?;
-    let mut first = desk.split(&mut house, ConnId(1));
-    let second = desk.split(&mut house, ConnId(2));
-    let third = desk.split(&mut house, ConnId(3));
-    let fourth = desk.split(&mut house, ConnId(4));
-    add_devices(&rt, alloc, &desk, &mut house)?;
+    let (desk, mut opened) = Desk::open(alloc, core(alloc)?)?;
+    let mut first = desk.split(&mut opened, ConnId(1));
+    let second = desk.split(&mut opened, ConnId(2));
+    let third = desk.split(&mut opened, ConnId(3));
+    let fourth = desk.split(&mut opened, ConnId(4));
+    add_devices(&rt, alloc, &desk, &mut opened)?;
     let site = Site {
         rt: &rt,
         alloc,
         desk: &desk,
         seen: &seen,
     };
-    let mut root = four_links(&site, house, second, third, fourth);
+    let mut root = four_links(&site, opened, second, third, fourth);
     let end = serve_link(&rt, alloc, &desk, &mut first, &mut root, Uid(0), &OpenGate);
     assert_eq!(rt; end, LinkEnd::Closed);
     assert_eq!(rt; seen.closed.load(Ordering::SeqCst), 3);
@@ -375,15 +376,15 @@ fn idle_link_is_told_before_its_next_read(rt: HostRuntime) -> Result<(), Fail> {
 fn idle_link_ends_at_the_stop(rt: HostRuntime) -> Result<(), Fail> {
     let alloc = rt.alloc();
     let seen = Seen::new();
-    let (desk, mut house) = Desk::open(alloc, core(alloc)?)?;
-    let mut pass = desk.split(&mut house, ConnId(1));
+    let (desk, mut opened) = Desk::open(alloc, core(alloc)?)?;
+    let mut pass = desk.split(&mut opened, ConnId(1));
     let site = Site {
         rt: &rt,
         alloc,
         desk: &desk,
         seen: &seen,
     };
-    let mut idle = Idle::new(&site, house, Deed::Stop);
+    let mut idle = Idle::new(&site, opened, Deed::Stop);
     let end = serve_link(&rt, alloc, &desk, &mut pass, &mut idle, Uid(0), &OpenGate);
     assert_eq!(rt; end, LinkEnd::Stopped(2));
     assert_eq!(rt; seen.reads.load(Ordering::SeqCst), 2);

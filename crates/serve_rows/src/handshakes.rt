@@ -46,7 +46,7 @@ pub const CONTROL_FIRST: &[u8] =
 pub const CONTROL_SECOND: &[u8] =
     b"l\x01\0\x01\x04\0\0\0\x01\0\0\0t\0\0\0\x01\x01o\0\"\0\0\0/org/freedesktop/login1/session/c2\0\0\0\0\0\0\x02\x01s\0\x1e\0\0\0org.freedesktop.login1.Session\0\0\x08\x01g\0\x01b\0\0\x03\x01s\0\x0b\0\0\0TakeControl\0\0\0\0\0\0\0\0\0";
 
-/// What a client is sent first where seat0 has no active session any more, which c1 was: that c1 is not active, and that no
-/// session is the seat's. libdbus wrote it.
+/// What a client is sent first where seat0 has no active session any more, which c1 was: that c1 is not active, and
+/// that no session is the seat's. libdbus wrote it.
 pub const SWITCHED_AWAY: &[u8] =
     b"l\x04\0\x01@\0\0\0\x01\0\0\0\x96\0\0\0\x01\x01o\0\"\0\0\0/org/freedesktop/login1/session/c1\0\0\0\0\0\0\x02\x01s\0\x1f\0\0\0org.freedesktop.DBus.Properties\0\x03\x01s\0\x11\0\0\0PropertiesChanged\0\0\0\0\0\0\0\x07\x01s\0\x04\0\0\0:1.0\0\0\0\0\x08\x01g\0\x08sa{sv}as\0\0\0\x1e\0\0\0org.freedesktop.login1.Session\0\0\x14\0\0\0\x06\0\0\0Active\0\x01b\0\0\0\0\0\0\0\0\0\0\0l\x04\0\x01T\0\0\0\x02\0\0\0\x96\0\0\0\x01\x01o\0\"\0\0\0/org/freedesktop/login1/seat/seat0\0\0\0\0\0\0\x02\x01s\0\x1f\0\0\0org.freedesktop.DBus.Properties\0\x03\x01s\0\x11\0\0\0PropertiesChanged\0\0\0\0\0\0\0\x07\x01s\0\x04\0\0\0:1.0\0\0\0\0\x08\x01g\0\x08sa{sv}as\0\0\0\x1b\0\0\0org.freedesktop.login1.Seat\0&\0\0\0\0\0\0\0\x0d\0\0\0ActiveSession\0\x04(so)\0\0\0\0\0\0\0\0\0\x01\0\0\0/\0\0\0\0\0\0\0";

@@ -117,8 +117,9 @@ fn clock(alloc: Global, fails: Fails, bell: &Bell) -> Result<MemClock, NoMemory>
     MemClock::new(alloc, readings, fails, Some(bell.share()))
 }
 
-/// Serves two links. The second call of the first waits until the first call of the second was answered. The stop waits until
-/// both have hung up; where a call fails that keeps one from being served, it waits for the other, or for the clock that fails.
+/// Serves two links. The second call of the first waits until the first call of the second was answered. The stop waits
+/// until both have hung up; where a call fails that keeps one from being served, it waits for the other, or for the
+/// clock that fails.
 fn serve_two<R: Wait + Threads + Sync>(
     rt: &R,
     alloc: Global,
@@ -145,7 +146,8 @@ fn serve_two<R: Wait + Threads + Sync>(
     }
 }
 
-/// What a run leaves whose calls of the outside fail so. The links that were let in are those with an entry of their connect.
+/// What a run leaves whose calls of the outside fail so. The links that were let in are those with an entry of their
+/// connect.
 struct Case {
     fails: Fails,
     status: u8,

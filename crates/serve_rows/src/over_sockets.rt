@@ -381,8 +381,8 @@ fn serve_and_look<R: Abort + Threads + Wait + Sync>(
     }
 }
 
-/// As many links as may be connected make calls beside each other in threads; one more is turned away. The recording of the run
-/// plays again, to as many entries.
+/// As many links as may be connected make calls beside each other in threads; one more is turned away. The recording of
+/// the run plays again, to as many entries.
 #[test]
 fn links_are_served_over_sockets(rt: HostRuntime) -> Result<(), Fail> {
     serve_and_look(&rt, &rt, "beside", Clients::CallBeside)

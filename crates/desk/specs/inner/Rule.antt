@@ -1,5 +1,6 @@
 -- What holds between any two steps on the desk's table.
--- Word 0 counts the tickets drawn, and word 1 those served, both modulo 2 ^ 64. The one slot has the value, which is out with the seat whose ticket is served from its look until it publishes.
+-- Word 0 counts the tickets drawn, and word 1 those served, both modulo 2 ^ 64. The one slot has the value, which is
+-- out with the seat whose ticket is served from its look until it publishes.
 use Rattle.std.specs.Prelude.{◌≡◌, ℕ, ◌+◌, ◌-◌, ◌%◌, ◌^◌, ◌<◌, ◌≤◌, ◌⊎◌, List, [], ◌∷◌, length, Option, Some}
 use mathlib.Core.Option.{some, none}
 use mathlib.Core.Option as maybe
@@ -61,7 +62,8 @@ module _ {S E : Type 0} (who_of : E → ℕ) where
 abbrev pub Covered : {S E : Type 0} → List (Numbered E) → List (View S E) → Type 0
 Covered {S} {E} history views = (j : ℕ) × (v : View S E) × (get_elem? views j ≡ some v) × (live_count v.stage ≡ 1) × ((v.seen ≡ history) ⊎ (v.inherited ≡ history))
 
--- the seat j stands in the queue with this ticket; the queue has the seats that have one, in order, from the one that is served on
+-- the seat j stands in the queue with this ticket; the queue has the seats that have one, in order, from the one that
+-- is served on
 abbrev pub Queued : List ℕ → ℕ → ℕ → ℕ → Type 0
 Queued queue serving j t = (serving ≤ t) × (get_elem? queue (t - serving) ≡ some j)
 

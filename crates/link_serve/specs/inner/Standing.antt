@@ -30,8 +30,8 @@ use Rattle.link_serve.specs.Owners.{entries_of, events_heard, is_open, was_denie
 use Rattle.link_serve.specs.Serving.{Came, Causes, FaultsAt, IsShort, IsShown, Prompt, SaidAt, SaidThrough, has_hung_up, is_cut, is_hang_up, is_too_many}
 use Rattle.link_serve.specs.declared.serving.Progress.{Progress}
 
--- a link and its pass at a moment: what the pass knows, what was heard and said, what is left to come, and how many calls of
--- the link failed
+-- a link and its pass at a moment: what the pass knows, what was heard and said, what is left to come, and how many
+-- calls of the link failed
 pub record Moment : Type 0 where
   pub view : View Setup Entry
   pub talk : Option (List Exchange)
@@ -82,8 +82,8 @@ module _ (u : Uid) (start now : Moment) where
     pub prompt : Prompt (who_of start) u U.guid (entries now.view.seen) [] [] talk
     pub in_journal : entries_of (who_of start) (entries now.view.seen) ≡ now.view.mine
 
-  -- these bytes were heard, these events made, and what is due to these was said; the teller has fetched the mail by a front
-  -- of what the pass has seen
+  -- these bytes were heard, these events made, and what is due to these was said; the teller has fetched the mail by a
+  -- front of what the pass has seen
   pub record Stands (teller : TellerState) (text : List ℕ) (made told : List Event) : Type 0 where
     pub setup : Setup
     pub talk : List Exchange

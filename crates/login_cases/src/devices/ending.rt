@@ -190,7 +190,8 @@ end 15
 ",
 );
 
-/// The session that is switched to ends: nobody's pause ends with it, and a getty is asked for on its terminal as the switch completes.
+/// The session that is switched to ends: nobody's pause ends with it, and a getty is asked for on its terminal as the
+/// switch completes.
 const TARGET_ENDED: Piece = (
     "\
 call 1 3 terminate c2

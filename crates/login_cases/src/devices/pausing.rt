@@ -118,7 +118,8 @@ end 18
 ",
 );
 
-/// The switch goes to another terminal and is withdrawn; an acknowledgement that comes late does nothing, and one counts for a later pause.
+/// The switch goes to another terminal and is withdrawn; an acknowledgement that comes late does nothing, and one
+/// counts for a later pause.
 const WITHDRAWN: Piece = (
     "\
 call 2 4 paused c1 13 64
@@ -231,7 +232,8 @@ end 20
 ",
 );
 
-/// The switch goes to another terminal twice, and once to the same; it is withdrawn by a call, and then nothing is pending. A device that was let go of comes back with a fresh handle.
+/// The switch goes to another terminal twice, and once to the same; it is withdrawn by a call, and then nothing is
+/// pending. A device that was let go of comes back with a fresh handle.
 const REPLACED_TWICE: Piece = (
     "\
 vtkey 3
@@ -371,7 +373,8 @@ end 23
 ",
 );
 
-/// A device that was let go of is given back and taken again, all while the switch is pending: it is live, and its pause is not awaited.
+/// A device that was let go of is given back and taken again, all while the switch is pending: it is live, and its
+/// pause is not awaited.
 const TAKEN_AGAIN: Piece = (
     "\
 call 2 4 paused c1 13 64

@@ -92,8 +92,8 @@ pub record HasRead (v w : View Setup Entry) (all left : Option (List ℕ)) (was 
   pub text : WereRead all (hardware_lines made) left
   pub steady : now ≡ was
 
--- behind a front of what was seen, which had no stop, and all that this pass had made, the journal was full for the event of
--- the next line
+-- behind a front of what was seen, which had no stop, and all that this pass had made, the journal was full for the
+-- event of the next line
 pub record WasFullFor (U : Setup) (before number : ℕ) (seen : List (Numbered Entry)) (made : List Event) (xs : List Hardware) (all : Option (List ℕ)) (count : Fullness) : Type 0 where
   pub next : Hardware
   pub there : IfSome all (λ text. CutAt text xs before next)

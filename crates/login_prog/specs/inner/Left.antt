@@ -16,17 +16,18 @@ use Rattle.recording.specs.Recorded.{recording_text}
 use Rattle.recording.specs.Reading.{left_to}
 use Rattle.replay.specs.Outcome.{Broken, RefusedAt}
 use Rattle.replay.specs.Recording.{most_lines}
-use Rattle.desk.specs.Passes.{Closes, JoinsPass}
+use Rattle.desk.specs.Passes.{JoinsPass}
+use Rattle.desk.specs.inner.Passes.{Closes}
 use Rattle.desk.specs.Views.{first_view, split_view}
 use Rattle.desk.specs.declared.view.View.{View}
 use Rattle.link_serve.specs.Owners.{entry_who}
 use Rattle.login_prog.specs.Outcome.{BothTold, Change, IsOpened, IsSteady}
 use Rattle.login_prog.specs.Served.{link_lines}
 use Rattle.login_prog.specs.inner.Endings.{EndsSo, ReportsEnd, status_of}
-use Rattle.login_prog.specs.inner.House.{Door, Far, KeepsAt, Since, no_troubles, with_end}
-use Rattle.login_prog.specs.inner.House.{WasClocked}
+use Rattle.login_prog.specs.inner.Accepting.{Far, KeepsAt, Listened, Since, no_troubles, with_end}
+use Rattle.login_prog.specs.inner.Accepting.{WasClocked}
 use Rattle.login_prog.specs.inner.Input.{WasRead}
-use Rattle.login_prog.specs.declared.serve.accepting.House.{House}
+use Rattle.login_prog.specs.declared.serve.accepting.Accepting.{Accepting}
 use Rattle.login_prog.specs.declared.serve.reader_job.ReaderEnd.{ReaderEnd}
 use Rattle.login_prog.specs.declared.serve.troubles.ServeEnd.{ServeEnd}
 use Rattle.login_prog.specs.declared.serve.troubles.ServeEnd.TheVariants as end
@@ -77,17 +78,18 @@ abbrev pub Went : Far → Troubles → (many : ℕ) → Option ReaderEnd → Typ
 Went far t many e = IsUnserved far t many e ⊎ ((far.is_alone ≡ false) × (0 < far.accepts))
 
 -- the pass of the reader was joined last
-pub record Leaves {L N P : Type 0} (before : House L N P) (by : View Setup Entry) (e : Option ReaderEnd) (after : House L N P) : Type 0 where
+pub record Leaves {L N P : Type 0} (before : Accepting L N P) (by : View Setup Entry) (e : Option ReaderEnd) (after : Accepting L N P) : Type 0 where
   pub joins : JoinsPass before.pass.view by after.pass.view
   pub desk_is : after.pass.desk ≡ before.pass.desk
   pub same : after ≡ record before { pass = after.pass; troubles = with_end e before.troubles }
 
 module _ {L N P : Type 0} (number : L → ℕ) (talk : L → Option (List Exchange)) (left : L → Option (List ℕ)) (faults : L → ℕ) (spawner_faults : P → ℕ) where
-  -- what serving leaves of what stood at the start: every link was given back, and then the pass of the reader was joined
-  pub record HasLeft (x : Since L) (count : ℕ) (input : Change (Option (List ℕ))) (door : Door L) (readings : Option Readings) (clock_faults : ℕ) (house : House L N P) : Type 0 where
-    pub before : House L N P
+  -- what serving leaves of what stood at the start: every link was given back, and then the pass of the reader was
+  -- joined
+  pub record HasLeft (x : Since L) (count : ℕ) (input : Change (Option (List ℕ))) (listened : Listened L) (readings : Option Readings) (clock_faults : ℕ) (accepting : Accepting L N P) : Type 0 where
+    pub before : Accepting L N P
     pub far : Far
-    pub keeps : KeepsAt number talk left faults spawner_faults door x far [] before
+    pub keeps : KeepsAt number talk left faults spawner_faults listened x far [] before
     pub no_children : before.children.items ≡ []
     pub stopped : far.is_stopped ≡ true
     pub clock : BothTold x.readings readings (WasClocked far.turns far.ticks far.refused)
@@ -96,7 +98,7 @@ module _ {L N P : Type 0} (number : L → ℕ) (talk : L → Option (List Exchan
     pub by : View Setup Entry
     pub took : Took x.setup count input by reader_end
     pub went : Went far before.troubles (length before.ends.items) reader_end
-    pub leaves : Leaves before by reader_end house
+    pub leaves : Leaves before by reader_end accepting
 
 -- ---- the recording
 

@@ -3,7 +3,7 @@
 ghost use Rattle.std.specs.Prelude.{◌≡◌, ◌+◌, ◌<◌, ◌≤◌, ◌⊎◌, ◌∷◌, [], ℕ, Bool, List, Option, IfOk, None, true, false, vec_len, vec_capacity};
 ghost use Rattle.link_serve.specs.Turned.{StopTells};
 ghost use Rattle.login_prog.specs.Served.{most_links, tick_length};
-ghost use Rattle.login_prog.specs.inner.House.{Accepts, Comes, Door, Far, HasCome, HasKept, HasReturned, HasTurning, Held, IsBegun, IsClock, Keeps, MayStopAfter, Reads, Returns, Since, TickGives, Turned, Turning, asked_once, failing, stopped_now};
+ghost use Rattle.login_prog.specs.inner.Accepting.{Accepts, Comes, Far, HasCome, HasKept, HasReturned, HasTurning, Held, IsBegun, IsClock, Keeps, Listened, MayStopAfter, Reads, Returns, Since, TickGives, Turned, Turning, asked_once, failing, stopped_now};
 
 use crate::serve::link_job::{DoneBell, LinkJob, LinkNote, LinkOut};
 use crate::serve::troubles::Troubles;
@@ -50,7 +50,7 @@ pub struct Child<L: Link> {
 
 /// What the calling thread has while links are served.
 #[derive(Drop)]
-pub struct House<L: Link, N, P> {
+pub struct Accepting<L: Link, N, P> {
     pub pass: PassOfCore,
     pub listener: N,
     pub spawner: P,
@@ -102,7 +102,7 @@ fn prepare<L: Link>(
     Ok((here, there))
 }
 
-impl<L: Link, N: Listener<Link = L>, P: Spawner> House<L, N, P> {
+impl<L: Link, N: Listener<Link = L>, P: Spawner> Accepting<L, N, P> {
     /// Keeps how a link ended, joins its pass, and gives it back.
     pub fn end<R, G>(&mut self, shared: &Shared<R, G>, who: ConnId, out: LinkOut<L>)
         requires returned { HasReturned L.number L.talk L.left L.faults P.faults N.told N.given N.faults shared.now.desk.now who.0 out self.old }
@@ -136,8 +136,8 @@ impl<L: Link, N: Listener<Link = L>, P: Spawner> House<L, N, P> {
         requires unclosed { self.old.is_closed ≡ false }
         requires room { (vec_len self.old.children < vec_capacity self.old.children) × (vec_len self.old.ends < vec_capacity self.old.ends) }
         ensures desk { self.new.pass.desk ≡ self.old.pass.desk }
-        ensures keeps { (door : Door L) (x : Since L) (t : Far)
-            → Comes L.number L.talk L.left L.faults P.faults N.told N.given N.faults door x t link uid self.old
+        ensures keeps { (listened : Listened L) (x : Since L) (t : Far)
+            → Comes L.number L.talk L.left L.faults P.faults N.told N.given N.faults listened x t link uid self.old
             → Keeps L.number L.talk L.left L.faults P.faults N.told N.given N.faults x (asked_once t) [] self.new }
     {
         let who = ConnId(self.came);
@@ -188,8 +188,8 @@ impl<L: Link, N: Listener<Link = L>, P: Spawner> House<L, N, P> {
         requires came { HasCome L.number L.talk L.left L.faults P.faults N.told N.given N.faults shared.now.desk.now link uid self.old }
         requires unclosed { self.old.is_closed ≡ false }
         ensures desk { self.new.pass.desk ≡ self.old.pass.desk }
-        ensures keeps { (door : Door L) (x : Since L) (t : Far)
-            → Comes L.number L.talk L.left L.faults P.faults N.told N.given N.faults door x t link uid self.old
+        ensures keeps { (listened : Listened L) (x : Since L) (t : Far)
+            → Comes L.number L.talk L.left L.faults P.faults N.told N.given N.faults listened x t link uid self.old
             → (is_stopped : Bool) × Keeps L.number L.talk L.left L.faults P.faults N.told N.given N.faults x (record (asked_once t) { is_stopped = is_stopped }) [] self.new }
     {
         if self.came > MOST_SERVED {

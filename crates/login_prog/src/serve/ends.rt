@@ -4,6 +4,7 @@ ghost use Rattle.std.specs.Prelude.{◌≡◌, ◌≤◌, [], ◌∷◌, vec_cap
 ghost use Rattle.login_edge.specs.Writing.{WriteRose, WrittenAs};
 ghost use Rattle.login_prog.specs.Served.{link_lines};
 ghost use Rattle.login_prog.specs.inner.Endings.{ReportsEnd, status_of};
+ghost use Rattle.replay.specs.declared.closed.TheConstants.{CLOSED_LINE_ROOM};
 
 use crate::serve::troubles::ServeEnd;
 use login_base::NoMemory;
@@ -17,7 +18,7 @@ use std::alloc::Global;
 pub struct ErrorLines {
     line: Vec<u8>,
     refusal: RefusalLine,
-    ghost room: { 100 ≤ vec_capacity line },
+    ghost room: { CLOSED_LINE_ROOM ≤ vec_capacity line },
 }
 
 impl ErrorLines {

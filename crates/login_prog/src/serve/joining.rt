@@ -6,9 +6,9 @@ ghost use Rattle.recording.specs.Reading.{left_to};
 ghost use Rattle.desk.specs.Passes.{IsFirst, JoinsPass};
 ghost use Rattle.desk.specs.Views.{split_view};
 ghost use Rattle.login_prog.specs.inner.Jobs.{LinkGives, PassOfCore};
-ghost use Rattle.login_prog.specs.inner.House.{Far, HasChild, HasKept, Held, IsChild, IsFresh, IsNew, IsStarted, Keeps, Since, at_start, held_of, is_back, with_end};
+ghost use Rattle.login_prog.specs.inner.Accepting.{Far, HasChild, HasKept, Held, IsChild, IsFresh, IsNew, IsStarted, Keeps, Since, at_start, held_of, is_back, with_end};
 
-use crate::serve::accepting::{Child, House, Shared};
+use crate::serve::accepting::{Accepting, Child, Shared};
 use crate::serve::link_job::LinkOut;
 use crate::serve::reader_job::{ReaderJob, ReaderNote, ReaderOut};
 use link_serve::serve_link;
@@ -54,7 +54,7 @@ fn served<L: Link, R: Wait, G: Gate>(shared: &Shared<R, G>, uid: Uid, out: LinkO
     }
 }
 
-impl<L: Link, N: Listener<Link = L>, P: Spawner> House<L, N, P> {
+impl<L: Link, N: Listener<Link = L>, P: Spawner> Accepting<L, N, P> {
     /// Starts the thread that reads the input.
     pub fn start_reader<
         's,

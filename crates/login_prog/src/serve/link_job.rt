@@ -13,8 +13,8 @@ use std::sync::atomic::{AtomicBool, AtomicU64, Ordering};
 use std::sync::{Arc, Wait};
 use std::thread::Promise;
 
-/// With what a job tells that it is done: a flag of its own, and a count that all of them share. Neither is promised: whoever
-/// sees it joins the thread, which may still wait for it.
+/// With what a job tells that it is done: a flag of its own, and a count that all of them share. Neither is promised:
+/// whoever sees it joins the thread, which may still wait for it.
 #[derive(Drop)]
 pub struct DoneBell<'a> {
     pub is_done: Arc<AtomicBool, Global>,

@@ -10,11 +10,11 @@ ghost use Rattle.recording.specs.Reading.{left_to};
 ghost use Rattle.replay.specs.Recording.{most_lines};
 ghost use Rattle.login_prog.specs.Outcome.{HasServed, Serves, change, given};
 ghost use Rattle.login_prog.specs.inner.Causes.{Caused, IsEnding};
-ghost use Rattle.login_prog.specs.inner.House.{IsFresh, IsNew, Since, door_of, no_troubles};
+ghost use Rattle.login_prog.specs.inner.Accepting.{IsFresh, IsNew, Since, listened_of, no_troubles};
 ghost use Rattle.login_prog.specs.inner.Left.{Finished, Finishes, HasLeft, IsReady, Leaves, Prepares, Writes, with_written};
 
 use crate::outside::Outside;
-use crate::serve::accepting::{House, Shared, Ticking};
+use crate::serve::accepting::{Accepting, Shared, Ticking};
 use crate::serve::ends::ErrorLines;
 use crate::serve::reader_job::ReaderOut;
 use crate::serve::troubles::{ServeEnd, Troubles};
@@ -45,7 +45,7 @@ struct Ready {
 /// What serving left.
 #[derive(Drop)]
 struct Left<L: Link, N, S, C, P> {
-    house: House<L, N, P>,
+    accepting: Accepting<L, N, P>,
     source: S,
     clock: C,
 }
@@ -100,19 +100,19 @@ fn open_desk(
 }
 
 /// What the calling thread has before the first link comes.
-fn new_house<L: Link, N: Listener<Link = L>, P: Spawner>(
+fn new_accepting<L: Link, N: Listener<Link = L>, P: Spawner>(
     alloc: Global,
     pass: PassOfCore,
     listener: N,
     spawner: P,
-) -> House<L, N, P>
+) -> Accepting<L, N, P>
     ensures pass { result.pass ≡ pass }
     ensures listener { result.listener ≡ listener }
     ensures spawner { result.spawner ≡ spawner }
     ensures none { (result.children.items ≡ []) × (result.ends.items ≡ []) }
     ensures start { (result.came ≡ 0) × (result.is_closed ≡ false) × (result.troubles ≡ no_troubles) }
 {
-    House {
+    Accepting {
         pass,
         listener,
         spawner,
@@ -128,21 +128,21 @@ fn new_house<L: Link, N: Listener<Link = L>, P: Spawner>(
 /// Takes what the reading of the input left.
 fn leave<R, S, L: Link, N: Listener<Link = L>, C, P: Spawner, G>(
     shared: &Shared<R, G>,
-    house: House<L, N, P>,
+    accepting: Accepting<L, N, P>,
     ticking: Ticking<C>,
     out: ReaderOut<S>,
 ) -> Left<L, N, S, C, P>
-    requires desk { (house.pass.desk ≡ shared.now.desk.now) × (out.pass.desk ≡ shared.now.desk.now) }
-    requires first { IsFirst house.pass.view }
-    ensures leaves { Leaves house out.pass.view out.end result.house }
+    requires desk { (accepting.pass.desk ≡ shared.now.desk.now) × (out.pass.desk ≡ shared.now.desk.now) }
+    requires first { IsFirst accepting.pass.view }
+    ensures leaves { Leaves accepting out.pass.view out.end result.accepting }
     ensures source { result.source ≡ out.source }
     ensures clock { result.clock ≡ ticking.clock }
 {
-    let mut house = house;
-    let source = house.take_reader(shared, out);
+    let mut accepting = accepting;
+    let source = accepting.take_reader(shared, out);
     let Ticking { clock, tick: _ } = ticking;
     Left {
-        house,
+        accepting,
         source,
         clock,
     }
@@ -163,35 +163,35 @@ fn serve_in<
 >(
     shared: &Shared<'a, R, G>,
     scope: &Scope<'s, E>,
-    house: House<L, N, P>,
+    accepting: Accepting<L, N, P>,
     ticking: Ticking<C>,
     lines: LineReader,
     source: S,
     lines_read: u32,
 ) -> Left<L, N, S, C, P>
-    requires fresh { IsFresh L.number L.talk L.left L.faults P.faults N.told N.given N.faults shared.now.desk.now house }
+    requires fresh { IsFresh L.number L.talk L.left L.faults P.faults N.told N.given N.faults shared.now.desk.now accepting }
     requires within { lines_read ≤ most_lines }
     requires tick { ticking.tick.0 ≡ 0 }
-    ensures left { (x : Since L) → IsNew L.number L.talk L.left L.faults P.faults N.told N.given N.faults x house → x.readings ≡ C.told ticking.clock → x.clock_faults ≡ C.faults ticking.clock
+    ensures left { (x : Since L) → IsNew L.number L.talk L.left L.faults P.faults N.told N.given N.faults x accepting → x.readings ≡ C.told ticking.clock → x.clock_faults ≡ C.faults ticking.clock
         → HasLeft L.number L.talk L.left L.faults P.faults x lines_read (change (left_to lines (S.left source)) (S.left result.source) (S.faults source) (S.faults result.source))
-        (door_of N.told N.given N.faults result.house.listener) (C.told result.clock) (C.faults result.clock) result.house }
+        (listened_of N.told N.given N.faults result.accepting.listener) (C.told result.clock) (C.faults result.clock) result.accepting }
 {
-    let mut house = house;
+    let mut accepting = accepting;
     let mut ticking = ticking;
-    match house.start_reader(shared, scope, lines, source, lines_read) {
+    match accepting.start_reader(shared, scope, lines, source, lines_read) {
         Started::Running(handle) => {
-            house.serve(shared, scope, &mut ticking);
-            house.join_links(shared);
-            leave(shared, house, ticking, handle.join(shared.rt))
+            accepting.serve(shared, scope, &mut ticking);
+            accepting.join_links(shared);
+            leave(shared, accepting, ticking, handle.join(shared.rt))
         }
         Started::Back(out) => {
             if out.end.is_none() {
-                house.stop(shared);
-                return leave(shared, house, ticking, out);
+                accepting.stop(shared);
+                return leave(shared, accepting, ticking, out);
             }
-            house.serve(shared, scope, &mut ticking);
-            house.join_links(shared);
-            leave(shared, house, ticking, out)
+            accepting.serve(shared, scope, &mut ticking);
+            accepting.join_links(shared);
+            leave(shared, accepting, ticking, out)
         }
     }
 }
@@ -207,28 +207,28 @@ fn serve_links<
     G: Gate + Sync,
 >(
     shared: &Shared<R, G>,
-    house: House<L, N, P>,
+    accepting: Accepting<L, N, P>,
     ticking: Ticking<C>,
     lines: LineReader,
     source: S,
     lines_read: u32,
 ) -> Left<L, N, S, C, P>
-    requires fresh { IsFresh L.number L.talk L.left L.faults P.faults N.told N.given N.faults shared.now.desk.now house }
+    requires fresh { IsFresh L.number L.talk L.left L.faults P.faults N.told N.given N.faults shared.now.desk.now accepting }
     requires within { lines_read ≤ most_lines }
     requires tick { ticking.tick.0 ≡ 0 }
-    ensures left { (x : Since L) → IsNew L.number L.talk L.left L.faults P.faults N.told N.given N.faults x house → x.readings ≡ C.told ticking.clock → x.clock_faults ≡ C.faults ticking.clock
+    ensures left { (x : Since L) → IsNew L.number L.talk L.left L.faults P.faults N.told N.given N.faults x accepting → x.readings ≡ C.told ticking.clock → x.clock_faults ≡ C.faults ticking.clock
         → HasLeft L.number L.talk L.left L.faults P.faults x lines_read (change (left_to lines (S.left source)) (S.left result.source) (S.faults source) (S.faults result.source))
-        (door_of N.told N.given N.faults result.house.listener) (C.told result.clock) (C.faults result.clock) result.house }
+        (listened_of N.told N.given N.faults result.accepting.listener) (C.told result.clock) (C.faults result.clock) result.accepting }
 {
     thread::scope(
         thread::scope_env(),
         shared.rt,
         |scope| -> Left<L, N, S, C, P>
-            requires { IsFresh L.number L.talk L.left L.faults P.faults N.told N.given N.faults shared.now.desk.now house × (lines_read ≤ most_lines) × (ticking.tick.0 ≡ 0) }
-            ensures { (x : Since L) → IsNew L.number L.talk L.left L.faults P.faults N.told N.given N.faults x house → x.readings ≡ C.told ticking.clock → x.clock_faults ≡ C.faults ticking.clock
+            requires { IsFresh L.number L.talk L.left L.faults P.faults N.told N.given N.faults shared.now.desk.now accepting × (lines_read ≤ most_lines) × (ticking.tick.0 ≡ 0) }
+            ensures { (x : Since L) → IsNew L.number L.talk L.left L.faults P.faults N.told N.given N.faults x accepting → x.readings ≡ C.told ticking.clock → x.clock_faults ≡ C.faults ticking.clock
                 → HasLeft L.number L.talk L.left L.faults P.faults x lines_read (change (left_to lines (S.left source)) (S.left result.source) (S.faults source) (S.faults result.source))
-                (door_of N.told N.given N.faults result.house.listener) (C.told result.clock) (C.faults result.clock) result.house }
-        { serve_in(shared, scope, house, ticking, lines, source, lines_read) },
+                (listened_of N.told N.given N.faults result.accepting.listener) (C.told result.clock) (C.faults result.clock) result.accepting }
+        { serve_in(shared, scope, accepting, ticking, lines, source, lines_read) },
     )
 }
 
@@ -276,7 +276,8 @@ fn write_outcome<K: Sink, E: Sink>(
     error_lines.write_end(troubles.end(), errors)
 }
 
-/// Closes the desk once all passes were joined, and writes what is to be written. It answers the status, and what was lent.
+/// Closes the desk once all passes were joined, and writes what is to be written. It answers the status, and what was
+/// lent.
 fn finish<
     S: Source,
     K: Sink,
@@ -293,23 +294,23 @@ fn finish<
     mut output: K,
     mut errors: E,
 ) -> (u8, Outside<S, K, E, N, C, P>)
-    requires desk { left.house.pass.desk ≡ desk }
-    requires first { IsFirst left.house.pass.view }
-    requires out { left.house.pass.view.out ≡ 0 }
-    ensures finished { Finished left.house.pass.view left.house.ends.items left.house.troubles
+    requires desk { left.accepting.pass.desk ≡ desk }
+    requires first { IsFirst left.accepting.pass.view }
+    requires out { left.accepting.pass.view.out ≡ 0 }
+    ensures finished { Finished left.accepting.pass.view left.accepting.ends.items left.accepting.troubles
         (change (K.held output) (K.held result.1.output) (K.faults output) (K.faults result.1.output))
         (change (E.held errors) (E.held result.1.errors) (E.faults errors) (E.faults result.1.errors)) result.0 }
     ensures input { result.1.input ≡ left.source }
-    ensures listener { result.1.listener ≡ left.house.listener }
+    ensures listener { result.1.listener ≡ left.accepting.listener }
     ensures clock { result.1.clock ≡ left.clock }
-    ensures spawner { result.1.spawner ≡ left.house.spawner }
+    ensures spawner { result.1.spawner ≡ left.accepting.spawner }
 {
     let Left {
-        house,
+        accepting,
         source,
         clock,
     } = left;
-    let House {
+    let Accepting {
         pass,
         listener,
         spawner,
@@ -319,7 +320,7 @@ fn finish<
         is_closed: _,
         seen_done: _,
         troubles,
-    } = house;
+    } = accepting;
     drop(children);
     let core = desk.close(pass);
     let status = write_outcome(
@@ -342,9 +343,9 @@ fn finish<
     (status, outside)
 }
 
-/// Serves clients over the links of a listener in this folder: reads the input through `go`, opens the listener, and serves
-/// until the line `stop` or another end. Then the recording of the whole run is written to the output, and a line for each
-/// link to the errors.
+/// Serves clients over the links of a listener in this folder: reads the input through `go`, opens the listener, and
+/// serves until the line `stop` or another end. Then the recording of the whole run is written to the output, and a
+/// line for each link to the errors.
 pub fn serve<
     R: Wait + Threads + Sync,
     S: Source + Drop + Send,
@@ -454,7 +455,7 @@ fn serve_ready<
         clock,
         spawner,
     } = outside;
-    let house = new_house(alloc, pass, listener, spawner);
+    let accepting = new_accepting(alloc, pass, listener, spawner);
     let ticking = Ticking {
         clock,
         tick: Millis(0),
@@ -467,6 +468,6 @@ fn serve_ready<
         gate,
         done: &done,
     };
-    let left = serve_links(&shared, house, ticking, lines, input, lines_read);
+    let left = serve_links(&shared, accepting, ticking, lines, input, lines_read);
     finish(alloc, desk, left, error_lines, output, errors)
 }

@@ -132,7 +132,8 @@ const POWER_OFF: KeyAction = KeyAction::Operation(OpKind::PowerOff);
 /// That the first lock holds it.
 const HELD: Verdict = Verdict::Denied(Rule::Inhibited(LockNo(1)));
 
-/// What the power key does, whether it passes locks, and what is said to it where a lock keeps the machine from shutting down.
+/// What the power key does, whether it passes locks, and what is said to it where a lock keeps the machine from
+/// shutting down.
 const BESIDE_A_BLOCK: [(KeyAction, bool, Verdict); 3] = [
     (POWER_OFF, false, HELD),
     (POWER_OFF, true, Verdict::Granted),

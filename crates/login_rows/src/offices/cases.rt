@@ -1,5 +1,5 @@
-// What clients send, and what that is. The handshake is that of the D-Bus Specification ("Authentication examples"), and
-// the messages are by hand, from "Message Format".
+// What clients send, and what that is. The handshake is that of the D-Bus Specification ("Authentication examples"),
+// and the messages are by hand, from "Message Format".
 
 use bus_auth::Ending;
 use bus_message::{Malformed, MessageFault};

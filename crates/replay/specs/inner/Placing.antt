@@ -10,8 +10,8 @@ use Rattle.replay.specs.Links.{is_open_link}
 use Rattle.replay.specs.Played.{Played, journal_of, played_lines}
 use Rattle.replay.specs.Recording.{IsNoLink}
 
--- a connect has a number that no earlier connect and no link had; a call is of a connected client, and a disconnect of one
--- that is no link
+-- a connect has a number that no earlier connect and no link had; a call is of a connected client, and a disconnect of
+-- one that is no link
 abbrev pub IsNamed : List Played → Event → Type 0
 IsNamed played (Connect c u) = IsUnused c (journal_of played) × IsNoLink (played_lines played) c
 IsNamed played (Disconnect c) = (is_connected (trail_of (journal_of played)) c ≡ true) × (is_open_link (played_lines played) c ≡ false)

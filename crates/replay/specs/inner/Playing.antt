@@ -74,7 +74,8 @@ pub record EntriesBroken (U : Setup) (before : List Played) (line : Line) (held 
   pub so_far : MadeSoFar U before line made more
   pub wrote : GainsFront held now (entries_text before made)
 
--- the entries of the line were made; or the journal is full for an event of it, or the sink failed, or there was no memory
+-- the entries of the line were made; or the journal is full for an event of it, or the sink failed, or there was no
+-- memory
 abbrev pub EntriesGive : Setup → List Played → Line → PlayerState → Option (List ℕ) → Option (List ℕ) → Result (Option Own) Early → Type 0
 EntriesGive U before line new held now (Ok own) = LineMade U before line new own held now
 EntriesGive U before line new held now (Err (Full count)) = LineFull count U before line held now

@@ -9,7 +9,7 @@ serve_links-left-requires-clause-fresh g c =
     let r = c.requires.ready.1 in
     let counted = g.N.Listener.counted c.args.outside.listener in
     let x = since g.L.Link.number g.L.Link.talk g.L.Link.left g.L.Link.faults g.P.Spawner.faults g.N.Listener.told g.N.Listener.given g.N.Listener.faults g.C.Clock.told g.C.Clock.faults c.args.ready.desk r.setup c.args.outside.listener c.args.outside.clock c.args.outside.spawner in
-    let new = is-new g.L.Link.number g.L.Link.talk g.L.Link.left g.L.Link.faults g.P.Spawner.faults g.N.Listener.told g.N.Listener.given g.N.Listener.faults g.C.Clock.told g.C.Clock.faults c.args.ready.desk r.setup c.args.outside.listener c.args.outside.clock c.args.outside.spawner c.new_house-house.result c.args.ready.pass c.new_house-house.ensures.pass r.desk_is r.view_is c.new_house-house.ensures.none c.new_house-house.ensures.start c.new_house-house.ensures.listener c.new_house-house.ensures.spawner c.requires.new counted in
+    let new = is-new g.L.Link.number g.L.Link.talk g.L.Link.left g.L.Link.faults g.P.Spawner.faults g.N.Listener.told g.N.Listener.given g.N.Listener.faults g.C.Clock.told g.C.Clock.faults c.args.ready.desk r.setup c.args.outside.listener c.args.outside.clock c.args.outside.spawner c.new_accepting-accepting.result c.args.ready.pass c.new_accepting-accepting.ensures.pass r.desk_is r.view_is c.new_accepting-accepting.ensures.none c.new_accepting-accepting.ensures.start c.new_accepting-accepting.ensures.listener c.new_accepting-accepting.ensures.spawner c.requires.new counted in
     λ κs outs. (x, refl, new)
 
 pub serve_links-left-requires-clause-within : goal.serve_links-left-requires-clause-within
@@ -20,7 +20,7 @@ finish-requires-clause-desk g c =
     let r = c.requires.ready.1 in
     let counted = g.N.Listener.counted c.args.outside.listener in
     let x = since g.L.Link.number g.L.Link.talk g.L.Link.left g.L.Link.faults g.P.Spawner.faults g.N.Listener.told g.N.Listener.given g.N.Listener.faults g.C.Clock.told g.C.Clock.faults c.args.ready.desk r.setup c.args.outside.listener c.args.outside.clock c.args.outside.spawner in
-    let new = is-new g.L.Link.number g.L.Link.talk g.L.Link.left g.L.Link.faults g.P.Spawner.faults g.N.Listener.told g.N.Listener.given g.N.Listener.faults g.C.Clock.told g.C.Clock.faults c.args.ready.desk r.setup c.args.outside.listener c.args.outside.clock c.args.outside.spawner c.new_house-house.result c.args.ready.pass c.new_house-house.ensures.pass r.desk_is r.view_is c.new_house-house.ensures.none c.new_house-house.ensures.start c.new_house-house.ensures.listener c.new_house-house.ensures.spawner c.requires.new counted in
+    let new = is-new g.L.Link.number g.L.Link.talk g.L.Link.left g.L.Link.faults g.P.Spawner.faults g.N.Listener.told g.N.Listener.given g.N.Listener.faults g.C.Clock.told g.C.Clock.faults c.args.ready.desk r.setup c.args.outside.listener c.args.outside.clock c.args.outside.spawner c.new_accepting-accepting.result c.args.ready.pass c.new_accepting-accepting.ensures.pass r.desk_is r.view_is c.new_accepting-accepting.ensures.none c.new_accepting-accepting.ensures.start c.new_accepting-accepting.ensures.listener c.new_accepting-accepting.ensures.spawner c.requires.new counted in
     let h = c.serve_links-left.ensures.left x new refl refl in
     last-desk g.L.Link.number g.L.Link.talk g.L.Link.left g.L.Link.faults g.P.Spawner.faults x _ _ _ _ _ _ h
 
@@ -29,7 +29,7 @@ finish-requires-clause-first g c =
     let r = c.requires.ready.1 in
     let counted = g.N.Listener.counted c.args.outside.listener in
     let x = since g.L.Link.number g.L.Link.talk g.L.Link.left g.L.Link.faults g.P.Spawner.faults g.N.Listener.told g.N.Listener.given g.N.Listener.faults g.C.Clock.told g.C.Clock.faults c.args.ready.desk r.setup c.args.outside.listener c.args.outside.clock c.args.outside.spawner in
-    let new = is-new g.L.Link.number g.L.Link.talk g.L.Link.left g.L.Link.faults g.P.Spawner.faults g.N.Listener.told g.N.Listener.given g.N.Listener.faults g.C.Clock.told g.C.Clock.faults c.args.ready.desk r.setup c.args.outside.listener c.args.outside.clock c.args.outside.spawner c.new_house-house.result c.args.ready.pass c.new_house-house.ensures.pass r.desk_is r.view_is c.new_house-house.ensures.none c.new_house-house.ensures.start c.new_house-house.ensures.listener c.new_house-house.ensures.spawner c.requires.new counted in
+    let new = is-new g.L.Link.number g.L.Link.talk g.L.Link.left g.L.Link.faults g.P.Spawner.faults g.N.Listener.told g.N.Listener.given g.N.Listener.faults g.C.Clock.told g.C.Clock.faults c.args.ready.desk r.setup c.args.outside.listener c.args.outside.clock c.args.outside.spawner c.new_accepting-accepting.result c.args.ready.pass c.new_accepting-accepting.ensures.pass r.desk_is r.view_is c.new_accepting-accepting.ensures.none c.new_accepting-accepting.ensures.start c.new_accepting-accepting.ensures.listener c.new_accepting-accepting.ensures.spawner c.requires.new counted in
     let h = c.serve_links-left.ensures.left x new refl refl in
     last-first g.L.Link.number g.L.Link.talk g.L.Link.left g.L.Link.faults g.P.Spawner.faults x _ _ _ _ _ _ h
 
@@ -38,7 +38,7 @@ finish-requires-clause-out g c =
     let r = c.requires.ready.1 in
     let counted = g.N.Listener.counted c.args.outside.listener in
     let x = since g.L.Link.number g.L.Link.talk g.L.Link.left g.L.Link.faults g.P.Spawner.faults g.N.Listener.told g.N.Listener.given g.N.Listener.faults g.C.Clock.told g.C.Clock.faults c.args.ready.desk r.setup c.args.outside.listener c.args.outside.clock c.args.outside.spawner in
-    let new = is-new g.L.Link.number g.L.Link.talk g.L.Link.left g.L.Link.faults g.P.Spawner.faults g.N.Listener.told g.N.Listener.given g.N.Listener.faults g.C.Clock.told g.C.Clock.faults c.args.ready.desk r.setup c.args.outside.listener c.args.outside.clock c.args.outside.spawner c.new_house-house.result c.args.ready.pass c.new_house-house.ensures.pass r.desk_is r.view_is c.new_house-house.ensures.none c.new_house-house.ensures.start c.new_house-house.ensures.listener c.new_house-house.ensures.spawner c.requires.new counted in
+    let new = is-new g.L.Link.number g.L.Link.talk g.L.Link.left g.L.Link.faults g.P.Spawner.faults g.N.Listener.told g.N.Listener.given g.N.Listener.faults g.C.Clock.told g.C.Clock.faults c.args.ready.desk r.setup c.args.outside.listener c.args.outside.clock c.args.outside.spawner c.new_accepting-accepting.result c.args.ready.pass c.new_accepting-accepting.ensures.pass r.desk_is r.view_is c.new_accepting-accepting.ensures.none c.new_accepting-accepting.ensures.start c.new_accepting-accepting.ensures.listener c.new_accepting-accepting.ensures.spawner c.requires.new counted in
     let h = c.serve_links-left.ensures.left x new refl refl in
     last-out g.L.Link.number g.L.Link.talk g.L.Link.left g.L.Link.faults g.P.Spawner.faults x _ _ _ _ _ _ h
 
@@ -48,7 +48,7 @@ returns-clause-status g c =
     let r = c.requires.ready.1 in
     let counted = g.N.Listener.counted c.args.outside.listener in
     let x = since g.L.Link.number g.L.Link.talk g.L.Link.left g.L.Link.faults g.P.Spawner.faults g.N.Listener.told g.N.Listener.given g.N.Listener.faults g.C.Clock.told g.C.Clock.faults c.args.ready.desk r.setup c.args.outside.listener c.args.outside.clock c.args.outside.spawner in
-    let new = is-new g.L.Link.number g.L.Link.talk g.L.Link.left g.L.Link.faults g.P.Spawner.faults g.N.Listener.told g.N.Listener.given g.N.Listener.faults g.C.Clock.told g.C.Clock.faults c.args.ready.desk r.setup c.args.outside.listener c.args.outside.clock c.args.outside.spawner c.new_house-house.result c.args.ready.pass c.new_house-house.ensures.pass r.desk_is r.view_is c.new_house-house.ensures.none c.new_house-house.ensures.start c.new_house-house.ensures.listener c.new_house-house.ensures.spawner c.requires.new counted in
+    let new = is-new g.L.Link.number g.L.Link.talk g.L.Link.left g.L.Link.faults g.P.Spawner.faults g.N.Listener.told g.N.Listener.given g.N.Listener.faults g.C.Clock.told g.C.Clock.faults c.args.ready.desk r.setup c.args.outside.listener c.args.outside.clock c.args.outside.spawner c.new_accepting-accepting.result c.args.ready.pass c.new_accepting-accepting.ensures.pass r.desk_is r.view_is c.new_accepting-accepting.ensures.none c.new_accepting-accepting.ensures.start c.new_accepting-accepting.ensures.listener c.new_accepting-accepting.ensures.spawner c.requires.new counted in
     let h = c.serve_links-left.ensures.left x new refl refl in
     let fresh = none-given (g.N.Listener.told c.args.outside.listener) (g.N.Listener.given c.args.outside.listener) c.requires.new counted in
     (finished g.L.Link.number g.L.Link.talk g.L.Link.left g.L.Link.faults g.P.Spawner.faults x _ _ _ _ _ _ h all _ _ _ r.opened fresh c.finish.ensures.finished).ending
@@ -58,7 +58,7 @@ returns-clause-serves g c = λ all ready.
     let r = ready in
     let counted = g.N.Listener.counted c.args.outside.listener in
     let x = since g.L.Link.number g.L.Link.talk g.L.Link.left g.L.Link.faults g.P.Spawner.faults g.N.Listener.told g.N.Listener.given g.N.Listener.faults g.C.Clock.told g.C.Clock.faults c.args.ready.desk r.setup c.args.outside.listener c.args.outside.clock c.args.outside.spawner in
-    let new = is-new g.L.Link.number g.L.Link.talk g.L.Link.left g.L.Link.faults g.P.Spawner.faults g.N.Listener.told g.N.Listener.given g.N.Listener.faults g.C.Clock.told g.C.Clock.faults c.args.ready.desk r.setup c.args.outside.listener c.args.outside.clock c.args.outside.spawner c.new_house-house.result c.args.ready.pass c.new_house-house.ensures.pass r.desk_is r.view_is c.new_house-house.ensures.none c.new_house-house.ensures.start c.new_house-house.ensures.listener c.new_house-house.ensures.spawner c.requires.new counted in
+    let new = is-new g.L.Link.number g.L.Link.talk g.L.Link.left g.L.Link.faults g.P.Spawner.faults g.N.Listener.told g.N.Listener.given g.N.Listener.faults g.C.Clock.told g.C.Clock.faults c.args.ready.desk r.setup c.args.outside.listener c.args.outside.clock c.args.outside.spawner c.new_accepting-accepting.result c.args.ready.pass c.new_accepting-accepting.ensures.pass r.desk_is r.view_is c.new_accepting-accepting.ensures.none c.new_accepting-accepting.ensures.start c.new_accepting-accepting.ensures.listener c.new_accepting-accepting.ensures.spawner c.requires.new counted in
     let h = c.serve_links-left.ensures.left x new refl refl in
     let fresh = none-given (g.N.Listener.told c.args.outside.listener) (g.N.Listener.given c.args.outside.listener) c.requires.new counted in
     let all_of = finished g.L.Link.number g.L.Link.talk g.L.Link.left g.L.Link.faults g.P.Spawner.faults x _ _ _ _ _ _ h all _ _ _ r.opened fresh c.finish.ensures.finished in
@@ -70,7 +70,7 @@ returns-clause-caused g c = λ all ready.
     let r = ready in
     let counted = g.N.Listener.counted c.args.outside.listener in
     let x = since g.L.Link.number g.L.Link.talk g.L.Link.left g.L.Link.faults g.P.Spawner.faults g.N.Listener.told g.N.Listener.given g.N.Listener.faults g.C.Clock.told g.C.Clock.faults c.args.ready.desk r.setup c.args.outside.listener c.args.outside.clock c.args.outside.spawner in
-    let new = is-new g.L.Link.number g.L.Link.talk g.L.Link.left g.L.Link.faults g.P.Spawner.faults g.N.Listener.told g.N.Listener.given g.N.Listener.faults g.C.Clock.told g.C.Clock.faults c.args.ready.desk r.setup c.args.outside.listener c.args.outside.clock c.args.outside.spawner c.new_house-house.result c.args.ready.pass c.new_house-house.ensures.pass r.desk_is r.view_is c.new_house-house.ensures.none c.new_house-house.ensures.start c.new_house-house.ensures.listener c.new_house-house.ensures.spawner c.requires.new counted in
+    let new = is-new g.L.Link.number g.L.Link.talk g.L.Link.left g.L.Link.faults g.P.Spawner.faults g.N.Listener.told g.N.Listener.given g.N.Listener.faults g.C.Clock.told g.C.Clock.faults c.args.ready.desk r.setup c.args.outside.listener c.args.outside.clock c.args.outside.spawner c.new_accepting-accepting.result c.args.ready.pass c.new_accepting-accepting.ensures.pass r.desk_is r.view_is c.new_accepting-accepting.ensures.none c.new_accepting-accepting.ensures.start c.new_accepting-accepting.ensures.listener c.new_accepting-accepting.ensures.spawner c.requires.new counted in
     let h = c.serve_links-left.ensures.left x new refl refl in
     let fresh = none-given (g.N.Listener.told c.args.outside.listener) (g.N.Listener.given c.args.outside.listener) c.requires.new counted in
     let all_of = finished g.L.Link.number g.L.Link.talk g.L.Link.left g.L.Link.faults g.P.Spawner.faults x _ _ _ _ _ _ h all _ _ _ r.opened fresh c.finish.ensures.finished in
