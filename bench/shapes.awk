@@ -18,7 +18,7 @@ function create_many(who, many,  i) { for (i = 1; i <= many; i++) create(who, 0)
 function setting(i) { return i % 2 ? "true" : "false" }
 
 # What stands before the entries.
-function begin(  i) {
+function begin(  i, s) {
     print "login-recording 1\nuser 1000 1000 alice"
     if (shape == "users") for (i = 1; i < 1000; i++) print "user " 1000 + i " " 1000 + i " user" i
     print "go"
@@ -43,6 +43,13 @@ function begin(  i) {
         create(1, 1); create(1, 2); call(1, "control c1 false"); call(1, "control c2 false")
         for (i = 1; i <= devices; i++) {
             line("add 14 " i " evdev seat0"); call(1, "take c1 14 " i); call(1, "take c2 14 " i)
+        }
+    } else if (shape == "callers") {
+        for (i = 2; i <= 61; i++) line("connect " i " 0")
+        for (s = 1; s <= 10; s++) { create(1, s); call(1, "control c" s " false") }
+        for (i = 1; i <= 128; i++) {
+            line("add 14 " i " evdev seat0")
+            for (s = 1; s <= 10; s++) call(1, "take c" s " 14 " i)
         }
     } else if (shape == "waiting") {
         for (i = 1; i <= 1000; i++) call(1, "inhibit idle login test block")
@@ -101,6 +108,7 @@ function step(i,  who) {
     else if (shape == "settings") call(1, "set /org/freedesktop/login1/session/c1 % Name")
     else if (shape == "manager_properties") call(1, "get-all /org/freedesktop/login1 %")
     else if (shape == "pings") call(1, "ping")
+    else if (shape == "callers") call(2 + i % 60, "ping")
     else if (shape == "idle_hints") call(1, "idle c" (1 + i % beside) " " setting(int(i / beside) + 1))
     else if (shape == "next") call(1, "next seat0")
     else if (shape == "ends") { line("connect " (i + 3) " 1001"); line("disconnect " (i + 3)) }
