@@ -28,6 +28,7 @@ pub mod RoomLaws
 pub mod Carried
 pub mod Stays
 pub mod Grows
+pub mod Widens
 pub mod Tame
 pub mod Begun
 pub mod Asked
@@ -52,6 +53,10 @@ pub mod PayingMoves
 pub mod NeedLaws
 pub mod ProcedureMarks
 pub mod EventMarks
+pub mod Keying
+pub mod KeyEnds
+pub mod KeyMoves
+pub mod KeyEvents
 pub mod EndsLaws
 pub mod Sharing
 pub mod Sparing

@@ -116,7 +116,7 @@ start-falls-by true true k t = (op-falls (Running k) t).falls
 start-falls-by true false k t = falls-refl (value t)
 start-falls-by false c k t = (op-falls (Running k) t).falls
 
-start-falls : (x : Fact) (U : Setup) (t : Trail) → Falls (value t) (value (start U.conf x t))
+pub start-falls : (x : Fact) (U : Setup) (t : Trail) → Falls (value t) (value (start U.conf x t))
 start-falls (fact.Operation (Waiting k since skip)) U t = start-falls-by (is_delayed t k) (is_over U.conf t since) k t
 start-falls _ U t = falls-refl (value t)
 
@@ -125,7 +125,7 @@ start-pending-by true true k t = value-put key.Op key.Pending (fact.Operation (R
 start-pending-by true false k t = refl
 start-pending-by false c k t = value-put key.Op key.Pending (fact.Operation (Running k)) t
 
-start-pending : (x : Fact) (U : Setup) (t : Trail) → value (start U.conf x t) key.Pending ≡ value t key.Pending
+pub start-pending : (x : Fact) (U : Setup) (t : Trail) → value (start U.conf x t) key.Pending ≡ value t key.Pending
 start-pending (fact.Operation (Waiting k since skip)) U t = start-pending-by (is_delayed t k) (is_over U.conf t since) k t
 start-pending _ U t = refl
 

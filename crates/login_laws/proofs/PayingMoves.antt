@@ -115,12 +115,12 @@ arrive-by old (Some s) t l = within-later 4 resume resume-within s t (tell_chang
 arrive-within : (old : Option SessId) (t : Trail) → Within (1 + 4 * taken_count t) t (arrive old t)
 arrive-within old t = arrive-by old (active_on t seat0) t (active-taken t seat0)
 
--- a switch of terminals
-pub move-within : (conf : Conf) (v : ℕ) (t : Trail) → Within (6 * taken_count t + 4) t (move_to conf v (active_on t seat0) t)
-move-within conf v t =
+-- up to the new terminal
+pub reach-within : (conf : Conf) (v : ℕ) (t : Trail)
+    → Within (2 * taken_count t + 3) t (ask_getty conf v (put key.Pending fact.Absent (put key.Vt (fact.Number v) (if_some force (active_on t seat0) t))))
+reach-within conf v t =
     let n = taken_count t in
-    let old = active_on t seat0 in
-    let u = if_some force old t in
+    let u = if_some force (active_on t seat0) t in
     let a = put key.Vt (fact.Number v) u in
     let b = put key.Pending fact.Absent a in
     let g = put (key.Getty v) yes b in
@@ -128,9 +128,18 @@ move-within conf v t =
     let w1 = within-trans (2 * n) 1 t u a (force-active seat0 t) (plain-within key.Vt (fact.Number v) u refl) in
     let w2 = within-trans (2 * n + 1) 1 t a b w1 (plain-within key.Pending fact.Absent a refl) in
     let w3 = within-trans (2 * n + 1 + 1) 1 t b c w2 (within-if (not (is_some (session_on b v)) && nat_le v conf.auto_vts) 1 b g b (plain-within (key.Getty v) yes b refl) (within-refl 1 b)) in
-    let k = taken-less t c w3.falls.there w3.falls.taken in
-    let w4 = within-trans (2 * n + 1 + 1 + 1) (1 + 4 * taken_count c) t c (arrive old c) w3 (arrive-within old c) in
-    within-more (2 * n + 1 + 1 + 1 + (1 + 4 * taken_count c)) (6 * n + 4) t (arrive old c) (omega arith) w4
+    within-more (2 * n + 1 + 1 + 1) (2 * n + 3) t c (omega arith) w3
+
+-- a switch of terminals
+pub move-within : (conf : Conf) (v : ℕ) (t : Trail) → Within (6 * taken_count t + 4) t (move_to conf v (active_on t seat0) t)
+move-within conf v t =
+    let n = taken_count t in
+    let old = active_on t seat0 in
+    let c = ask_getty conf v (put key.Pending fact.Absent (put key.Vt (fact.Number v) (if_some force old t))) in
+    let w = reach-within conf v t in
+    let k = taken-less t c w.falls.there w.falls.taken in
+    let p = within-trans (2 * n + 3) (1 + 4 * taken_count c) t c (arrive old c) w (arrive-within old c) in
+    within-more (2 * n + 3 + (1 + 4 * taken_count c)) (6 * n + 4) t (arrive old c) (omega arith) p
 
 complete-within : (x : Fact) (conf : Conf) (t : Trail) → Within (6 * taken_count t + 4) t (complete conf x t)
 complete-within (fact.Number v) conf t =

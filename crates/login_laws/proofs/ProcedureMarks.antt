@@ -267,12 +267,12 @@ await-within : (s : SessId) (t : Trail) → Within (2 * taken_length t s) t (awa
 unfolding await_devices
 await-within s t = within-each 2 (await_device s) (λ d u. await-fact (value u (key.Taken s d)) s d u) (taken_devices t s) t
 
-unawait-within : (s : SessId) (t : Trail) → Within (1 * taken_length t s) t (unawait_devices s t)
+pub unawait-within : (s : SessId) (t : Trail) → Within (1 * taken_length t s) t (unawait_devices s t)
 unfolding unawait_devices
 unawait-within s t = within-each 1 (λ d u. put (key.Awaited s d) no u) (λ d u. plain-within (key.Awaited s d) no u refl) (taken_devices t s) t
 
 -- what is done to the session, if there is one, that had taken so many devices at most
-some-later : (k : ℕ) (f : SessId → Trail → Trail) → ((s : SessId) (t : Trail) → Within (k * taken_length t s) t (f s t))
+pub some-later : (k : ℕ) (f : SessId → Trail → Trail) → ((s : SessId) (t : Trail) → Within (k * taken_length t s) t (f s t))
     → (o : Option SessId) (t u : Trail) (m n : ℕ) → ((s : SessId) → o ≡ Some s → taken_length t s ≤ n) → Within m t u → Within (m + k * n) t (if_some f o u)
 some-later k f step None t u m n l w = within-more m (m + k * n) t u (omega arith) w
 some-later k f step (Some s) t u m n l w = within-later k f step s t u m n (l s refl) w

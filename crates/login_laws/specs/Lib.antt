@@ -9,8 +9,10 @@ pub mod Powered
 pub mod Lawful
 pub mod Named
 pub mod Need
+pub mod Keys
 pub mod Shares
 pub mod Few
 pub mod Left
 pub mod Hearing
 pub mod OneJournal
+pub mod Amounts

@@ -3,6 +3,7 @@
 ghost use Rattle.login_laws.specs.Few.{LivesAreFew};
 ghost use Rattle.login_laws.specs.Handles.{NextHandleIsLeastFree};
 ghost use Rattle.login_laws.specs.Hearing.{HearingGoesOn, ReadsAreHeard};
+ghost use Rattle.login_laws.specs.Keys.{KeysAreKept};
 ghost use Rattle.login_laws.specs.Lawful.{LegalIsLawful};
 ghost use Rattle.login_laws.specs.Left.{HandlesAreLeft};
 ghost use Rattle.login_laws.specs.Named.{LegalIsNamed};
@@ -62,6 +63,14 @@ pub fn handles_are_left()
 /// marks and takes none, and the stop makes none.
 pub fn room_is_kept()
     ensures { (U : Setup) → RoomIsKept U }
+{}
+
+/// How many keys an event sets for the first time, with those that the switch which it leaves pending may set:
+/// a few, three for each device that is taken where it turns a seat and as many where a switch completes, and
+/// one for each session where it sends a signal to all of a user. A disconnect sets none but those of the
+/// switch that was pending.
+pub fn keys_are_kept()
+    ensures { (U : Setup) → KeysAreKept U }
 {}
 
 /// Whichever connections end behind a legal journal, in whatever order, one after the other: all their ends
