@@ -55,16 +55,16 @@ impl Table for Controller {
         }
     }
 
-    fn room(&mut self, marks: usize) -> Result<(), NoMemory> {
-        self.connections.reserve(marks)?;
-        self.controls.reserve(marks)
+    fn room(&mut self, keys: usize) -> Result<(), NoMemory> {
+        self.connections.reserve(keys)?;
+        self.controls.reserve(keys)
     }
 
-    fn set(&mut self, key: Key, fact: Fact) {
+    fn set(&mut self, key: Key, fact: Fact) -> bool {
         if rank_of(&key) == CONNECTIONS {
-            self.connections.set(key, fact);
+            self.connections.set(key, fact)
         } else {
-            self.controls.set(key, fact);
+            self.controls.set(key, fact)
         }
     }
 }

@@ -8,8 +8,8 @@ use Rattle.login_model.specs.Same.{same_device}
 use Rattle.login_model.specs.Trail.{Trail}
 use Rattle.device_model.specs.declared.ears.Ear.{Ear}
 
--- what the table is seen as: its facts as settings, and how many more go in without memory; the handles that
--- listen, and how many more can without memory
+-- what the table is seen as: its facts as settings, and how many more keys can be set for the first time without
+-- memory; the handles that listen, and how many more can without memory
 pub record DeviceList : Type 0 where
   pub trail : Trail
   pub spare : ℕ

@@ -2,13 +2,13 @@
 //! Objects"; struct input_event of Linux).
 #![tactic(auto)]
 
-ghost use Rattle.std.specs.Prelude.{◌≡◌, ◌==◌, ◌+◌, ◌<◌, ◌≤◌, [], ◌∷◌, IsSome, List, None, OnOk, Some, false, is_some, length, option_map};
+ghost use Rattle.std.specs.Prelude.{◌≡◌, ◌==◌, ◌+◌, ◌<◌, ◌≤◌, if◌then◌else◌, [], ◌∷◌, IsSome, List, None, OnOk, Some, false, is_some, length, not, option_map};
 ghost use Rattle.device_model.specs.Ears.{AreOnce, heard_of, hears};
 ghost use Rattle.login_table.specs.Home.{is_home};
 ghost use Rattle.login_table.specs.declared.home.Home.TheVariants.{Devices};
 ghost use Rattle.login_base.specs.declared.ids.DevNo.{DevNo as AnyDevice};
 ghost use Rattle.login_base.specs.declared.ids.HandleNo.{HandleNo as AnyHandle};
-ghost use Rattle.login_model.specs.Trail.{Trail, value};
+ghost use Rattle.login_model.specs.Trail.{Trail, value, was_set};
 ghost use Rattle.login_model.specs.declared.answer.Input.{Input as AnyInput};
 ghost use Rattle.login_model.specs.declared.fact.Key.{Key as AnyKey};
 ghost use Rattle.login_model.specs.declared.mark.Mark.TheVariants.{Set};
@@ -51,6 +51,7 @@ impl Table for DeviceModel {
 
     fn new(alloc: Global) -> DeviceModel
         ensures stands { Stands (is_home Devices) result.trail [] }
+        ensures none { result.trail ≡ [] }
         ensures ears { result.ears ≡ [] }
         ensures rings { result.rings ≡ 0 }
     {
@@ -64,28 +65,30 @@ impl Table for DeviceModel {
         &self.rows
     }
 
-    fn room(&mut self, marks: usize) -> Result<(), NoMemory>
-        ensures ok { OnOk result (marks ≤ self.new.spare) }
+    fn room(&mut self, keys: usize) -> Result<(), NoMemory>
+        ensures ok { OnOk result (keys ≤ self.new.spare) }
         ensures same { self.new.trail ≡ self.old.trail }
         ensures spare { self.old.spare ≤ self.new.spare }
         ensures ears { self.new.ears ≡ self.old.ears }
         ensures rings { self.new.rings ≡ self.old.rings }
     {
-        self.rows.reserve(marks)
+        self.rows.reserve(keys)
     }
 
-    fn set(&mut self, key: Key, fact: Fact)
-        requires { 0 < self.old.spare }
+    fn set(&mut self, key: Key, fact: Fact) -> bool
+        requires { was_set self.old.trail key ≡ false → 0 < self.old.spare }
+        ensures new_key { result ≡ not (was_set self.old.trail key) }
         ensures facts { (k : AnyKey) → value self.new.trail k ≡ value (Set key fact ∷ self.old.trail) k }
-        ensures spare { self.old.spare ≤ self.new.spare + 1 }
+        ensures keys { (k : AnyKey) → was_set self.new.trail k ≡ was_set (Set key fact ∷ self.old.trail) k }
+        ensures spare { self.old.spare ≤ self.new.spare + (if result then 1 else 0) }
         ensures ears { self.new.ears ≡ self.old.ears }
         ensures rings { self.new.rings ≡ self.old.rings }
     {
-        self.rows.set(key, fact);
+        self.rows.set(key, fact)
     }
 
     fn apply(&mut self, key: Key, fact: Fact)
-        requires { 0 < self.old.spare }
+        requires { was_set self.old.trail key ≡ false → 0 < self.old.spare }
         ensures stands { (t : Trail) → Stands (is_home Devices) self.old.trail t → Stands (is_home Devices) self.new.trail (Set key fact ∷ t) }
         ensures other { is_home Devices key ≡ false → self.new ≡ self.old }
         ensures spare { self.old.spare ≤ self.new.spare + 1 }

@@ -67,14 +67,14 @@ impl Table for DeviceRevoke {
         }
     }
 
-    fn room(&mut self, marks: usize) -> Result<(), NoMemory> {
-        self.owners.reserve(marks)?;
-        self.lives.reserve(marks)?;
-        self.takes.reserve(marks)?;
-        self.awaits.reserve(marks)
+    fn room(&mut self, keys: usize) -> Result<(), NoMemory> {
+        self.owners.reserve(keys)?;
+        self.lives.reserve(keys)?;
+        self.takes.reserve(keys)?;
+        self.awaits.reserve(keys)
     }
 
-    fn set(&mut self, key: Key, fact: Fact) {
+    fn set(&mut self, key: Key, fact: Fact) -> bool {
         match Kind::at(rank_of(&key)) {
             Kind::Owners => self.owners.set(key, fact),
             Kind::Lives => self.lives.set(key, fact),

@@ -6,15 +6,14 @@ use Rattle.login_model.specs.declared.fact.Key.{Key}
 use Rattle.login_model.specs.declared.fact.Fact.{Fact}
 use Rattle.login_model.specs.declared.mark.Mark.TheVariants.{Set}
 use Rattle.login_model.specs.Same.{same_key}
-use Rattle.login_model.specs.Start.{start_fact}
-use Rattle.login_model.specs.Trail.{Trail, value}
+use Rattle.login_model.specs.Trail.{Trail, was_set}
 use Rattle.login_model.specs.Names.{is_above}
 use Rattle.login_model.proofs.Keys.{same_key-true, test}
 use Rattle.login_table.specs.KeyOrder.{key_lt}
-use Rattle.login_table.specs.Rows.{as_trail, Ascend, AscendFrom}
+use Rattle.login_table.specs.Rows.{as_trail, Ascend, AscendFrom, RowList}
 use Rattle.login_table.specs.inner.Fronts.{IsFront}
 use Rattle.login_table.specs.declared.rows.Row.{Row}
-use Rattle.login_table.proofs.Standing.{value-set, value-start}
+use Rattle.login_table.proofs.Standing.{Tells, was_tells}
 use Rattle.login_table.proofs.KeyOrder.{key_order, no-test, below-apart, above-apart, above}
 
 -- ascending rows, opened
@@ -54,42 +53,50 @@ front-point p (x ∷ xs) (suc i) h e = (
   front-point p xs i (omega arith) ((λ j d l m. e.0 (suc j) d (omega arith) (omega arith)), (λ j d l m. e.1 (suc j) d (omega arith) (omega arith))),
 )
 
-value-same : (k j : Key) (x : Fact) (t : Trail) → same_key j k ≡ true → value (Set j x ∷ t) k ≡ x
-value-same k j x t e = value-set k j x t ∙ ap (λ (b : Bool). cond b x (value t k)) e
-
-value-other : (k j : Key) (x : Fact) (t : Trail) → same_key j k ≡ false → value (Set j x ∷ t) k ≡ value t k
-value-other k j x t e = value-set k j x t ∙ ap (λ (b : Bool). cond b x (value t k)) e
-
--- the row at the place of a key is its own
-pub found : (k : Key) (xs : List Row) (i : ℕ) (d : Row) → IsFront (λ (x : Row). key_lt x.key k) i xs → i < length xs → same_key (get_or xs i d).key k ≡ true
-    → (get_or xs i d).fact ≡ value (as_trail xs) k
-found k [] i d f h e = absurd (omega arith)
-found k (x ∷ xs) zero d f h e = sym (value-same k x.key x.fact (as_trail xs) e)
-found k (x ∷ xs) (suc i) d f h e = found k xs i d f.1 (omega arith) e ∙ sym (value-other k x.key x.fact (as_trail xs) (below-apart x.key k f.0))
-
 -- rows above a key are above those below it
 pub lower : (j k : Key) (xs : List Row) → key_lt j k ≡ true → AscendFrom (Some k) xs → AscendFrom (Some j) xs
 lower j k [] h a = tt
 lower j k (x ∷ xs) h a = (key_order.transitive j k x.key h a.0, a.1)
 
--- a key below all rows has none
-pub none-below : (k : Key) (xs : List Row) → AscendFrom (Some k) xs → value (as_trail xs) k ≡ start_fact k
-none-below k [] a = value-start k
-none-below k (x ∷ xs) a =
-    value-other k x.key x.fact (as_trail xs) (above-apart x.key k a.0) ∙ none-below k xs (lower k x.key xs a.0 a.1)
-
 -- the row at the place of a key is another's, or there is no row
 abbrev pub IsMissed : Key → List Row → ℕ → Row → Type 0
 IsMissed k xs i d = i < length xs → same_key (get_or xs i d).key k ≡ false
 
-pub missed : (k : Key) (b : Option Key) (xs : List Row) (i : ℕ) (d : Row) → AscendFrom b xs → IsFront (λ (x : Row). key_lt x.key k) i xs → IsMissed k xs i d → value (as_trail xs) k ≡ start_fact k
-missed k b [] zero d a f n = value-start k
-missed k b [] (suc i) d a f n = absurd f
-missed k b (x ∷ xs) zero d a f n =
-    let e = n (omega arith) in
-    value-other k x.key x.fact (as_trail xs) e ∙ none-below k xs (lower k x.key xs (above x.key k f e) a.1)
-missed k b (x ∷ xs) (suc i) d a f n =
-    value-other k x.key x.fact (as_trail xs) (below-apart x.key k f.0) ∙ missed k (Some x.key) xs i d a.1 f.1 (λ h. n (omega arith))
+module _ {A : Type 0} {tell : Trail → Key → A} {given : Fact → A} {start : Key → A} (told : Tells tell given start) where
+  tell-same : (k j : Key) (x : Fact) (t : Trail) → same_key j k ≡ true → tell (Set j x ∷ t) k ≡ given x
+  tell-same k j x t e = told.setting k j x t ∙ ap (λ (b : Bool). cond b (given x) (tell t k)) e
+
+  tell-other : (k j : Key) (x : Fact) (t : Trail) → same_key j k ≡ false → tell (Set j x ∷ t) k ≡ tell t k
+  tell-other k j x t e = told.setting k j x t ∙ ap (λ (b : Bool). cond b (given x) (tell t k)) e
+
+  -- the row at the place of a key is its own
+  found : (k : Key) (xs : List Row) (i : ℕ) (d : Row) → IsFront (λ (x : Row). key_lt x.key k) i xs → i < length xs → same_key (get_or xs i d).key k ≡ true
+      → given (get_or xs i d).fact ≡ tell (as_trail xs) k
+  found k [] i d f h e = absurd (omega arith)
+  found k (x ∷ xs) zero d f h e = sym (tell-same k x.key x.fact (as_trail xs) e)
+  found k (x ∷ xs) (suc i) d f h e = found k xs i d f.1 (omega arith) e ∙ sym (tell-other k x.key x.fact (as_trail xs) (below-apart x.key k f.0))
+
+  -- what indexing reads twice at the place of a key
+  pub found-at : (k : Key) (xs : List Row) (i : ℕ) (x y : Row) → IsFront (λ (x : Row). key_lt x.key k) i xs → i < length xs → y ≡ get_or xs i y → same_key y.key k ≡ true → x ≡ get_or xs i x
+      → given x.fact ≡ tell (as_trail xs) k
+  found-at k xs i x y f h at e again =
+      ap (λ (z : Row). given z.fact) again
+      ∙ found k xs i x f h (ap (λ (z : Row). same_key z.key k) (sym (get_or_read xs i y h at x)) ∙ e)
+
+  -- a key below all rows has none
+  none-below : (k : Key) (xs : List Row) → AscendFrom (Some k) xs → tell (as_trail xs) k ≡ start k
+  none-below k [] a = told.none k
+  none-below k (x ∷ xs) a =
+      tell-other k x.key x.fact (as_trail xs) (above-apart x.key k a.0) ∙ none-below k xs (lower k x.key xs a.0 a.1)
+
+  pub missed : (k : Key) (b : Option Key) (xs : List Row) (i : ℕ) (d : Row) → AscendFrom b xs → IsFront (λ (x : Row). key_lt x.key k) i xs → IsMissed k xs i d → tell (as_trail xs) k ≡ start k
+  missed k b [] zero d a f n = told.none k
+  missed k b [] (suc i) d a f n = absurd f
+  missed k b (x ∷ xs) zero d a f n =
+      let e = n (omega arith) in
+      tell-other k x.key x.fact (as_trail xs) e ∙ none-below k xs (lower k x.key xs (above x.key k f e) a.1)
+  missed k b (x ∷ xs) (suc i) d a f n =
+      tell-other k x.key x.fact (as_trail xs) (below-apart x.key k f.0) ∙ missed k (Some x.key) xs i d a.1 f.1 (λ h. n (omega arith))
 
 -- what a setting makes of the rows
 pub put_row : Key → Fact → List Row → List Row
@@ -145,7 +152,7 @@ put-ascends k f b [] a h = let P : List Row → Type 0 = λ ys. AscendFrom b ys 
 put-ascends k f b (x ∷ xs) a h = ascends-by k f b x xs a h (λ t. put-ascends k f (Some x.key) xs a.1 t)
 
 -- what two settings of two keys leave is the same in either order
-swapped : (p q : Bool) (x y z : Fact) → (p ≡ true → q ≡ false) → cond p x (cond q y z) ≡ cond q y (cond p x z)
+swapped : {A : Type 0} (p q : Bool) (x y z : A) → (p ≡ true → q ≡ false) → cond p x (cond q y z) ≡ cond q y (cond p x z)
 swapped true true x y z n = absurd (no-test refl (n refl))
 swapped true false x y z n = refl
 swapped false q x y z n = refl
@@ -153,44 +160,44 @@ swapped false q x y z n = refl
 one-key : (x k j : Key) → key_lt x k ≡ true → same_key x j ≡ true → same_key k j ≡ false
 one-key x k j h e = above-apart k j (let P : Key → Type 0 = λ z. key_lt z k ≡ true in subst P (same_key-true x j e) h)
 
-covered : (b : Bool) (x y z : Fact) → cond b x z ≡ cond b x (cond b y z)
+covered : {A : Type 0} (b : Bool) (x y z : A) → cond b x z ≡ cond b x (cond b y z)
 covered true x y z = refl
 covered false x y z = refl
 
-value-by : (k : Key) (f : Fact) (x : Row) (xs : List Row) (j : Key) → (key_lt x.key k ≡ true → value (as_trail (put_row k f xs)) j ≡ cond (same_key k j) f (value (as_trail xs) j))
-    → value (as_trail (put_row k f (x ∷ xs))) j ≡ cond (same_key k j) f (cond (same_key x.key j) x.fact (value (as_trail xs) j))
-value-by k f x xs j more =
-    let v = value (as_trail xs) j in
-    elim (test (key_lt x.key k)) [
-      | inl t ↦ ap (λ (ys : List Row). value (as_trail ys) j) (put-behind k f x xs t) ∙ value-set j x.key x.fact (as_trail (put_row k f xs))
-          ∙ ap (λ (y : Fact). cond (same_key x.key j) x.fact y) (more t) ∙ swapped (same_key x.key j) (same_key k j) x.fact f v (one-key x.key k j t)
-      | inr n ↦ elim (test (same_key x.key k)) [
-        | inl s ↦ ap (λ (ys : List Row). value (as_trail ys) j) (put-there k f x xs n s) ∙ value-set j x.key f (as_trail xs)
-            ∙ covered (same_key x.key j) f x.fact v
-            ∙ ap (λ (z : Key). cond (same_key z j) f (cond (same_key x.key j) x.fact v)) (same_key-true x.key k s)
-        | inr m ↦ ap (λ (ys : List Row). value (as_trail ys) j) (put-before k f x xs n m) ∙ value-set j k f (as_trail (x ∷ xs))
-            ∙ ap (λ (y : Fact). cond (same_key k j) f y) (value-set j x.key x.fact (as_trail xs))
+module _ {A : Type 0} {tell : Trail → Key → A} {given : Fact → A} {start : Key → A} (told : Tells tell given start) where
+  tell-by : (k : Key) (f : Fact) (x : Row) (xs : List Row) (j : Key) → (key_lt x.key k ≡ true → tell (as_trail (put_row k f xs)) j ≡ cond (same_key k j) (given f) (tell (as_trail xs) j))
+      → tell (as_trail (put_row k f (x ∷ xs))) j ≡ cond (same_key k j) (given f) (cond (same_key x.key j) (given x.fact) (tell (as_trail xs) j))
+  tell-by k f x xs j more =
+      let v = tell (as_trail xs) j in
+      elim (test (key_lt x.key k)) [
+        | inl t ↦ ap (λ (ys : List Row). tell (as_trail ys) j) (put-behind k f x xs t) ∙ told.setting j x.key x.fact (as_trail (put_row k f xs))
+            ∙ ap (λ (y : A). cond (same_key x.key j) (given x.fact) y) (more t) ∙ swapped (same_key x.key j) (same_key k j) (given x.fact) (given f) v (one-key x.key k j t)
+        | inr n ↦ elim (test (same_key x.key k)) [
+          | inl s ↦ ap (λ (ys : List Row). tell (as_trail ys) j) (put-there k f x xs n s) ∙ told.setting j x.key f (as_trail xs)
+              ∙ covered (same_key x.key j) (given f) (given x.fact) v
+              ∙ ap (λ (z : Key). cond (same_key z j) (given f) (cond (same_key x.key j) (given x.fact) v)) (same_key-true x.key k s)
+          | inr m ↦ ap (λ (ys : List Row). tell (as_trail ys) j) (put-before k f x xs n m) ∙ told.setting j k f (as_trail (x ∷ xs))
+              ∙ ap (λ (y : A). cond (same_key k j) (given f) y) (told.setting j x.key x.fact (as_trail xs))
+        ]
       ]
-    ]
 
-value-put : (k : Key) (f : Fact) (xs : List Row) (j : Key) → value (as_trail (put_row k f xs)) j ≡ cond (same_key k j) f (value (as_trail xs) j)
-value-put k f [] j = ap (λ (ys : List Row). value (as_trail ys) j) (put-alone k f) ∙ value-set j k f []
-value-put k f (x ∷ xs) j = value-by k f x xs j (λ t. value-put k f xs j) ∙ ap (λ (y : Fact). cond (same_key k j) f y) (sym (value-set j x.key x.fact (as_trail xs)))
+  tell-put : (k : Key) (f : Fact) (xs : List Row) (j : Key) → tell (as_trail (put_row k f xs)) j ≡ cond (same_key k j) (given f) (tell (as_trail xs) j)
+  tell-put k f [] j = ap (λ (ys : List Row). tell (as_trail ys) j) (put-alone k f) ∙ told.setting j k f []
+  tell-put k f (x ∷ xs) j = tell-by k f x xs j (λ t. tell-put k f xs j) ∙ ap (λ (y : A). cond (same_key k j) (given f) y) (sym (told.setting j x.key x.fact (as_trail xs)))
 
--- the facts that a setting leaves
-pub put-is : (k : Key) (f : Fact) (xs : List Row) (j : Key) → value (as_trail (put_row k f xs)) j ≡ value (Set k f ∷ as_trail xs) j
-put-is k f xs j = value-put k f xs j ∙ sym (value-set j k f (as_trail xs))
-
--- what indexing reads twice at the place of a key
-pub found-at : (k : Key) (xs : List Row) (i : ℕ) (x y : Row) → IsFront (λ (x : Row). key_lt x.key k) i xs → i < length xs → y ≡ get_or xs i y → same_key y.key k ≡ true → x ≡ get_or xs i x
-    → x.fact ≡ value (as_trail xs) k
-found-at k xs i x y f h at e again =
-    ap (λ (z : Row). z.fact) again
-    ∙ found k xs i x f h (ap (λ (z : Row). same_key z.key k) (sym (get_or_read xs i y h at x)) ∙ e)
+  -- what a setting leaves
+  pub put-is : (k : Key) (f : Fact) (xs : List Row) (j : Key) → tell (as_trail (put_row k f xs)) j ≡ tell (Set k f ∷ as_trail xs) j
+  put-is k f xs j = tell-put k f xs j ∙ sym (told.setting j k f (as_trail xs))
 
 -- what indexing reads at the place of a key is another's
-pub missed-at : (k : Key) (xs : List Row) (i : ℕ) (y : Row) → y ≡ get_or xs i y → same_key y.key k ≡ false → IsMissed k xs i y
-missed-at k xs i y at e h = ap (λ (z : Row). same_key z.key k) (sym at) ∙ e
+pub missed-at : (k : Key) (xs : List Row) (i : ℕ) (y d : Row) → y ≡ get_or xs i y → same_key y.key k ≡ false → IsMissed k xs i d
+missed-at k xs i y d at e h = ap (λ (z : Row). same_key z.key k) (sym (get_or_read xs i y h at d)) ∙ e
+
+-- a key that has no row was not set, where the rows are read as a slice
+pub not-set : (k : Key) (xs zs : List Row) (i : ℕ) (d : Row) (v : RowList) → Ascend xs → zs ≡ xs → IsFront (λ (x : Row). key_lt x.key k) i zs → IsMissed k xs i d → as_trail xs ≡ v.trail → was_set v.trail k ≡ false
+not-set k xs zs i d v a r f n e =
+    let F : List Row → Type 0 = λ ys. IsFront (λ (x : Row). key_lt x.key k) i ys in
+    ap (λ (t : Trail). was_set t k) (sym e) ∙ missed was_tells k None xs i d (opened xs a) (subst F r f) n
 
 -- the fact of the row that indexing reads exchanged
 pub exchanged-at : (k : Key) (f : Fact) (xs : List Row) (i : ℕ) (x y : Row) → IsFront (λ (x : Row). key_lt x.key k) i xs → i < length xs → y ≡ get_or xs i y → same_key y.key k ≡ true → x ≡ get_or xs i x

@@ -25,7 +25,7 @@ use Rattle.login_table.proofs.Ascending.{exchanged-at, opened, closed, put_row, 
 use Rattle.login_table.proofs.KeyOrder.{no-test}
 use Rattle.login_table.proofs.NextKey.{no-some, some-is}
 use Rattle.login_table.proofs.RowPlaces.{exchanged-keys, key-exchanged, key-inserted, keys-ascend, length-inserted, places-closed, put-ascend, put-has, raised-ascend, raised-keys}
-use Rattle.login_table.proofs.Standing.{value-set, value-start}
+use Rattle.login_table.proofs.Standing.{value-set, value-start, value_tells}
 
 -- no keys, where nothing was set
 none-there : (t : Trail) → t ≡ [] → AreThere [] t
@@ -97,7 +97,7 @@ rows-hold k f xs ys ps ms qs at b said w e same up in_rows own made =
     subst Q (sym made) (
       ascend,
       put-ascend at (length ys) b ms in_rows up,
-      set-there k f (keys_at xs ps) (keys_at ys (put_place at b ms)) (as_trail xs) (as_trail ys) puts (λ j. ap (λ (zs : List Row). value (as_trail zs) j) e ∙ put-is k f xs j) w.2,
+      set-there k f (keys_at xs ps) (keys_at ys (put_place at b ms)) (as_trail xs) (as_trail ys) puts (λ j. ap (λ (zs : List Row). value (as_trail zs) j) e ∙ put-is value_tells k f xs j) w.2,
     )
 
 -- where the fact of a row is exchanged, the places are the same

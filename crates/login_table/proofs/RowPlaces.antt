@@ -188,7 +188,7 @@ key-inserted r (suc at) [] h = absurd (omega arith)
 key-inserted r zero (x ∷ xs) h = refl
 key-inserted r (suc at) (x ∷ xs) h = key-inserted r at xs (omega arith)
 
-pub length-inserted : (r : Row) (at : ℕ) (xs : List Row) → length (take at xs ++ r ∷ drop at xs) ≡ suc (length xs)
+pub length-inserted : {A : Type 0} (r : A) (at : ℕ) (xs : List A) → length (take at xs ++ r ∷ drop at xs) ≡ suc (length xs)
 length-inserted r zero [] = refl
 length-inserted r (suc at) [] = refl
 length-inserted r zero (x ∷ xs) = refl
@@ -258,6 +258,17 @@ from-put at low n b (p ∷ ps) l h a =
 
 pub put-ascend : (at n : ℕ) (b : Bool) (ps : List ℕ) → at < n → PlacesAscend n ps → PlacesAscend n (put_place at b ps)
 put-ascend at n b ps h a = places-closed n (put_place at b ps) (from-put at 0 n b ps (omega arith) h (places-opened n ps a))
+
+-- no more places than rows
+places-few : (low n : ℕ) (ps : List ℕ) → low ≤ n → PlacesFrom low n ps → low + length ps ≤ n
+places-few low n [] h a = omega arith
+places-few low n (p ∷ ps) h a = omega (arith, a.0, a.1, places-few (suc p) n ps (omega (arith, a.1)) a.2)
+
+-- so a row that is there always gets its place, where there is memory for a place of each row
+pub put-fits : (at n room : ℕ) (b : Bool) (ps : List ℕ) → at < n → n ≤ room → PlacesAscend n ps → length (put_place at b ps) ≤ room
+put-fits at n room b ps h l a =
+    let qs = put_place at b ps in
+    omega (arith, l, places-few 0 n qs (omega arith) (places-opened n qs (put-ascend at n b ps h a)))
 
 or-cond : (s c : Bool) → (s || c) ≡ cond s true c
 or-cond true c = refl
@@ -377,6 +388,10 @@ module _ (at n i : ℕ) (qs xs ps : List ℕ) (read : qs ≡ xs) (seen : xs ≡ 
   place-missed b s =
       let t = told (Err i) s in
       ap (λ (us : List ℕ). take i us ++ with_front b at (drop i us)) seen ∙ missed at i b ps t.0 t.1 t.2
+
+  -- one that is put in where it is not there is one more
+  pub grown : IsBinarySearchResult (λ y. nat_cmp y at) qs (Err i) → length (put_place at true ps) ≡ suc (length xs)
+  grown s = sym (ap length (place-missed true s)) ∙ length-inserted at i xs
 
   -- what is there stays where it is put in, and what is not there stays out
   pub stays-in : IsBinarySearchResult (λ y. nat_cmp y at) qs (Ok i) → ps ≡ put_place at true ps

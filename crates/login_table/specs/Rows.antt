@@ -16,7 +16,7 @@ abbrev pub as_trail : List Row → Trail
 as_trail [] = []
 as_trail (x ∷ xs) = Set x.key x.fact ∷ as_trail xs
 
--- what rows are seen as: as settings, and how many more go in without memory
+-- what rows are seen as: as settings, and how many more keys can be set for the first time without memory
 pub record RowList : Type 0 where
   pub trail : Trail
   pub spare : ℕ

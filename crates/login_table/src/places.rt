@@ -12,7 +12,7 @@ ghost use Rattle.login_table.specs.inner.Fronts.{IsFront};
 
 use crate::key_order::{TAKES, is_key_below, rank_of};
 use crate::name::{Name, is_above};
-use crate::rows::{Row, make_room};
+use crate::rows::Row;
 use login_base::{DevNo, NoMemory, SessId};
 use login_model::{Key, is_same_key};
 use std::alloc::Global;
@@ -25,12 +25,12 @@ pub(crate) struct Places {
 }
 
 impl Model for Places {
-    ghost use Rattle.std.specs.Prelude.{◌-◌, vec_len, vec_capacity};
+    ghost use Rattle.std.specs.Prelude.{vec_capacity};
     ghost use Rattle.login_table.specs.inner.Places.{PlaceList};
 
     ghost Value = { PlaceList };
 
-    ghost view = { λ s. record { list = s.places.items; spare = vec_capacity s.places - vec_len s.places } };
+    ghost view = { λ s. record { list = s.places.items; room = vec_capacity s.places } };
 }
 
 /// The key of the row at a place, or that other one where there is no row.
@@ -275,20 +275,22 @@ impl Places {
         }
     }
 
-    /// Makes room for so many more places.
-    pub(crate) fn reserve(&mut self, more: usize) -> Result<(), NoMemory>
-        ensures ok { OnOk result (more ≤ self.new.spare) }
+    /// Makes room for so many places in all.
+    pub(crate) fn reserve(&mut self, places: usize) -> Result<(), NoMemory>
+        ensures ok { OnOk result (places ≤ self.new.room) }
         ensures list { self.new.list ≡ self.old.list }
-        ensures spare { self.old.spare ≤ self.new.spare }
+        ensures room { self.old.room ≤ self.new.room }
     {
-        make_room(&mut self.places, more)
+        let more = places.saturating_sub(self.places.len());
+        self.places.reserve_exact(more)?;
+        Ok(())
     }
 
     /// Raises the places behind a row that is put in. One that comes last raises none.
     pub(crate) fn raise(&mut self, at: usize)
         requires { PlacesAscend (2 ^ 64 - 1) self.old.list }
         ensures list { self.new.list ≡ raised at self.old.list }
-        ensures spare { self.new.spare ≡ self.old.spare }
+        ensures room { self.new.room ≡ self.old.room }
     {
         let from = count_below(self.places.as_slice(), at);
         raise_each(&mut self.places[from..]);
@@ -297,9 +299,9 @@ impl Places {
     /// Puts a place in. It takes no memory.
     fn insert(&mut self, at: usize)
         requires ascend { PlacesAscend (2 ^ 64 - 1) self.old.list }
-        requires spare { 0 < self.old.spare }
+        requires room { length (put_place at true self.old.list) ≤ self.old.room }
         ensures list { self.new.list ≡ put_place at true self.old.list }
-        ensures spare { self.old.spare ≤ self.new.spare + 1 }
+        ensures room { self.old.room ≤ self.new.room }
     {
         if let Err(from) = self.places.binary_search(&at) {
             match self.places.insert(from, at) {
@@ -313,7 +315,7 @@ impl Places {
     fn remove(&mut self, at: usize)
         requires { PlacesAscend (2 ^ 64 - 1) self.old.list }
         ensures list { self.new.list ≡ put_place at false self.old.list }
-        ensures spare { self.old.spare ≤ self.new.spare }
+        ensures room { self.old.room ≤ self.new.room }
     {
         if let Ok(from) = self.places.binary_search(&at) {
             self.places.remove(from);
@@ -323,9 +325,9 @@ impl Places {
     /// Puts a place in or takes it out. It takes no memory.
     pub(crate) fn put(&mut self, at: usize, is_in: bool)
         requires ascend { PlacesAscend (2 ^ 64 - 1) self.old.list }
-        requires spare { 0 < self.old.spare }
+        requires room { length (put_place at is_in self.old.list) ≤ self.old.room }
         ensures list { self.new.list ≡ put_place at is_in self.old.list }
-        ensures spare { self.old.spare ≤ self.new.spare + 1 }
+        ensures room { self.old.room ≤ self.new.room }
     {
         if is_in {
             self.insert(at);

@@ -1,7 +1,7 @@
 // Facts in rows, each under its own key.
 
-ghost use Rattle.std.specs.Prelude.{◌≡◌, ◌+◌, ◌<◌, ◌≤◌, [], ◌∷◌, OnOk, length, vec_capacity, vec_len};
-ghost use Rattle.login_model.specs.Trail.{value};
+ghost use Rattle.std.specs.Prelude.{◌≡◌, ◌+◌, ◌<◌, ◌≤◌, if◌then◌else◌, [], ◌∷◌, OnOk, false, length, not, vec_capacity, vec_len};
+ghost use Rattle.login_model.specs.Trail.{value, was_set};
 ghost use Rattle.login_model.specs.Names.{IsNext, device_lt, session_lt};
 ghost use Rattle.login_model.specs.Devices.{is_taken};
 ghost use Rattle.login_model.specs.declared.fact.Key.{Key as AnyKey};
@@ -26,8 +26,9 @@ pub struct Row {
     pub fact: Fact,
 }
 
-/// Facts, each under its own key. Under all other keys stand the facts at the start. The places of what is there
-/// are kept beside them, so that going over what is there passes nothing that is gone.
+/// Facts, each under its own key: a row for each key that was ever set. Under all other keys stand the facts at the
+/// start. The places of what is there are kept beside them, so that going over what is there passes nothing that is
+/// gone.
 #[derive(Debug, Drop)]
 pub struct Rows {
     rows: Vec<Row>,
@@ -36,28 +37,28 @@ pub struct Rows {
 }
 
 impl Model for Rows {
-    ghost use Rattle.std.specs.Prelude.{◌-◌, length, min, vec_len, vec_capacity};
+    ghost use Rattle.std.specs.Prelude.{◌-◌, ◌≤◌, length, min, vec_len, vec_capacity};
     ghost use Rattle.login_table.specs.inner.Keys.{AreThere};
     ghost use Rattle.login_table.specs.inner.Places.{PlacesAscend, keys_at};
     ghost use Rattle.login_table.specs.Rows.{Ascend, RowList, as_trail};
 
     ghost Value = { RowList };
 
-    ghost view = { λ r. record { trail = as_trail r.rows.items; spare = min (vec_capacity r.rows - vec_len r.rows) r.there.spare } };
+    ghost view = { λ r. record { trail = as_trail r.rows.items; spare = min (vec_capacity r.rows) r.there.room - vec_len r.rows } };
 
-    ghost invariant = { λ r. Ascend r.rows.items × PlacesAscend (length r.rows.items) r.there.list × AreThere (keys_at r.rows.items r.there.list) (as_trail r.rows.items) };
+    ghost invariant = { λ r. (Ascend r.rows.items × PlacesAscend (length r.rows.items) r.there.list × AreThere (keys_at r.rows.items r.there.list) (as_trail r.rows.items)) × vec_len r.rows ≤ r.there.room };
 }
 
-/// Makes room for so many more. It takes what is asked for and an eighth of what stands, so that a list that grows
-/// by one at a time is seldom copied.
-pub(crate) fn make_room<T>(list: &mut Vec<T>, more: usize) -> Result<(), NoMemory>
-    ensures items { list.new.items ≡ list.old.items }
-    ensures len { vec_len list.new ≡ vec_len list.old }
-    ensures capacity { vec_capacity list.old ≤ vec_capacity list.new }
-    ensures ok { OnOk result (vec_len list.new + more ≤ vec_capacity list.new) }
+/// Makes room for so many more rows. It takes what is asked for and an eighth of what stands, so that rows that grow
+/// by one at a time are seldom copied.
+fn make_room(rows: &mut Vec<Row>, more: usize) -> Result<(), NoMemory>
+    ensures items { rows.new.items ≡ rows.old.items }
+    ensures len { vec_len rows.new ≡ vec_len rows.old }
+    ensures capacity { vec_capacity rows.old ≤ vec_capacity rows.new }
+    ensures ok { OnOk result (vec_len rows.new + more ≤ vec_capacity rows.new) }
 {
-    if list.capacity() - list.len() < more {
-        list.reserve_exact(more.saturating_add(list.len() / 8))?;
+    if rows.capacity() - rows.len() < more {
+        rows.reserve_exact(more.saturating_add(rows.len() / 8))?;
     }
     Ok(())
 }
@@ -107,14 +108,14 @@ impl Rows {
         }
     }
 
-    /// Makes room for so many more rows.
+    /// Makes room for so many more rows, and for a place of each.
     pub fn reserve(&mut self, more: usize) -> Result<(), NoMemory>
         ensures ok { OnOk result (more ≤ self.new.spare) }
         ensures trail { self.new.trail ≡ self.old.trail }
         ensures spare { self.old.spare ≤ self.new.spare }
     {
         make_room(&mut self.rows, more)?;
-        self.there.reserve(more)
+        self.there.reserve(self.rows.capacity())
     }
 
     /// The rows, in the order of their keys.
@@ -136,23 +137,25 @@ impl Rows {
         self.start.fact(key)
     }
 
-    /// Sets the fact under a key. It takes no memory.
-    pub fn set(&mut self, key: Key, fact: Fact)
-        requires { 0 < self.old.spare }
+    /// Sets the fact under a key. It takes no memory. The answer is whether the key is new: it was not set before.
+    pub fn set(&mut self, key: Key, fact: Fact) -> bool
+        requires { was_set self.old.trail key ≡ false → 0 < self.old.spare }
+        ensures new_key { result ≡ not (was_set self.old.trail key) }
         ensures facts { (k : AnyKey) → value self.new.trail k ≡ value (Set key fact ∷ self.old.trail) k }
-        ensures spare { self.old.spare ≤ self.new.spare + 1 }
+        ensures keys { (k : AnyKey) → was_set self.new.trail k ≡ was_set (Set key fact ∷ self.old.trail) k }
+        ensures spare { self.old.spare ≤ self.new.spare + (if result then 1 else 0) }
     {
         let is_in = says_there(&key, &fact);
         let at = place(self.rows.as_slice(), &key);
         if at < self.rows.len() && is_same_key(&self.rows[at].key, &key) {
             self.rows[at].fact = fact;
             self.there.put(at, is_in);
-            return;
+            return false;
         }
         self.there.raise(at);
         self.there.put(at, is_in);
         match self.rows.insert(at, Row { key, fact }) {
-            Ok(()) => {}
+            Ok(()) => true,
             Err(_) => unreachable!(),
         }
     }

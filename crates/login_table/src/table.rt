@@ -1,7 +1,7 @@
 // What tables of facts have in common.
 
-ghost use Rattle.std.specs.Prelude.{◌≡◌, ◌+◌, ◌<◌, ◌≤◌, Bool, [], ◌∷◌, OnOk, MatchOption, None, Some, true, false};
-ghost use Rattle.login_model.specs.Trail.{Trail, value};
+ghost use Rattle.std.specs.Prelude.{◌≡◌, ◌+◌, ◌<◌, ◌≤◌, if◌then◌else◌, Bool, [], ◌∷◌, OnOk, MatchOption, None, Some, not, true, false};
+ghost use Rattle.login_model.specs.Trail.{Trail, value, was_set};
 ghost use Rattle.login_model.specs.Names.{IsNext};
 ghost use Rattle.login_model.specs.declared.fact.Key.{Key as AnyKey};
 ghost use Rattle.login_model.specs.declared.mark.Mark.TheVariants.{Set};
@@ -24,7 +24,7 @@ pub trait Table {
     /// Whether a key is one of its own.
     ghost owns: { AnyKey → Bool };
 
-    /// Its facts as settings, and how many more can be applied without memory.
+    /// Its facts as settings, and how many more keys can be set for the first time without memory.
     ghost list: { Self → RowList };
 
     /// Whether a key is one of its own.
@@ -33,23 +33,26 @@ pub trait Table {
 
     /// The table of no marks. It takes no memory.
     fn new(alloc: Global) -> Self
-        ensures { Stands owns (list result).trail [] };
+        ensures stands { Stands owns (list result).trail [] }
+        ensures none { (list result).trail ≡ [] };
 
     /// The rows with the facts under the keys of one kind, by its rank.
     fn part(&self, rank: u8) -> &Rows
         ensures { (k : AnyKey) → rank_of k ≡ rank → value result.now.trail k ≡ value (list self.now).trail k };
 
-    /// Makes the spare at least so much: so many more marks can be applied without memory.
-    fn room(&mut self, marks: usize) -> Result<(), NoMemory>
-        ensures ok { OnOk result (marks ≤ (list self.new).spare) }
+    /// Makes the spare at least so much: so many more keys can be set for the first time without memory.
+    fn room(&mut self, keys: usize) -> Result<(), NoMemory>
+        ensures ok { OnOk result (keys ≤ (list self.new).spare) }
         ensures same { (list self.new).trail ≡ (list self.old).trail }
         ensures spare { (list self.old).spare ≤ (list self.new).spare };
 
-    /// Sets the fact under a key. It takes no memory.
-    fn set(&mut self, key: Key, fact: Fact)
-        requires { 0 < (list self.old).spare }
+    /// Sets the fact under a key. It takes no memory. The answer is whether the key is new: it was not set before.
+    fn set(&mut self, key: Key, fact: Fact) -> bool
+        requires { was_set (list self.old).trail key ≡ false → 0 < (list self.old).spare }
+        ensures new_key { result ≡ not (was_set (list self.old).trail key) }
         ensures facts { (k : AnyKey) → value (list self.new).trail k ≡ value (Set key fact ∷ (list self.old).trail) k }
-        ensures spare { (list self.old).spare ≤ (list self.new).spare + 1 };
+        ensures keys { (k : AnyKey) → was_set (list self.new).trail k ≡ was_set (Set key fact ∷ (list self.old).trail) k }
+        ensures spare { (list self.old).spare ≤ (list self.new).spare + (if result then 1 else 0) };
 
     /// The fact of the last setting of a key, or the fact at the start.
     fn fact(&self, key: &Key) -> &Fact
@@ -71,7 +74,7 @@ pub trait Table {
 
     /// Applies a setting. One under another table's key changes nothing. It takes no memory.
     fn apply(&mut self, key: Key, fact: Fact)
-        requires { 0 < (list self.old).spare }
+        requires { was_set (list self.old).trail key ≡ false → 0 < (list self.old).spare }
         ensures stands { (t : Trail) → Stands owns (list self.old).trail t → Stands owns (list self.new).trail (Set key fact ∷ t) }
         ensures other { owns key ≡ false → self.new ≡ self.old }
         ensures spare { (list self.old).spare ≤ (list self.new).spare + 1 }

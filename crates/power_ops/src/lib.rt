@@ -48,11 +48,11 @@ impl Table for PowerOps {
         &self.rows
     }
 
-    fn room(&mut self, marks: usize) -> Result<(), NoMemory> {
-        self.rows.reserve(marks)
+    fn room(&mut self, keys: usize) -> Result<(), NoMemory> {
+        self.rows.reserve(keys)
     }
 
-    fn set(&mut self, key: Key, fact: Fact) {
-        self.rows.set(key, fact);
+    fn set(&mut self, key: Key, fact: Fact) -> bool {
+        self.rows.set(key, fact)
     }
 }

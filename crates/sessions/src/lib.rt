@@ -55,16 +55,16 @@ impl Table for Sessions {
         }
     }
 
-    fn room(&mut self, marks: usize) -> Result<(), NoMemory> {
-        self.sessions.reserve(marks)?;
-        self.hints.reserve(marks)
+    fn room(&mut self, keys: usize) -> Result<(), NoMemory> {
+        self.sessions.reserve(keys)?;
+        self.hints.reserve(keys)
     }
 
-    fn set(&mut self, key: Key, fact: Fact) {
+    fn set(&mut self, key: Key, fact: Fact) -> bool {
         if rank_of(&key) == SESSIONS {
-            self.sessions.set(key, fact);
+            self.sessions.set(key, fact)
         } else {
-            self.hints.set(key, fact);
+            self.hints.set(key, fact)
         }
     }
 }

@@ -5,10 +5,10 @@ use Rattle.login_model.specs.declared.fact.Key.TheVariants.{Vt}
 use Rattle.login_model.specs.declared.fact.Fact.TheVariants.{Absent}
 use Rattle.login_table.specs.declared.rows.Row.{Row}
 
--- what the places of rows are seen as: the numbers in order, and how many more go in without memory
+-- what the places of rows are seen as: the numbers in order, and for how many there is memory
 pub record PlaceList : Type 0 where
   pub list : List ℕ
-  pub spare : ℕ
+  pub room : ℕ
 
 -- the key of the row at a place, or another where there is no row
 abbrev pub key_or : List Row → ℕ → Key → Key
