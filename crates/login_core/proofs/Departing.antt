@@ -15,7 +15,7 @@ use Rattle.login_model.specs.Trail.{Trail, value, put}
 use Rattle.login_model.specs.Where.{is_user, is_user_fact, is_session_of, users, sessions, sessions_of}
 use Rattle.login_model.specs.Procedure.{is_empty, forget, leave}
 use Rattle.login_model.specs.Direct.{leave_known, is_overdue_fact, overdue}
-use Rattle.login_laws.proofs.Grows.{Grows, grows-refl, leave-grows}
+use Rattle.login_laws.proofs.Widens.{Widens, widens-refl, leave-widens}
 use Rattle.login_model.proofs.Keys.{test, same-user}
 use Rattle.login_model.proofs.NameLaws.{user_order}
 use Rattle.login_model.proofs.InOrder.{users-enumerated}
@@ -35,11 +35,11 @@ pub other-stays : (U : Setup) (u : Uid) (f : Fact) (t : Trail) → is_known f �
 other-stays U u fact.Known t e = cc
 other-stays U u _ t e = refl
 
-pub leave_known-grows : (U : Setup) (u : Uid) (f : Fact) (t : Trail) → Grows t (leave_known U u f t)
-leave_known-grows U u fact.Known t = leave-grows U u t
-leave_known-grows U u _ t = grows-refl t
+pub leave_known-widens : (U : Setup) (u : Uid) (f : Fact) (t : Trail) → Widens t (leave_known U u f t)
+leave_known-widens U u fact.Known t = leave-widens U u t
+leave_known-widens U u _ t = widens-refl t
 
-pub ruleset leaving = (known-leaves, other-stays, leave_known-grows, leave-grows)
+pub ruleset leaving = (known-leaves, other-stays, leave_known-widens, leave-widens)
 
 -- one is found where there are some
 found-some : {A : Type 0} (b : Bool) (x : A) (xs : List A) (o : Option A) → is_some o ≡ not (is_empty xs) → is_some (cond b (Some x) o) ≡ not (is_empty (cond b (x ∷ xs) xs))

@@ -3,9 +3,10 @@ use Rattle.std.proofs.Common.{◌≡◌, ◌+◌, ◌<◌, Bool, true, Option, S
 use Rattle.login_model.specs.Trail.{Trail}
 use Rattle.login_model.specs.Names.{IsNext}
 use Rattle.login_model.specs.Procedure.{each}
-use Rattle.login_laws.proofs.Grows.{Grows, each-grows}
+use Rattle.login_laws.proofs.Widens.{Widens, each-widens}
 use Rattle.login_model.proofs.InOrder.{Enumerates, rest, rest-none, rest-next, rest-stays}
-use Rattle.login_core.specs.inner.Draft.{DraftState, Fits, marked_by, with_trail}
+use Rattle.login_laws.specs.Amounts.{amount}
+use Rattle.login_core.specs.inner.Draft.{DraftState, Fits, limit, marked_by, with_trail}
 use Rattle.switch_core.proofs.Going.{each-more, each-none}
 
 -- the names of a kind that are there, which a list has
@@ -23,9 +24,9 @@ left k t above = rest k.lt (k.there t) (k.list t) above
 abbrev pub KeepsAbove : {A : Type 0} → Tour A → (A → Trail → Trail) → Type 0
 KeepsAbove {A} k f = (d e : A) (t : Trail) → k.lt d e ≡ true → k.there (f d t) e ≡ k.there t e
 
--- f only adds marks
+-- f only adds marks and keys
 abbrev pub Adds : {A : Type 0} → (A → Trail → Trail) → Type 0
-Adds {A} f = (d : A) (t : Trail) → Grows t (f d t)
+Adds {A} f = (d : A) (t : Trail) → Widens t (f d t)
 
 -- f of those that are left, from now, is f of all, from the start
 abbrev pub Going : {A : Type 0} → Tour A → (A → Trail → Trail) → List A → Option A → DraftState → DraftState → Type 0
@@ -57,15 +58,17 @@ going-less k f above d now next keeps e n =
 -- the next one's marks are among all
 pub going-room : {A : Type 0} (k : Tour A) (f : A → Trail → Trail) (all : List A) (above : Option A) (d : A) (start now : DraftState) → Adds f → Going k f all above start now
     → IsNext k.lt (k.there now.trail) above (Some d) → Fits (each f all) start → Fits (f d) now
-going-room {A} k f all above d start now grows g n h =
+going-room {A} k f all above d start now widens g n h = λ r. (
     let t = now.trail in
     let ds = rest k.lt (k.there t) (k.list t) (Some d) in
     let w = rest-next k.lt (k.there t) (k.list t) (k.whole t) above d n in
-    let e : length (each f ds (f d t)) ≡ length (each f all start.trail) =
-    ap length (sym (each-more f d ds t) ∙ sym (ap (λ (xs : List A). each f xs t) w)) ∙ ap (λ (m : DraftState). length m.trail) g in
-    let r = each-grows f grows ds (f d t) in
-    let j : now.reach ≡ start.reach = ap (λ (m : DraftState). m.reach) g in
+    let e : amount r (each f ds (f d t)) ≡ amount r (each f all start.trail) =
+    ap (amount r) (sym (each-more f d ds t) ∙ sym (ap (λ (xs : List A). each f xs t) w)) ∙ ap (λ (m : DraftState). amount r m.trail) g in
+    let b = each-widens f widens ds (f d t) r in
+    let j : limit r now ≡ limit r start = ap (limit r) g in
+    let i = h r in
     omega arith
+    )
 
 pub going-step : {A : Type 0} (k : Tour A) (f : A → Trail → Trail) (all : List A) (above : Option A) (d : A) (start now next : DraftState) → KeepsAbove k f → Going k f all above start now
     → next ≡ marked_by (f d) now → IsNext k.lt (k.there now.trail) above (Some d) → Going k f all (Some d) start next

@@ -1,7 +1,7 @@
 -- The home of a fact, and the table that stands there.
-use Rattle.std.proofs.Common.{◌≡◌, true, false, refl, ap, sym, ◌∙◌}
+use Rattle.std.proofs.Common.{◌≡◌, true, false, [], refl, ap, sym, ◌∙◌}
 use Rattle.login_model.specs.declared.fact.Key.{Key}
-use Rattle.login_model.specs.Trail.{Trail, value}
+use Rattle.login_model.specs.Trail.{Trail, value, was_set}
 use Rattle.login_table.specs.Stands.{Stands}
 use Rattle.login_table.specs.Home.{home, is_home, same_home}
 use Rattle.login_table.specs.declared.home.Home.{Home}
@@ -56,3 +56,18 @@ each-stands f t users sessions seats devices controls takes locks power Power = 
 -- so all facts stand
 pub all-stand : (f : Tables) (t : Trail) → ((h : Home) → Stands (is_home h) (table f h) t) → (k : Key) → value (table f (home k)) k ≡ value t k
 all-stand f t stands k = stands (home k) k (same-as-itself (home k))
+
+-- no table has a key where none has settings
+none-set : (f : Tables) → f.users ≡ [] → f.sessions ≡ [] → f.seats ≡ [] → f.devices ≡ [] → f.controls ≡ [] → f.takes ≡ [] → f.locks ≡ [] → f.power ≡ [] → (h : Home) → table f h ≡ []
+none-set f a b c d e i j k Users = a
+none-set f a b c d e i j k Sessions = b
+none-set f a b c d e i j k Seats = c
+none-set f a b c d e i j k Devices = d
+none-set f a b c d e i j k Controls = e
+none-set f a b c d e i j k Takes = i
+none-set f a b c d e i j k Locks = j
+none-set f a b c d e i j k Power = k
+
+pub no-keys : (f : Tables) → f.users ≡ [] → f.sessions ≡ [] → f.seats ≡ [] → f.devices ≡ [] → f.controls ≡ [] → f.takes ≡ [] → f.locks ≡ [] → f.power ≡ []
+    → (k : Key) → was_set (table f (home k)) k ≡ was_set [] k
+no-keys f a b c d e i j l k = ap (λ (t : Trail). was_set t k) (none-set f a b c d e i j l (home k))

@@ -6,7 +6,7 @@ use Rattle.login_model.specs.declared.mark.Mark.TheVariants.{Say}
 use Rattle.login_model.specs.declared.mark.Whom.{Whom}
 use Rattle.login_model.specs.declared.mark.Notice.{Notice}
 use Rattle.login_model.specs.declared.mark.Entry.{Entry}
-use Rattle.login_model.specs.Trail.{Trail, value, after}
+use Rattle.login_model.specs.Trail.{Trail, value, was_set, after}
 use Rattle.login_model.specs.Legal.{after_all, trail_of}
 use Rattle.login_table.specs.Home.{home}
 use Rattle.login_table.specs.declared.home.Home.{Home}
@@ -29,6 +29,10 @@ value-say : (k : Key) (w : Whom) (n : Notice) (t : Trail) → value (Say w n ∷
 unfolding value
 value-say k w n t = refl
 
+set-say : (k : Key) (w : Whom) (n : Notice) (t : Trail) → was_set (Say w n ∷ t) k ≡ was_set t k
+unfolding was_set
+set-say k w n t = refl
+
 pub opened : (f : Tables) (t : Trail) → StandFor f t → TablesStand f t
 unfolding StandFor
 opened f t s = s.0
@@ -41,9 +45,9 @@ pub closed : (f : Tables) (t : Trail) → TablesStand f t → AreOwed f.owing t 
 unfolding StandFor
 closed f t s o = (s, o)
 
--- beside what connections owe, and how many more settings go in
-pub tables-same : (f : Tables) (owing : Owing) (spare : ℕ) (t : Trail) → TablesStand f t → TablesStand (record f { owing = owing; spare = spare }) t
-tables-same f owing spare t s = record { facts = s.facts; counts = s.counts; session = s.session; handle = s.handle; lock = s.lock; held = s.held }
+-- beside what connections owe, and how many more settings go in, of keys that were set or not
+pub tables-same : (f : Tables) (owing : Owing) (spare fresh : ℕ) (t : Trail) → TablesStand f t → TablesStand (record f { owing = owing; spare = spare; fresh = fresh }) t
+tables-same f owing spare fresh t s = record { facts = s.facts; keys = s.keys; counts = s.counts; session = s.session; handle = s.handle; lock = s.lock; held = s.held }
 
 table-same : (f g : Tables) → g.users ≡ f.users → g.sessions ≡ f.sessions → g.seats ≡ f.seats → g.devices ≡ f.devices → g.controls ≡ f.controls → g.takes ≡ f.takes → g.locks ≡ f.locks → g.power ≡ f.power
     → (h : Home) → table g h ≡ table f h
@@ -61,6 +65,7 @@ pub tables-roomy : (f g : Tables) (t : Trail) → TablesStand f t → g.users �
     → g.counts ≡ f.counts → g.session ≡ f.session → g.handle ≡ f.handle → g.lock ≡ f.lock → g.held ≡ f.held → TablesStand g t
 tables-roomy f g t s a b c d e i j k counts session handle lock held = record {
   facts = λ q. ap (λ (x : Trail). value x q) (table-same f g a b c d e i j k (home q)) ∙ s.facts q;
+  keys = λ q. ap (λ (x : Trail). was_set x q) (table-same f g a b c d e i j k (home q)) ∙ s.keys q;
   counts = (let P : Counts → Type 0 = λ n. AreCounted n t in subst P (sym counts) s.counts);
   session = session ∙ s.session;
   handle = handle ∙ s.handle;
@@ -72,6 +77,7 @@ tables-roomy f g t s a b c d e i j k counts session handle lock held = record {
 pub stand-say : (f : Tables) (t : Trail) (w : Whom) (n : Notice) → StandFor f t → StandFor f (Say w n ∷ t)
 stand-say f t w n stands = let s = opened f t stands in closed f (Say w n ∷ t) (record {
   facts = λ k. s.facts k ∙ sym (value-say k w n t);
+  keys = λ k. s.keys k ∙ sym (set-say k w n t);
   counts = counted-say f.counts w n t s.counts;
   session = s.session ∙ sym (sessions-say w n t);
   handle = s.handle ∙ sym (handles-say w n t);

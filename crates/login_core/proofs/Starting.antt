@@ -9,7 +9,8 @@ use Rattle.login_laws.specs.Need.{need}
 use Rattle.login_model.specs.Names.{names}
 use Rattle.login_model.specs.Setups.{IsSetup}
 use Rattle.login_model.specs.Stopping.{stop_from}
-use Rattle.login_model.specs.Trail.{Trail, value}
+use Rattle.login_laws.specs.Keys.{switch_keys}
+use Rattle.login_model.specs.Trail.{Trail, key_count, value}
 use Rattle.login_model.specs.Where.{connections, locks, open_sessions, sessions}
 use Rattle.login_model.specs.declared.mark.Entry.{Entry}
 use Rattle.login_model.specs.declared.setup.Setup.{Setup}
@@ -28,6 +29,10 @@ no-connections = refl
 no-need : need [] ≡ 0
 unfolding need connections sessions open_sessions locks taken_by names value
 no-need = refl
+
+no-keys-yet : key_count [] + switch_keys [] ≡ 0
+unfolding key_count value
+no-keys-yet = refl
 
 false-true : false ≡ true → ⊥
 false-true e = cc
@@ -60,6 +65,8 @@ core-new U m x u j k q g n =
     let c = ap (λ (u : Trail). length (connections u)) t ∙ no-connections in
     let d = ap (λ (u : Trail). length u + need u) t in
     let e = no-need in
+    let keys = ap (λ (u : Trail). key_count u + switch_keys u) t in
+    let none = no-keys-yet in
     let l = ap length j in
     let Q : Trail → Type 0 = HaveTexts x in
     let E : Trail → Type 0 = HaveEnds (end_room m.journal) in
@@ -71,6 +78,7 @@ core-new U m x u j k q g n =
       stop_is = ap (stop_from 1) (sym j);
       entries = omega arith;
       reach = omega arith;
+      keys = omega arith;
       within = omega arith;
       ends = subst E (sym t) (no-ends (end_room m.journal));
       ears = no-ears m.journal.items m.draft.ears m.draft.rings j q;

@@ -5,11 +5,13 @@ use Rattle.login_base.specs.declared.ids.HandleNo.{HandleNo}
 use Rattle.device_model.specs.Ears.{heard_of}
 use Rattle.login_model.specs.Full.{mark_count, taken_count}
 use Rattle.login_model.specs.Legal.{IsLegal, IsPlaced, answered, stepped, trail_of}
+use Rattle.login_laws.specs.Amounts.{Keys, Marks}
+use Rattle.login_laws.specs.Keys.{most_keys, switch_keys}
 use Rattle.login_laws.specs.Need.{IsDisconnect, need}
 use Rattle.login_model.specs.Policy.{verdict}
 use Rattle.login_laws.specs.Sound.{IsSound}
 use Rattle.login_model.specs.Stopping.{is_stop, stop_from, stopped}
-use Rattle.login_model.specs.Trail.{Trail}
+use Rattle.login_model.specs.Trail.{Trail, key_count}
 use Rattle.login_model.specs.Where.{connections}
 use Rattle.login_model.specs.Answers.{answer}
 use Rattle.login_model.specs.declared.answer.Answer.{Answer}
@@ -23,12 +25,14 @@ use Rattle.login_model.specs.declared.rule.Verdict.{Verdict}
 use Rattle.login_model.specs.declared.setup.Setup.{Setup}
 use Rattle.login_laws.proofs.Comings.{disconnect-connections}
 use Rattle.login_laws.proofs.EventMarks.{other}
+use Rattle.login_laws.proofs.KeyEvents.{keys-are-kept}
 use Rattle.login_laws.proofs.RoomLaws.{room, stop-stays}
 use Rattle.login_laws.proofs.SharesLaws.{ends-have-shares}
 use Rattle.login_core.specs.Fullness.{always_fits}
 use Rattle.login_core.specs.inner.Board.{IsBegun}
 use Rattle.login_core.specs.inner.Ears.{AreEars, heard_evdev, settled}
 use Rattle.login_core.specs.inner.Rings.{ring_count}
+use Rattle.login_core.specs.inner.Draft.{DraftState, Fits}
 use Rattle.login_core.specs.inner.Ends.{BeginsReach, CanWelcome}
 use Rattle.login_core.specs.inner.Inside.{HaveEnds, IsCore, stop_need}
 use Rattle.login_core.specs.inner.Ledger.{end_room, next_room}
@@ -48,7 +52,7 @@ use Rattle.login_core.proofs.Listeners.{disconnect-takes, other-takes, stop-take
 
 -- what a core of these parts is seen as
 abbrev pub seen : Setup → Board → Texts → Ready → CoreState
-seen U m x a = record { setup = U; journal = m.journal.items; entries = m.journal.entries; far = m.draft.far; reach = m.draft.reach; ends = m.journal.ends; next_end = next_room m.journal; rings = ring_count m.draft.ears m.draft.rings; texts = x; ready = a }
+seen U m x a = record { setup = U; journal = m.journal.items; entries = m.journal.entries; far = m.draft.far; keys = m.draft.keys; reach = m.draft.reach; ends = m.journal.ends; next_end = next_room m.journal; rings = ring_count m.draft.ears m.draft.rings; texts = x; ready = a }
 
 -- what is so where an event is stepped
 pub record Stepping (U : Setup) (m : Board) (x : Texts) (a : Ready) (stop : Option ℕ) (e : Event) (v : Verdict) : Type 0 where
@@ -197,6 +201,58 @@ stays-within U m x a stop (Tick n) v reach h s = other-within U m x a stop (Tick
 stays-within U m x a stop (Disconnect c) v reach h s = end-within U m x a stop c v reach h s
 stays-within U m x a stop Stop v reach h s = stop-within U m x a stop v reach h s
 
+-- ---- the keys stay within the room of the tables
+
+-- with those of a switch that may complete still
+KeysFit : Board → Setup → Event → Verdict → Type 0
+KeysFit m U e v = key_count (stepped U v e (trail_of m.journal.items)) + switch_keys (stepped U v e (trail_of m.journal.items)) ≤ m.draft.keys
+
+other-keys : (U : Setup) (m : Board) (x : Texts) (a : Ready) (stop : Option ℕ) (e : Event) (v : Verdict) → (IsDisconnect e → ⊥) → IsRoomFor (seen U m x a) e → Stepping U m x a stop e v → KeysFit m U e v
+unfolding KeysFit
+other-keys U m x a stop e Granted n r s =
+    let t = trail_of m.journal.items in
+    let P : Verdict → Type 0 = λ w. key_count (stepped U w e t) + switch_keys (stepped U w e t) ≤ key_count t + most_keys t e in
+    let law = subst P (sym s.verdict_is) ((keys-are-kept U).other t e s.sound n) in
+    let room = r.keys (sym s.verdict_is) in
+    omega arith
+other-keys U m x a stop e (Denied broken) n r s = s.core.keys
+
+end-keys : (U : Setup) (m : Board) (x : Texts) (a : Ready) (stop : Option ℕ) (c : ConnId) (v : Verdict) → Stepping U m x a stop (Disconnect c) v → KeysFit m U (Disconnect c) v
+unfolding KeysFit
+end-keys U m x a stop c v s =
+    let t = trail_of m.journal.items in
+    let P : Verdict → Type 0 = λ w. key_count (stepped U w (Disconnect c) t) + switch_keys (stepped U w (Disconnect c) t) ≤ m.draft.keys in
+    let law = (keys-are-kept U).ends t c s.sound s.placed.0 in
+    let room = s.core.keys in
+    subst P (sym (s.verdict_is ∙ disconnect-granted U t c)) (omega arith)
+
+stop-keys : (U : Setup) (m : Board) (x : Texts) (a : Ready) (stop : Option ℕ) (v : Verdict) → Stepping U m x a stop Stop v → KeysFit m U Stop v
+unfolding KeysFit
+stop-keys U m x a stop v s =
+    let t = trail_of m.journal.items in
+    let P : Verdict → Type 0 = λ w. key_count (stepped U w Stop t) + switch_keys (stepped U w Stop t) ≤ m.draft.keys in
+    let same = ap (λ (u : Trail). key_count u + switch_keys u) (stop-stays U t s.sound) in
+    let room = s.core.keys in
+    subst P (sym (s.verdict_is ∙ stop-granted U t)) (omega arith)
+
+keys-fit : (U : Setup) (m : Board) (x : Texts) (a : Ready) (stop : Option ℕ) (e : Event) (v : Verdict) → Stepping U m x a stop e v → KeysFit m U e v
+keys-fit U m x a stop (Connect c u) v s = other-keys U m x a stop (Connect c u) v (λ z. z) s.ready s
+keys-fit U m x a stop (Calls r) v s = other-keys U m x a stop (Calls r) v (λ z. z) s.ready s
+keys-fit U m x a stop (Happens y) v s = other-keys U m x a stop (Happens y) v (λ z. z) s.ready s
+keys-fit U m x a stop (Tick n) v s = other-keys U m x a stop (Tick n) v (λ z. z) s.ready s
+keys-fit U m x a stop (Disconnect c) v s = end-keys U m x a stop c v s
+keys-fit U m x a stop Stop v s = stop-keys U m x a stop v s
+
+pub keys-step : (U : Setup) (m : Board) (x : Texts) (a : Ready) (stop : Option ℕ) (e : Event) (v : Verdict) → Stepping U m x a stop e v
+    → key_count (stepped U v e (trail_of m.journal.items)) + switch_keys (stepped U v e (trail_of m.journal.items)) ≤ m.draft.keys
+unfolding KeysFit
+keys-step U m x a stop e v s = keys-fit U m x a stop e v s
+
+-- there is room for marks, and for keys
+pub fits-both : (f : Trail → Trail) (d : DraftState) → length (f d.trail) ≤ d.reach → key_count (f d.trail) ≤ d.keys → Fits f d
+fits-both f d marks keys Marks = marks
+fits-both f d marks keys Keys = keys
+
 -- ---- each connection's end keeps its room
 
 -- the verdict that was made ready is the event's
@@ -290,9 +346,9 @@ ears-closed U m n x a b stop e v ms s w j q =
 
 -- the board after the entry is closed is one of a core again
 pub core-closed : (U : Setup) (m n : Board) (x y : Texts) (a : Ready) (b : Answer) (stop next : Option ℕ) (e : Event) (v : Verdict) (ms : List Mark) → Stepping U m x a stop e v → Steps U m.journal.items e v b ms
-    → n.journal.items ≡ m.journal.items ++ entry_of e v b ms ∷ [] → n.draft.trail ≡ trail_of n.journal.items → IsBegun n → n.journal.entries + 1 ≡ m.journal.entries → n.draft.far ≡ m.draft.far → length n.draft.trail ≤ n.draft.reach → EndsFollow v e (next_room m.journal) (end_room m.journal) (end_room n.journal)
+    → n.journal.items ≡ m.journal.items ++ entry_of e v b ms ∷ [] → n.draft.trail ≡ trail_of n.journal.items → IsBegun n → n.journal.entries + 1 ≡ m.journal.entries → n.draft.far ≡ m.draft.far → n.draft.keys ≡ m.draft.keys → length n.draft.trail ≤ n.draft.reach → EndsFollow v e (next_room m.journal) (end_room m.journal) (end_room n.journal)
     → next ≡ stop_next stop e (length m.journal.items + 1) → HaveTexts y (stepped U v e (trail_of m.journal.items)) → HearsOn m n e v ms (stepped U v e (trail_of m.journal.items)) → IsCore U n y next
-core-closed U m n x y a b stop next e v ms s w j k g l r within follows o h q =
+core-closed U m n x y a b stop next e v ms s w j k g l r same_keys within follows o h q =
     let es = m.journal.items in
     let t = trail_of es in
     let d = entry_of e v b ms in
@@ -305,6 +361,8 @@ core-closed U m n x y a b stop next e v ms s w j k g l r within follows o h q =
     let c = ap (λ (u : Trail). length (connections u)) trail in
     let f = ap (λ (u : Trail). length u + need u) trail in
     let i = ap stop_need o in
+    let u = ap (λ (u : Trail). key_count u + switch_keys u) trail in
+    let keys_kept = keys-step U m x a stop e v s in
     let A = kept.entries_kept in
     let B = kept.reach_kept in
     let C = kept.few_entries in
@@ -317,6 +375,7 @@ core-closed U m n x y a b stop next e v ms s w j k g l r within follows o h q =
       stop_is = o ∙ ap (λ (p : Option ℕ). stop_next p e (length es + 1)) s.core.stop_is ∙ sym (stop-closed es d) ∙ ap (stop_from 1) (sym j);
       entries = omega arith;
       reach = omega arith;
+      keys = omega arith;
       within = (let same = ap length k in omega arith);
       ends = subst E (sym trail) (ends-step U m x a stop e v (end_room n.journal) follows s);
       ears = ears-closed U m n x a b stop e v ms s w j q;

@@ -4,11 +4,12 @@ use Rattle.login_base.specs.Room.{Room}
 use Rattle.login_base.specs.declared.ids.ConnId.{ConnId}
 use Rattle.login_model.specs.Full.{connected_after, full, taken_count}
 use Rattle.login_model.specs.Legal.{answered, trail_of}
+use Rattle.login_laws.specs.Keys.{most_keys}
 use Rattle.login_laws.specs.Need.{most_marks, most_rise, need}
 use Rattle.login_laws.specs.Shares.{concerns, most_share_rise, share}
 use Rattle.login_model.specs.Policy.{verdict}
 use Rattle.login_model.specs.Stopping.{stopped}
-use Rattle.login_model.specs.Trail.{Trail}
+use Rattle.login_model.specs.Trail.{Trail, key_count}
 use Rattle.login_model.specs.Where.{is_connected}
 use Rattle.login_model.specs.declared.event.Event.{Event}
 use Rattle.login_model.specs.declared.event.Event.TheVariants.{Connect, Disconnect, Stop}
@@ -25,15 +26,16 @@ use Rattle.login_core.specs.declared.state.Refused.TheVariants.{NoMemory, Full, 
 use Rattle.login_core.specs.declared.room.ready.Ready.{Ready}
 use Rattle.login_core.specs.declared.room.texts.Texts.{Texts}
 
--- the setup, the journal, and what was made ready: room for so many more entries; in the tables for so many marks in
--- all; in the list of the next entry for marks up to so many; for the marks of each connection's end, and of the end of
--- one that comes; and for the inputs of so many handles; the copies of texts; and the verdict and the answer of the
--- next event
+-- the setup, the journal, and what was made ready: room for so many more entries; beside the tables for so many marks
+-- in all, and in the tables for so many keys in all; in the list of the next entry for marks up to so many; for the marks of
+-- each connection's end, and of the end of one that comes; and for the inputs of so many handles; the copies of texts;
+-- and the verdict and the answer of the next event
 pub record CoreState : Type 0 where
   pub setup : Setup
   pub journal : List Entry
   pub entries : ℕ
   pub far : ℕ
+  pub keys : ℕ
   pub reach : ℕ
   pub ends : List (ℕ × Room Mark)
   pub next_end : ℕ
@@ -60,10 +62,12 @@ NextIsWide Granted t (Connect who u) next = end_marks Granted t (Connect who u) 
 NextIsWide _ t _ next = Unit {0}
 
 -- room was made for the event's entry and marks, for one device more that is taken, and for all that connections and
--- the stop need after it: in the tables for all of it, and in the list of each connection for its own end
+-- the stop need after it: in the tables for the keys of all of it, beside them for its marks, and in the list of each
+-- connection for its own end
 pub record IsRoomFor (c : CoreState) (e : Event) : Type 0 where
   pub entries : connected_after c.setup (trail_of c.journal) e + 2 ≤ c.entries
   pub far : length (trail_of c.journal) + need (trail_of c.journal) + most_marks (trail_of c.journal) + most_rise (trail_of c.journal) ≤ c.far
+  pub keys : verdict c.setup (trail_of c.journal) e ≡ Granted → key_count (trail_of c.journal) + most_keys (trail_of c.journal) e ≤ c.keys
   pub reach : length (trail_of c.journal) + most_marks (trail_of c.journal) ≤ c.reach
   pub ends : (who : ConnId) → is_connected (trail_of c.journal) who ≡ true → end_marks (verdict c.setup (trail_of c.journal) e) (trail_of c.journal) e who ≤ room_of c.ends who
   pub next_end : NextIsWide (verdict c.setup (trail_of c.journal) e) (trail_of c.journal) e c.next_end

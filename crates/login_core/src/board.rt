@@ -6,6 +6,7 @@ pub mod ends;
 pub mod facts;
 pub mod hearing;
 pub mod holding;
+pub mod keys;
 pub mod owing;
 pub mod rounds;
 pub mod seating;
@@ -21,11 +22,11 @@ ghost use Rattle.login_base.specs.declared.ids.DevNo.{DevNo as AnyDevice};
 ghost use Rattle.login_base.specs.declared.ids.HandleNo.{HandleNo as AnyHandle};
 ghost use Rattle.login_model.specs.declared.answer.Input.{Input as AnyInput};
 ghost use Rattle.login_model.specs.declared.mark.Mark.{Mark as AnyMark};
-ghost use Rattle.login_model.specs.Trail.{after, put};
+ghost use Rattle.login_model.specs.Trail.{after, key_count, put};
 ghost use Rattle.login_model.specs.Fresh.{next_lock, next_session};
 ghost use Rattle.login_core.specs.inner.Counts.{AreCounted};
 ghost use Rattle.device_model.specs.Ears.{heard_of};
-ghost use Rattle.login_core.specs.inner.Draft.{marked_by, reaching, tell, with_ears, with_rings, Fits};
+ghost use Rattle.login_core.specs.inner.Draft.{marked_by, reaching, tell, with_ears, with_keys, with_rings, Fits};
 ghost use Rattle.login_core.specs.inner.Ears.{AreEnough, ListenLive, settled};
 ghost use Rattle.login_core.specs.inner.Ledger.{end_room, next_room, with_trimmed};
 ghost use Rattle.login_core.specs.inner.Rings.{ring_count};
@@ -50,7 +51,7 @@ use std::snapshot::Snapshot;
 pub struct Reach {
     /// With those of the entry under way: its list has room for them.
     pub entry: u32,
-    /// With those of later entries too: tables have room for them.
+    /// With those of later entries too: what stands beside the tables has room for them.
     pub all: u32,
 }
 
@@ -70,7 +71,9 @@ pub struct Draft {
 impl Model for Draft {
     ghost use Rattle.login_core.specs.inner.Draft.{DraftState, IsDraft};
     ghost use Rattle.login_core.specs.inner.UnderWay.{so_far};
+    ghost use Rattle.std.specs.Prelude.{◌+◌};
     ghost use Rattle.login_model.specs.Legal.{trail_of};
+    ghost use Rattle.login_model.specs.Trail.{key_count};
 
     ghost Value = { DraftState };
 
@@ -79,6 +82,7 @@ impl Model for Draft {
       trail = so_far d.journal.value.items d.marks.items;
       reach = d.reach.entry;
       far = d.reach.all;
+      keys = key_count (so_far d.journal.value.items d.marks.items) + d.facts.fresh;
       ears = d.facts.ears;
       rings = d.facts.rings;
     } };
@@ -113,9 +117,9 @@ impl Draft {
         self.made
     }
 
-    /// How far tables have to reach so that there is room for so many marks in all: an eighth further than is asked
-    /// for, where they don't reach so far yet. They are gone over when they get room, so they get it for some entries
-    /// to come.
+    /// How far marks may go so that there is room for so many in all: an eighth further than is asked for, where it is
+    /// not made so far yet. What connections have, and the sums of what their ends make, are gone over when they get
+    /// room, so they get it for some entries to come.
     fn far_for(&self, far: u32) -> u32
         requires { far + 2 < 2 ^ 31 }
         ensures far { far ≤ result }
@@ -130,17 +134,20 @@ impl Draft {
         }
     }
 
-    /// Makes room for so many more marks of the entry under way, and for so many in all, each of which may be a
-    /// setting.
-    pub fn reserve(&mut self, next: u32, far: u32) -> Result<(), NoMemory>
+    /// Makes room for so many more marks of the entry under way, for so many in all, each of which may be a setting,
+    /// and for so many more keys that were not set before.
+    pub fn reserve(&mut self, next: u32, far: u32, keys: usize) -> Result<(), NoMemory>
         requires more { self.old.far ≤ far }
         requires within { length self.old.trail + next ≤ far }
         requires numbered { far + 2 < 2 ^ 32 }
-        ensures made { OnOk result (self.new ≡ reaching (length self.old.trail + next) far self.old) }
+        ensures made { OnOk result (self.new ≡ with_keys self.new.keys (reaching (length self.old.trail + next) far self.old)) }
+        ensures keys { OnOk result (key_count self.old.trail + keys ≤ self.new.keys) }
+        ensures keeps_keys { self.old.keys ≤ self.new.keys }
         ensures refused { OnErr result (self.new ≡ self.old) }
     {
         self.marks.reserve(with_more(next as usize))?;
         self.facts.reserve((far - self.made) as usize)?;
+        self.facts.reserve_keys(keys)?;
         self.reach = Reach {
             entry: self.made + next,
             all: far,
@@ -372,7 +379,7 @@ impl Board {
         ensures begun { IfOk result (λ board. IsBegun board) }
     {
         let mut board = Board::new(alloc);
-        match board.reserve(1, 0, 0) {
+        match board.reserve(1, 0, 0, 0) {
             Ok(()) => Ok(board),
             Err(NoMemory) => {
                 drop(board);
@@ -381,9 +388,16 @@ impl Board {
         }
     }
 
-    /// Makes room for so many more entries, for so many marks of the next one, and for so many marks in all, each of
-    /// which may be a setting. The entries and the marks in all for which there is room already stay.
-    pub fn reserve(&mut self, entries: u32, next: u32, far: u32) -> Result<(), NoMemory>
+    /// Makes room for so many more entries, for so many marks of the next one, for so many marks in all, each of which
+    /// may be a setting, and for so many more keys that were not set before. The entries, the marks in all and the keys
+    /// for which there is room already stay.
+    pub fn reserve(
+        &mut self,
+        entries: u32,
+        next: u32,
+        far: u32,
+        keys: usize,
+    ) -> Result<(), NoMemory>
         requires within { length self.old.draft.trail + next ≤ far }
         requires numbered { far + 2 < 2 ^ 31 }
         requires begun { IsBegun self.old }
@@ -391,6 +405,8 @@ impl Board {
         ensures entries { OnOk result (entries ≤ self.new.journal.entries) }
         ensures reach { OnOk result (length self.new.draft.trail + next ≤ self.new.draft.reach) }
         ensures far { OnOk result (far ≤ self.new.draft.far) }
+        ensures keys { OnOk result (key_count self.old.draft.trail + keys ≤ self.new.draft.keys) }
+        ensures keeps_keys { self.old.draft.keys ≤ self.new.draft.keys }
         ensures keeps_entries { self.old.journal.entries ≤ self.new.journal.entries }
         ensures keeps_far { self.old.draft.far ≤ self.new.draft.far }
         ensures ends { (c : AnyConnection) → end_room self.new.journal c ≡ end_room self.old.journal c }
@@ -405,7 +421,7 @@ impl Board {
         let far = self.draft.far_for(far);
         self.journal.reserve_entries(entries)?;
         self.draft.trim(&mut self.journal)?;
-        self.draft.reserve(next, far)
+        self.draft.reserve(next, far, keys)
     }
 
     /// The list that is kept for the end of a connection becomes that of the entry under way. It takes no memory.
@@ -435,6 +451,7 @@ impl Board {
         ensures entries { self.new.journal.entries + 1 ≡ self.old.journal.entries }
         ensures within { length self.new.draft.trail ≤ self.new.draft.reach }
         ensures far { self.new.draft.far ≡ self.old.draft.far }
+        ensures keys { self.new.draft.keys ≡ self.old.draft.keys }
         ensures ends { (c : AnyConnection) → end_room self.new.journal c ≡ end_room self.old.journal c }
         ensures next { next_room self.new.journal ≡ next_room self.old.journal }
         ensures ears { self.new.draft.ears ≡ self.old.draft.ears }

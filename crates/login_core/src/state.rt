@@ -126,6 +126,7 @@ impl Model for Core {
       journal = c.board.journal.items;
       entries = c.board.journal.entries;
       far = c.board.draft.far;
+      keys = c.board.draft.keys;
       reach = c.board.draft.reach;
       ends = c.board.journal.ends;
       next_end = next_room c.board.journal;
@@ -283,8 +284,9 @@ impl Core {
         let entries = self.entries_for(event, verdict);
         let next = self.board.draft.counts().most_marks();
         let reach = self.reach_for();
+        let keys = self.board.draft.keys_needed(event, verdict);
         self.board
-            .reserve(entries as u32, next as u32, reach as u32)?;
+            .reserve(entries as u32, next as u32, reach as u32, keys as usize)?;
         self.board.make_ends(event, verdict)?;
         let taken = self.board.draft.counts().taken;
         self.board.draft.make_rings(taken as usize + 1)?;

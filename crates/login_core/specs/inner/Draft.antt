@@ -2,6 +2,7 @@
 use Rattle.std.specs.Prelude.{ℕ, ◌≡◌, ◌+◌, ◌<◌, ◌≤◌, ◌^◌, List, length}
 use Rattle.login_base.specs.Room.{Room}
 use Rattle.login_model.specs.declared.mark.Mark.{Mark}
+use Rattle.login_laws.specs.Amounts.{Keys, Marks, Resource, amount}
 use Rattle.login_model.specs.Trail.{Trail}
 use Rattle.device_model.specs.declared.ears.Ear.{Ear}
 pub use Rattle.switch_core.specs.inner.Ahead.{tell}
@@ -11,13 +12,14 @@ use Rattle.login_core.specs.inner.Facts.{Tables, StandFor}
 use Rattle.login_core.specs.inner.Seating.{AreSeated}
 
 -- the marks before the entry under way, and those so far, both the newest first; how many marks there may be in
--- all, with those of this entry and with those of later ones too; the handles that listen to devices, and how many
--- rings are spare
+-- all, with those of this entry and with those of later ones too; how many keys there may be settings of; the handles
+-- that listen to devices, and how many rings are spare
 pub record DraftState : Type 0 where
   pub before : Trail
   pub trail : Trail
   pub reach : ℕ
   pub far : ℕ
+  pub keys : ℕ
   pub ears : List Ear
   pub rings : ℕ
 
@@ -29,13 +31,26 @@ with_trail d t = record d { trail = t }
 abbrev pub marked_by : (Trail → Trail) → DraftState → DraftState
 marked_by f d = with_trail d (f d.trail)
 
--- there is room for the marks of a procedure
+-- the number that is a resource's
+abbrev pub of_resource : Resource → ℕ → ℕ → ℕ
+of_resource Marks marks keys = marks
+of_resource Keys marks keys = keys
+
+-- how many marks there may be, or keys with a setting
+abbrev pub limit : Resource → DraftState → ℕ
+limit r d = of_resource r d.reach d.keys
+
+-- there is room for the marks of a procedure, and for the keys that they set
 abbrev pub Fits : (Trail → Trail) → DraftState → Type 0
-Fits f d = length (f d.trail) ≤ d.reach
+Fits f d = (r : Resource) → amount r (f d.trail) ≤ limit r d
 
 -- there may be so many marks, with those of this entry and with those of later ones
 abbrev pub reaching : ℕ → ℕ → DraftState → DraftState
 reaching n far d = record d { reach = n; far = far }
+
+-- there may be settings of so many keys
+abbrev pub with_keys : ℕ → DraftState → DraftState
+with_keys n d = record d { keys = n }
 
 -- so many rings are spare
 abbrev pub with_rings : ℕ → DraftState → DraftState
@@ -46,8 +61,8 @@ abbrev pub with_ears : List Ear → ℕ → DraftState → DraftState
 with_ears es n d = record d { ears = es; rings = n }
 
 -- the facts, and where sessions sit, are as the marks so far leave them; these are counted; the list of the entry under
--- way has room for as many as there may be with it, and tables for as many as there may be in all, which can be
--- numbered
+-- way has room for as many as there may be with it, and what stands beside the tables for as many as there may be in
+-- all, which can be numbered
 pub record IsDraft (trail : Trail) (marks : Room Mark) (facts : Tables) (seating : Seating) (made : ℕ) (reach : Reach) : Type 0 where
   pub stands : StandFor facts trail
   pub seated : AreSeated seating trail

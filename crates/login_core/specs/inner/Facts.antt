@@ -1,7 +1,7 @@
 -- The facts in their tables.
-use Rattle.std.specs.Prelude.{ℕ, ◌≡◌, ◌+◌, ◌<◌, ◌^◌, List, length}
+use Rattle.std.specs.Prelude.{ℕ, ◌≡◌, ◌+◌, ◌<◌, ◌^◌, if◌then◌else◌, List, length}
 use Rattle.login_model.specs.declared.fact.Key.{Key}
-use Rattle.login_model.specs.Trail.{Trail, value}
+use Rattle.login_model.specs.Trail.{Trail, value, was_set}
 use Rattle.login_model.specs.Fresh.{fresh_session, fresh_handle, fresh_lock}
 pub use Rattle.login_model.specs.Fresh.{gives}
 use Rattle.device_model.specs.declared.ears.Ear.{Ear}
@@ -17,7 +17,8 @@ use Rattle.login_table.specs.Home.{home}
 
 -- what facts are seen as: what each table has, as settings; the handles that listen to devices, and how many rings
 -- are spare; how many there are of what needs room; the numbers of the next session, the next handle and the next
--- lock; what connections have, and what they owe; and how many more settings go in without memory
+-- lock; what connections have, and what they owe; how many more settings go in without memory, and under how many keys
+-- that were not set before
 pub record Tables : Type 0 where
   pub users : Trail
   pub sessions : Trail
@@ -36,6 +37,7 @@ pub record Tables : Type 0 where
   pub held : List Holding
   pub owing : Owing
   pub spare : ℕ
+  pub fresh : ℕ
 
 -- the settings of one table
 abbrev pub table : Tables → Home → Trail
@@ -48,10 +50,16 @@ table f Takes = f.takes
 table f Locks = f.locks
 table f Power = f.power
 
--- each fact is the one that the marks leave, in the table where it has its home; the counts are those of what is
--- there, the numbers are those that the marks leave, and connections have what they leave them
+-- how many keys more are set with that one
+abbrev pub new_keys : Trail → Key → ℕ
+new_keys t k = if was_set t k then 0 else 1
+
+-- each fact is the one that the marks leave, in the table where it has its home, which has the keys that were set; the
+-- counts are those of what is there, the numbers are those that the marks leave, and connections have what they leave
+-- them
 pub record TablesStand (f : Tables) (t : Trail) : Type 0 where
   pub facts : (k : Key) → value (table f (home k)) k ≡ value t k
+  pub keys : (k : Key) → was_set (table f (home k)) k ≡ was_set t k
   pub counts : AreCounted f.counts t
   pub session : f.session ≡ fresh_session t
   pub handle : f.handle ≡ fresh_handle t

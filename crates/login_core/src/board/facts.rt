@@ -1,7 +1,7 @@
 // The facts, in their tables.
 
-ghost use Rattle.std.specs.Prelude.{◌≡◌, ◌+◌, ◌<◌, ◌≤◌, ◌^◌, [], ◌∷◌, IsSome, List, OnOk, Some, length, nat_lt};
-ghost use Rattle.login_model.specs.Trail.{Trail, value};
+ghost use Rattle.std.specs.Prelude.{◌≡◌, ◌+◌, ◌<◌, ◌≤◌, ◌^◌, [], ◌∷◌, IsSome, List, OnErr, OnOk, Some, false, length, nat_lt};
+ghost use Rattle.login_model.specs.Trail.{Trail, value, was_set};
 ghost use Rattle.login_model.specs.Fresh.{next_session, next_handle, next_lock};
 ghost use Rattle.login_model.specs.Names.{IsNext, session_lt, user_lt, conn_lt, seat_lt, device_lt, lock_lt};
 ghost use Rattle.login_model.specs.Where.{is_session, is_user, is_connected, is_seat, is_device, is_lock};
@@ -14,7 +14,8 @@ ghost use Rattle.login_base.specs.declared.ids.HandleNo.{HandleNo as AnyHandle};
 ghost use Rattle.login_model.specs.declared.answer.Input.{Input as AnyInput};
 ghost use Rattle.login_core.specs.inner.Ears.{AreEnough, ListenOn, settled};
 ghost use Rattle.login_core.specs.inner.Rings.{ring_count};
-ghost use Rattle.login_core.specs.inner.Facts.{StandFor, StandsForFew, TablesStand, table};
+ghost use Rattle.login_table.specs.Home.{home};
+ghost use Rattle.login_core.specs.inner.Facts.{StandFor, StandsForFew, TablesStand, new_keys, table};
 ghost use Rattle.login_core.specs.inner.Owing.{owed};
 ghost use Rattle.login_core.specs.inner.Sums.{sum_in};
 ghost use Rattle.login_core.specs.inner.Holding.{AreSuch};
@@ -22,6 +23,7 @@ ghost use Rattle.login_core.specs.inner.Holding.{AreSuch};
 use crate::board::hearing::settle;
 use crate::board::holding::{Holding, Holdings, holding_in};
 use crate::board::owing::{Dues, Owing, Touched, taker_in};
+use crate::board::with_more;
 use crate::room::counts::Counts;
 use controller::Controller;
 use device_model::DeviceModel;
@@ -36,6 +38,10 @@ use sessions::Sessions;
 use std::alloc::Global;
 use std::marker::Model;
 use users_linger::UsersLinger;
+
+/// For how many keys tables get rows beyond those that are asked for and an eighth, so that they are not gone over at
+/// each event.
+const KEYS_AHEAD: usize = 32;
 
 /// The facts, how many there are of what needs room, the numbers of the next session, the next handle and the next
 /// lock, what each connection has, and what its end makes. They stand for the marks whose settings were put in. With
@@ -56,7 +62,10 @@ pub struct Facts {
     lock: u32,
     holdings: Holdings,
     owing: Owing,
+    /// How many more settings can be put in beside the tables.
     spare: usize,
+    /// How many more keys can be set that were not set before: tables have rows for them.
+    fresh: usize,
 }
 
 impl Model for Facts {
@@ -83,9 +92,10 @@ impl Model for Facts {
       held = f.holdings.list;
       owing = f.owing;
       spare = f.spare;
+      fresh = f.fresh;
     } };
 
-    ghost invariant = { λ f. (f.spare ≤ f.users.spare) × (f.spare ≤ f.sessions.spare) × (f.spare ≤ f.seats.spare) × (f.spare ≤ f.devices.spare) × (f.spare ≤ f.controls.spare) × (f.spare ≤ f.takes.spare) × (f.spare ≤ f.locks.spare) × (f.spare ≤ f.power.spare) × (f.spare ≤ f.holdings.spare) × (4 * f.spare ≤ f.owing.marks.spare) × (f.spare ≤ f.owing.taken.spare) };
+    ghost invariant = { λ f. (f.fresh ≤ f.users.spare) × (f.fresh ≤ f.sessions.spare) × (f.fresh ≤ f.seats.spare) × (f.fresh ≤ f.devices.spare) × (f.fresh ≤ f.controls.spare) × (f.fresh ≤ f.takes.spare) × (f.fresh ≤ f.locks.spare) × (f.fresh ≤ f.power.spare) × (f.spare ≤ f.holdings.spare) × (4 * f.spare ≤ f.owing.marks.spare) × (f.spare ≤ f.owing.taken.spare) };
 }
 
 #[tactic(auto, unfolding(crate::specs::inner::Facts::StandFor))]
@@ -111,32 +121,52 @@ impl Facts {
             holdings: Holdings::new(alloc),
             owing: Owing::new(alloc),
             spare: 0,
+            fresh: 0,
         }
     }
 
-    /// Makes room for so many more settings.
+    /// Makes room for so many more settings, beside the tables.
     pub fn reserve(&mut self, more: usize) -> Result<(), NoMemory>
         requires { more < 2 ^ 32 }
         ensures ok { OnOk result (more ≤ self.new.spare) }
         ensures stands { (t : Trail) → StandFor self.old t → StandFor self.new t }
         ensures spare { self.old.spare ≤ self.new.spare }
+        ensures fresh { self.new.fresh ≡ self.old.fresh }
         ensures ears { self.new.ears ≡ self.old.ears }
         ensures rings { self.new.rings ≡ self.old.rings }
     {
         if more <= self.spare {
             return Ok(());
         }
-        self.users.room(more)?;
-        self.sessions.room(more)?;
-        self.seats.room(more)?;
-        self.devices.room(more)?;
-        self.controls.room(more)?;
-        self.takes.room(more)?;
-        self.locks.room(more)?;
-        self.power.room(more)?;
         self.holdings.reserve(more)?;
         self.owing.reserve(more)?;
         self.spare = more;
+        Ok(())
+    }
+
+    /// Makes room in the tables for so many more keys that were not set before.
+    pub fn reserve_keys(&mut self, keys: usize) -> Result<(), NoMemory>
+        ensures ok { OnOk result (keys ≤ self.new.fresh) }
+        ensures refused { OnErr result (self.new.fresh ≡ self.old.fresh) }
+        ensures stands { (t : Trail) → StandFor self.old t → StandFor self.new t }
+        ensures spare { self.new.spare ≡ self.old.spare }
+        ensures fresh { self.old.fresh ≤ self.new.fresh }
+        ensures ears { self.new.ears ≡ self.old.ears }
+        ensures rings { self.new.rings ≡ self.old.rings }
+    {
+        if keys <= self.fresh {
+            return Ok(());
+        }
+        let keys = with_more(keys).saturating_add(KEYS_AHEAD);
+        self.users.room(keys)?;
+        self.sessions.room(keys)?;
+        self.seats.room(keys)?;
+        self.devices.room(keys)?;
+        self.controls.room(keys)?;
+        self.takes.room(keys)?;
+        self.locks.room(keys)?;
+        self.power.room(keys)?;
+        self.fresh = keys;
         Ok(())
     }
 
@@ -145,6 +175,7 @@ impl Facts {
         ensures ok { OnOk result (handles ≤ ring_count self.new.ears self.new.rings) }
         ensures stands { (t : Trail) → StandFor self.old t → StandFor self.new t }
         ensures spare { self.new.spare ≡ self.old.spare }
+        ensures fresh { self.new.fresh ≡ self.old.fresh }
         ensures ears { self.new.ears ≡ self.old.ears }
         ensures rings { self.old.rings ≤ self.new.rings }
     {
@@ -185,9 +216,11 @@ impl Facts {
     /// Puts a setting in the tables.
     fn put_in(&mut self, key: Key, fact: Fact)
         requires spare { 0 < self.old.spare }
+        requires fresh { was_set (table self.old (home key)) key ≡ false → 0 < self.old.fresh }
         requires few { StandsForFew TablesStand self.old }
         ensures stands { (t : Trail) → TablesStand self.old t → TablesStand self.new (Set key fact ∷ t) }
         ensures spare { self.old.spare ≡ self.new.spare + 1 }
+        ensures fresh { self.old.fresh ≡ self.new.fresh + new_keys (table self.old (home key)) key }
         ensures owing { self.new.owing ≡ self.old.owing }
         ensures ears { self.new.ears ≡ self.old.ears }
         ensures rings { self.new.rings ≡ self.old.rings }
@@ -203,23 +236,25 @@ impl Facts {
         self.lock += gained.locks;
         self.spare -= 1;
         match Home::of(&key) {
-            Home::Users => self.users.set(key, fact),
-            Home::Sessions => self.sessions.set(key, fact),
-            Home::Seats => self.seats.set(key, fact),
-            Home::Devices => self.devices.set(key, fact),
-            Home::Controls => self.controls.set(key, fact),
-            Home::Takes => self.takes.set(key, fact),
-            Home::Locks => self.locks.set(key, fact),
-            Home::Power => self.power.set(key, fact),
+            Home::Users => self.fresh -= usize::from(self.users.set(key, fact)),
+            Home::Sessions => self.fresh -= usize::from(self.sessions.set(key, fact)),
+            Home::Seats => self.fresh -= usize::from(self.seats.set(key, fact)),
+            Home::Devices => self.fresh -= usize::from(self.devices.set(key, fact)),
+            Home::Controls => self.fresh -= usize::from(self.controls.set(key, fact)),
+            Home::Takes => self.fresh -= usize::from(self.takes.set(key, fact)),
+            Home::Locks => self.fresh -= usize::from(self.locks.set(key, fact)),
+            Home::Power => self.fresh -= usize::from(self.power.set(key, fact)),
         }
     }
 
-    /// Puts a setting in. It takes no memory.
+    /// Puts a setting in. It takes no memory. A key that was set before takes no room in its table.
     pub fn set(&mut self, key: Key, fact: Fact)
         requires spare { 0 < self.old.spare }
+        requires fresh { was_set (table self.old (home key)) key ≡ false → 0 < self.old.fresh }
         requires few { StandsForFew StandFor self.old }
         ensures stands { (t : Trail) → StandFor self.old t → StandFor self.new (Set key fact ∷ t) }
         ensures spare { self.old.spare ≡ self.new.spare + 1 }
+        ensures fresh { self.old.fresh ≡ self.new.fresh + new_keys (table self.old (home key)) key }
         ensures ears { self.new.ears ≡ self.old.ears }
         ensures rings { self.new.rings ≡ self.old.rings }
     {
@@ -364,6 +399,7 @@ impl Facts {
         ensures rings { ring_count self.new.ears self.new.rings ≡ ring_count self.old.ears self.old.rings }
         ensures stands { (t : Trail) → StandFor self.old t → StandFor self.new t }
         ensures spare { self.new.spare ≡ self.old.spare }
+        ensures fresh { self.new.fresh ≡ self.old.fresh }
     {
         settle(&self.takes, &mut self.devices, event, verdict, marks, read);
     }

@@ -11,7 +11,7 @@ ghost use Rattle.login_model.specs.Policy.{controls};
 ghost use Rattle.login_model.specs.declared.fact.Key.TheVariants.{Lock};
 ghost use Rattle.login_model.proofs.Keys.{both};
 ghost use Rattle.login_model.proofs.InOrder.{Enumerates, enumerated, locks-enumerated, sessions-enumerated, taken-enumerated};
-ghost use Rattle.login_laws.proofs.Grows.{Grows};
+ghost use Rattle.login_laws.proofs.Widens.{Widens};
 ghost use Rattle.login_laws.specs.Sound.{Fifos};
 ghost use Rattle.login_table.specs.Listed.{is_there, listed};
 ghost use Rattle.login_core.specs.inner.Chosen.{is_chosen};
@@ -60,7 +60,7 @@ pub trait Task<N> {
         ensures same { does self.new ≡ does self.old }
         ensures agrees { agrees self.new draft.new.trail };
 
-    ghost adds: { (x : Self) (n : N) (t : Trail) → Grows t (does x n t) };
+    ghost adds: { (x : Self) (n : N) (t : Trail) → Widens t (does x n t) };
 }
 
 /// The devices that a session has taken.

@@ -6,7 +6,7 @@ ghost use Rattle.login_model.specs.Direct.{controlled_by, unlock, disconnect};
 ghost use Rattle.login_model.specs.Trail.{put};
 ghost use Rattle.login_model.specs.declared.fact.Key.TheVariants.{Lock};
 ghost use Rattle.login_model.specs.declared.fact.Fact.TheVariants.{Absent};
-ghost use Rattle.login_laws.proofs.Grows.{put-grows, release-grows};
+ghost use Rattle.login_laws.proofs.Widens.{put-widens, release-widens};
 ghost use Rattle.login_laws.specs.Sound.{Fifos};
 ghost use Rattle.login_core.specs.inner.Spares.{AreClosing};
 ghost use Rattle.login_core.specs.inner.Draft.{marked_by, Fits};
@@ -24,7 +24,7 @@ struct Release;
 impl Task<SessId> for Release {
     ghost does = { λ x s t. release s t };
 
-    ghost adds = { λ x s t. release-grows s t };
+    ghost adds = { λ x s t. release-widens s t };
 
     fn run(&mut self, draft: &mut Draft, session: SessId) {
         draft.release(session);
@@ -38,7 +38,7 @@ struct DropLock;
 impl Task<LockNo> for DropLock {
     ghost does = { λ x l t. put (Lock l) Absent t };
 
-    ghost adds = { λ x l t. put-grows (Lock l) Absent t };
+    ghost adds = { λ x l t. put-widens (Lock l) Absent t };
 
     fn run(&mut self, draft: &mut Draft, lock: LockNo) {
         draft.put_absent(Key::Lock(lock));

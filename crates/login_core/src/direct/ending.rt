@@ -4,7 +4,7 @@ ghost use Rattle.std.specs.Prelude.{◌≡◌};
 ghost use Rattle.login_model.specs.Where.{sessions_of, sessions_on};
 ghost use Rattle.login_model.specs.Procedure.{each, shut};
 ghost use Rattle.login_model.specs.Direct.{end_sessions};
-ghost use Rattle.login_laws.proofs.Grows.{shut-grows};
+ghost use Rattle.login_laws.proofs.Widens.{shut-widens};
 ghost use Rattle.login_laws.specs.Sound.{Fifos};
 ghost use Rattle.login_core.specs.inner.Spares.{AreClosing};
 ghost use Rattle.login_core.specs.inner.Draft.{marked_by, Fits};
@@ -21,7 +21,7 @@ impl Task<SessId> for Spares {
 
     ghost agrees = { λ x t. AreClosing x.items t };
 
-    ghost adds = { λ x s t. shut-grows s t };
+    ghost adds = { λ x s t. shut-widens s t };
 
     fn run(&mut self, draft: &mut Draft, session: SessId) {
         draft.shut_kept(session, self);

@@ -2,7 +2,7 @@
 
 ghost use Rattle.std.specs.Prelude.{◌≡◌, not, true};
 ghost use Rattle.login_model.specs.Trail.{value, put, tell_all};
-ghost use Rattle.login_laws.proofs.Grows.{forget-grows};
+ghost use Rattle.login_laws.proofs.Widens.{forget-widens};
 ghost use Rattle.login_model.specs.Where.{is_open, sessions_of, moment_or_zero, now};
 ghost use Rattle.login_model.specs.Procedure.{each, is_empty, is_kept, forget, leave, set_phase, shut};
 ghost use Rattle.login_model.specs.Direct.{leave_known, begin_linger, end_linger, linger, user_or_root, exit, is_overdue_fact, overdue, tick};
@@ -42,7 +42,7 @@ struct Forget;
 impl Task<Uid> for Forget {
     ghost does = { λ x u t. forget u t };
 
-    ghost adds = { λ x u t. forget-grows u t };
+    ghost adds = { λ x u t. forget-widens u t };
 
     fn run(&mut self, draft: &mut Draft, user: Uid) {
         draft.forget(user);

@@ -9,7 +9,7 @@ ghost use Rattle.login_model.specs.declared.fact.Key.TheVariants.{Sig};
 ghost use Rattle.login_model.specs.declared.fact.Fact.TheVariants.{Signal};
 ghost use Rattle.login_model.specs.declared.session.KillWhom.TheVariants.{All};
 ghost use Rattle.login_model.specs.declared.mark.Notice.TheVariants.{Lock, Unlock};
-ghost use Rattle.login_laws.proofs.Grows.{put-grows, tell_all-grows};
+ghost use Rattle.login_laws.proofs.Widens.{put-widens, tell_all-widens};
 ghost use Rattle.login_model.specs.Direct.{lock_session, unlock_session};
 ghost use Rattle.login_core.specs.inner.Draft.{marked_by, Fits};
 
@@ -26,7 +26,7 @@ struct LockScreen;
 impl Task<SessId> for LockScreen {
     ghost does = { λ x s t. lock_session s t };
 
-    ghost adds = { λ x s t. tell_all-grows (Lock s) t };
+    ghost adds = { λ x s t. tell_all-widens (Lock s) t };
 
     fn run(&mut self, draft: &mut Draft, session: SessId) {
         draft.lock_session(session);
@@ -40,7 +40,7 @@ struct UnlockScreen;
 impl Task<SessId> for UnlockScreen {
     ghost does = { λ x s t. unlock_session s t };
 
-    ghost adds = { λ x s t. tell_all-grows (Unlock s) t };
+    ghost adds = { λ x s t. tell_all-widens (Unlock s) t };
 
     fn run(&mut self, draft: &mut Draft, session: SessId) {
         draft.unlock_session(session);
@@ -54,7 +54,7 @@ struct SignalAll(i32);
 impl Task<SessId> for SignalAll {
     ghost does = { λ x s t. put (Sig s) (Signal All x.0) t };
 
-    ghost adds = { λ x s t. put-grows (Sig s) (Signal All x.0) t };
+    ghost adds = { λ x s t. put-widens (Sig s) (Signal All x.0) t };
 
     fn run(&mut self, draft: &mut Draft, session: SessId) {
         draft.put_signal(session, KillWhom::All, self.0);

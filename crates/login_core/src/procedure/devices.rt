@@ -5,7 +5,7 @@ ghost use Rattle.login_model.specs.Trail.{put, tell_all};
 ghost use Rattle.login_model.specs.Where.{sessions_on};
 ghost use Rattle.login_model.specs.Procedure.{each, revoke, shut};
 ghost use Rattle.login_model.specs.Taking.{add_device, appear_seat, has_graphics, lose_seat, remove_device, takers};
-ghost use Rattle.login_laws.proofs.Grows.{revoke-grows};
+ghost use Rattle.login_laws.proofs.Widens.{revoke-widens};
 ghost use Rattle.login_core.specs.inner.Spares.{AreClosing};
 ghost use Rattle.login_core.specs.inner.HandedOn.{graphics_fact};
 ghost use Rattle.login_core.specs.inner.Draft.{marked_by, Fits};
@@ -25,7 +25,7 @@ struct RevokeFrom(DevNo);
 impl Task<SessId> for RevokeFrom {
     ghost does = { λ x s t. revoke s x.0 t };
 
-    ghost adds = { λ x s t. revoke-grows s x.0 t };
+    ghost adds = { λ x s t. revoke-widens s x.0 t };
 
     fn run(&mut self, draft: &mut Draft, session: SessId) {
         draft.revoke(session, self.0);

@@ -3,7 +3,7 @@
 ghost use Rattle.std.specs.Prelude.{◌≡◌};
 ghost use Rattle.login_model.specs.Devices.{taken_devices};
 ghost use Rattle.login_model.specs.Procedure.{untake, release, revoke, oust};
-ghost use Rattle.login_laws.proofs.Grows.{untake-grows, revoke-grows};
+ghost use Rattle.login_laws.proofs.Widens.{untake-widens, revoke-widens};
 ghost use Rattle.login_core.specs.inner.Draft.{marked_by, Fits};
 
 use crate::board::Draft;
@@ -18,7 +18,7 @@ struct Untake(SessId);
 impl Task<DevNo> for Untake {
     ghost does = { λ x d t. untake x.0 d t };
 
-    ghost adds = { λ x d t. untake-grows x.0 d t };
+    ghost adds = { λ x d t. untake-widens x.0 d t };
 
     fn run(&mut self, draft: &mut Draft, device: DevNo) {
         draft.untake(self.0, device);
@@ -32,7 +32,7 @@ struct Revoke(SessId);
 impl Task<DevNo> for Revoke {
     ghost does = { λ x d t. revoke x.0 d t };
 
-    ghost adds = { λ x d t. revoke-grows x.0 d t };
+    ghost adds = { λ x d t. revoke-widens x.0 d t };
 
     fn run(&mut self, draft: &mut Draft, device: DevNo) {
         draft.revoke(self.0, device);

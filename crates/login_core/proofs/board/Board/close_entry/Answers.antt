@@ -1,9 +1,10 @@
-use Rattle.std.proofs.Common.{◌∙◌, sym, ap, arith}
+use Rattle.std.proofs.Common.{◌+◌, ◌∙◌, sym, ap, arith}
+use Rattle.login_model.specs.Trail.{Trail, key_count}
 use Rattle.login_model.specs.Legal.{trail_of}
 use Rattle.login_core.specs.inner.Draft.{DraftState}
 use Rattle.login_core.specs.inner.UnderWay.{so_far, entry_of}
 use Rattle.login_core.proofs.Standing.{so_far-none}
-use Rattle.login_core.proofs.Drafting.{ClosesBehind, draft-closed, so_far-same}
+use Rattle.login_core.proofs.Drafting.{ClosesBehind, closed-trail, draft-closed, so_far-same}
 use Rattle.login_core.proofs.board.Board.close_entry.Goals as goal
 
 pub invariant_of-draft : goal.invariant_of-draft
@@ -54,6 +55,21 @@ returns-clause-within c =
     } in
     let made = (draft-closed before m.journal.items new e f.marks c.replace-marks.new.dest f.facts f.seating f.made f.reach c.draft.invariant b).counted in
     omega arith
+
+pub returns-clause-keys : goal.returns-clause-keys
+returns-clause-keys c =
+    let m = c.args.self.now in
+    let f = c.draft.inside in
+    let before = f.journal.value.items in
+    let new = c.of.result.value.items in
+    let e = entry_of c.args.event c.args.verdict c.args.answer c.replace-marks.result.items in
+    let b : ClosesBehind before m.journal.items new e f.marks c.replace-marks.new.dest = record {
+      behind = ap (λ (d : DraftState). d.before) c.draft.view_is ∙ c.requires.begun.before;
+      entry = ap (λ j. j.items) c.of.ensures ∙ c.journal.ensures ∙ c.close.ensures.items;
+      marks_are = ap (λ r. r.items) c.replace-marks.ensures.value;
+      blank_is = ap (λ r. r.items) (c.replace-marks.ensures.after ∙ c.take.ensures.taken) ∙ c.requires.begun.idle_empty;
+    } in
+    ap (λ (t : Trail). key_count t + f.facts.fresh) (closed-trail before m.journal.items new e f.marks c.replace-marks.new.dest b) ∙ ap (λ (d : DraftState). d.keys) c.draft.view_is
 
 pub returns-clause-begun : goal.returns-clause-begun
 returns-clause-begun c = record {

@@ -1,11 +1,12 @@
-use Rattle.std.proofs.Common.{◌≡◌, ◌∙◌, ap, sym, refl, subst, length, arith}
+use Rattle.std.proofs.Common.{◌≡◌, ◌∙◌, ap, sym, refl, subst, arith}
 use Rattle.login_model.specs.declared.fact.Key.TheVariants.{Conn, Lock, Sess}
 use Rattle.login_model.specs.declared.fact.Fact.TheVariants.{Absent}
 use Rattle.login_model.specs.Trail.{Trail, value, put}
 use Rattle.login_model.specs.Procedure.{each, release, shut}
 use Rattle.login_model.specs.Direct.{controlled_by, kept_open_by, locks_of, end_sessions, unlock, disconnect}
+use Rattle.login_laws.specs.Amounts.{amount}
 use Rattle.login_laws.specs.Sound.{Fifos}
-use Rattle.login_laws.proofs.Grows.{Grows, each-grows, shut-grows, put-grows, grows-trans}
+use Rattle.login_laws.proofs.Widens.{Widens, each-widens, shut-widens, put-widens, widens-trans}
 use Rattle.login_laws.proofs.Carried.{each-carried, release-carried}
 use Rattle.login_laws.proofs.Tame.{Tame, tame, later-along, other, tame-unlocks}
 use Rattle.login_base.specs.declared.ids.ConnId.{ConnId}
@@ -22,25 +23,25 @@ after-release who t = put (Conn who) Absent (unlock who (end_sessions who t))
 after-end : ConnId → Trail → Trail
 after-end who t = put (Conn who) Absent (unlock who t)
 
-end-grows : (who : ConnId) (t : Trail) → Grows t (end_sessions who t)
-end-grows who t = each-grows shut shut-grows (kept_open_by t who) t
+end-widens : (who : ConnId) (t : Trail) → Widens t (end_sessions who t)
+end-widens who t = each-widens shut shut-widens (kept_open_by t who) t
 
-unlock-grows : (who : ConnId) (t : Trail) → Grows t (unlock who t)
-unlock-grows who t = each-grows (λ l u. put (Lock l) Absent u) (λ l u. put-grows (Lock l) Absent u) (locks_of t who) t
+unlock-widens : (who : ConnId) (t : Trail) → Widens t (unlock who t)
+unlock-widens who t = each-widens (λ l u. put (Lock l) Absent u) (λ l u. put-widens (Lock l) Absent u) (locks_of t who) t
 
-absent-grows : (who : ConnId) (t : Trail) → Grows t (put (Conn who) Absent t)
-absent-grows who t = put-grows (Conn who) Absent t
+absent-widens : (who : ConnId) (t : Trail) → Widens t (put (Conn who) Absent t)
+absent-widens who t = put-widens (Conn who) Absent t
 
-after-end-grows : (who : ConnId) (t : Trail) → Grows (unlock who t) (after-end who t)
+after-end-widens : (who : ConnId) (t : Trail) → Widens (unlock who t) (after-end who t)
 unfolding after-end
-after-end-grows who t = absent-grows who (unlock who t)
+after-end-widens who t = absent-widens who (unlock who t)
 
-after-release-grows : (who : ConnId) (t : Trail) → Grows (end_sessions who t) (after-release who t)
+after-release-widens : (who : ConnId) (t : Trail) → Widens (end_sessions who t) (after-release who t)
 unfolding after-release
-after-release-grows who t =
+after-release-widens who t =
     let e = end_sessions who t in
     let u = unlock who e in
-    grows-trans e u (put (Conn who) Absent u) (unlock-grows who e) (absent-grows who u)
+    widens-trans e u (put (Conn who) Absent u) (unlock-widens who e) (absent-widens who u)
 
 disconnect-is : (who : ConnId) (t : Trail) → disconnect who t ≡ after-release who (each release (controlled_by t who) t)
 unfolding disconnect after-release
@@ -64,10 +65,10 @@ release_controlled-requires c =
     let who = c.args.who in
     let t = c.args.self.now.trail in
     let a = each release (controlled_by t who) t in
-    let g = end-grows who a in
-    let h = after-release-grows who a in
-    let n = ap length (disconnect-is who t) in
-    record { room = omega (arith, c.requires.room) }
+    let g = end-widens who a in
+    let h = after-release-widens who a in
+    let e = disconnect-is who t in
+    record { room = λ r. (let a = g r in let b = h r in let n = ap (amount r) e in let k = c.requires.room r in omega arith) }
 
 unlock-tame : (who : ConnId) (t : Trail) → Tame t (unlock who t)
 unlock-tame who t = each-carried tame (λ l u. put (Lock l) Absent u) tame-unlocks (locks_of t who) t
@@ -102,17 +103,16 @@ end_sessions-requires-clause-room c =
     let who = c.args.who in
     let u = c.release_controlled.new.self.trail in
     let e = ap (marked_by (after-release who)) c.release_controlled.ensures.marked ∙ ap (with_trail c.args.self.now) (sym (disconnect-is who c.args.self.now.trail)) in
-    let r = fits _ _ c.args.self.now c.release_controlled.new.self e c.requires.room in
-    let h = after-release-grows who u in
-    omega arith
+    λ r. (let a = fits _ _ c.args.self.now c.release_controlled.new.self e c.requires.room r in
+    let h = after-release-widens who u r in
+    omega arith)
 
 pub drop_locks-requires : goal.drop_locks-requires
 drop_locks-requires c =
     let who = c.args.who in
     let u = c.end_sessions.new.self.trail in
-    let r = fits _ _ c.args.self.now c.end_sessions.new.self (ended c.args.who c.args.self.now c.release_controlled.new.self c.end_sessions.new.self c.release_controlled.ensures.marked c.end_sessions.ensures.marked) c.requires.room in
-    let h = after-end-grows who u in
-    record { room = omega arith }
+    let w = fits _ _ c.args.self.now c.end_sessions.new.self (ended c.args.who c.args.self.now c.release_controlled.new.self c.end_sessions.new.self c.release_controlled.ensures.marked c.end_sessions.ensures.marked) c.requires.room in
+    record { room = λ r. (let a = w r in let h = after-end-widens who u r in omega arith) }
 
 -- what the end of a connection is, once its locks are gone
 gone : (c : goal.After-put_absent-arg-1) → marked_by (put (Conn c.args.who) Absent) c.drop_locks.new.self ≡ marked_by (disconnect c.args.who) c.args.self.now

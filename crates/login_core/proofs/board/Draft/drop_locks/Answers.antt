@@ -1,5 +1,6 @@
-use Rattle.std.proofs.Common.{◌∙◌, length, ap, arith}
+use Rattle.std.proofs.Common.{◌∙◌, ap, arith}
 use Rattle.login_model.specs.Procedure.{each}
+use Rattle.login_laws.specs.Amounts.{amount}
 use Rattle.login_core.specs.inner.Draft.{marked_by}
 use Rattle.login_core.proofs.Locks.{drop-above, drop_lock, locks-chosen}
 use Rattle.login_core.proofs.board.Draft.drop_locks.Goals as goal
@@ -10,9 +11,9 @@ for_each-requires-clause-spares c = drop-above c.args.who
 pub for_each-requires-clause-room : goal.for_each-requires-clause-room
 for_each-requires-clause-room c =
     let t = c.args.self.now.trail in
-    let l = ap (λ xs. length (each drop_lock xs t)) (locks-chosen t c.args.who) in
-    let r = c.requires in
-    omega arith
+    λ r. (let l = ap (λ xs. amount r (each drop_lock xs t)) (locks-chosen t c.args.who) in
+    let h = c.requires.room r in
+    omega arith)
 
 pub returns : goal.returns
 returns c =

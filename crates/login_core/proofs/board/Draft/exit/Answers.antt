@@ -6,7 +6,7 @@ use Rattle.login_model.specs.declared.fact.Key.TheVariants.{Sess}
 use Rattle.login_model.specs.Trail.{value, tell_all}
 use Rattle.login_model.specs.Procedure.{leave, set_phase, shut}
 use Rattle.login_model.specs.Direct.{exit, user_or_root}
-use Rattle.login_laws.proofs.Grows.{leave-grows}
+use Rattle.login_laws.proofs.Widens.{leave-widens}
 use Rattle.login_core.specs.inner.Draft.{with_trail, marked_by}
 use Rattle.login_core.proofs.Growing.{fits}
 use Rattle.login_core.proofs.board.Draft.exit.Goals as goal
@@ -16,8 +16,8 @@ unfolding exit
 remove_session-requires c =
     let s = c.args.session in
     let t = c.args.self.now.trail in
-    let g = leave-grows c.args.setup.now (user_or_root (value t (Sess s))) (tell_all (SessionRemoved s) (set_phase s Gone (shut s t))) in
-    record { closing = c.requires.closing; gone = c.requires.gone; room = omega (arith, c.requires.room) }
+    let g = leave-widens c.args.setup.now (user_or_root (value t (Sess s))) (tell_all (SessionRemoved s) (set_phase s Gone (shut s t))) in
+    record { closing = c.requires.closing; gone = c.requires.gone; room = λ r. (let n = g r in let h = c.requires.room r in omega arith) }
 
 left : (c : goal.After-leave-arg-1) → marked_by (leave c.args.setup.now c.user_or_root-owner.result) c.remove_session.new.self ≡ marked_by (exit c.args.setup.now c.args.session) c.args.self.now
 unfolding exit

@@ -1,4 +1,5 @@
-use Rattle.std.proofs.Common.{◌∙◌, filter, length, refl, sym, ap, subst, arith}
+use Rattle.std.proofs.Common.{◌∙◌, filter, refl, sym, ap, subst, arith}
+use Rattle.login_laws.specs.Amounts.{amount}
 use Rattle.login_core.specs.inner.Draft.{marked_by}
 use Rattle.login_core.proofs.Going.{going-start, going-room, going-less, going-step, going-end}
 use Rattle.login_core.proofs.Growing.{trails}
@@ -24,9 +25,8 @@ run-requires g c =
     let k = tour g.C.Choice.lt (g.C.Choice.is_in c.args.choice.now) (g.C.Choice.among c.args.choice.now) (g.met.C.Choice.whole c.args.choice.now) in
     let x = c.args.task.now in
     let i = c.loop-name.invariant in
-    let r = going-room k (g.X.Task.does x) (filter (k.there t) (k.list t)) c.loop-name.above c.in-Some.name m c.loop-name.self (g.met.X.Task.adds x) i.0 c.in-Some.ensures c.requires.room in
-    let e = ap (λ f. length (f c.in-Some.name c.loop-name.self.trail)) i.1 in
-    record { room = omega arith; agrees = i.2 }
+    let w = going-room k (g.X.Task.does x) (filter (k.there t) (k.list t)) c.loop-name.above c.in-Some.name m c.loop-name.self (g.met.X.Task.adds x) i.0 c.in-Some.ensures c.requires.room in
+    record { room = λ r. (let e = ap (λ f. amount r (f c.in-Some.name c.loop-name.self.trail)) i.1 in let h = w r in omega arith); agrees = i.2 }
 
 pub loop-name-smaller : goal.loop-name-smaller
 loop-name-smaller g c =

@@ -1,7 +1,8 @@
-use Rattle.std.proofs.Common.{◌∙◌, length, ap, arith}
+use Rattle.std.proofs.Common.{◌∙◌, ap, arith}
 use Rattle.login_model.specs.Names.{names, insert_some}
 use Rattle.login_model.specs.Procedure.{each}
 use Rattle.login_table.specs.Listed.{is_there}
+use Rattle.login_laws.specs.Amounts.{amount}
 use Rattle.login_core.specs.inner.Draft.{marked_by}
 use Rattle.login_core.proofs.Chosen.{filter-chosen}
 use Rattle.login_core.proofs.board.Draft.for_each_that.Goals as goal
@@ -14,9 +15,9 @@ for_each-requires-clause-room g c =
     let t = c.args.self.now.trail in
     let n = g.N.Name in
     let e = filter-chosen (is_there n.key_of n.is_fact t) (g.T.Test.meets c.args.test t) (insert_some g.N.Order.lt n.first (names g.N.Order.lt n.name_in t)) in
-    let l = ap (λ xs. length (each (g.X.Task.does c.args.task.now) xs t)) e in
-    let r = c.requires.room in
-    omega arith
+    λ r. (let l = ap (λ xs. amount r (each (g.X.Task.does c.args.task.now) xs t)) e in
+    let h = c.requires.room r in
+    omega arith)
 
 pub returns-clause-marked : goal.returns-clause-marked
 returns-clause-marked g c =

@@ -1,7 +1,12 @@
 use Rattle.std.proofs.Common.{arith}
 use Rattle.login_model.specs.Procedure.{force}
-use Rattle.login_core.proofs.TakingOver.{has-more, more-can, more-draft, more-made, more-seen}
+use Rattle.login_core.proofs.TakingOver.{has-more, has-room, more-can, more-draft, more-made, more-seen}
 use Rattle.login_core.proofs.board.Draft.force.Goals as goal
+
+pub force-requires : goal.force-requires
+force-requires c =
+    let f = c.self.inside in
+    record { room = has-room (force c.args.session) f.journal.value.items f.marks f.facts f.seating f.made f.reach c.args.self.now c.of-so_far.result c.self.invariant c.self.view_is c.requires.room c.of-so_far.ensures }
 
 pub take_over-requires-clause-can : goal.take_over-requires-clause-can
 take_over-requires-clause-can c =
@@ -27,4 +32,4 @@ pub returns : goal.returns
 returns c =
     let f = c.self.inside in
     let more = has-more (force c.args.session) f.journal.value.items f.marks c.force.new.out f.facts f.seating f.made f.reach c.args.self.now c.of-so_far.result c.self.invariant c.self.view_is c.requires.room c.of-so_far.ensures c.force.ensures.appends c.force.ensures.room in
-    record { marked = more-seen _ _ f.marks c.force.new.out f.facts c.take_over.new.facts f.seating c.take_over.new.seating f.made f.reach c.args.self.now c.len-from.result more c.take_over.ensures.takes }
+    record { marked = more-seen _ _ f.marks c.force.new.out f.facts c.take_over.new.facts f.seating c.take_over.new.seating f.made f.reach c.args.self.now c.len-from.result more c.len-from.ensures.value c.take_over.ensures.takes }

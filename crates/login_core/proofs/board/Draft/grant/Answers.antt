@@ -2,7 +2,7 @@ use Rattle.std.proofs.Common.{sym, subst, arith}
 use Rattle.login_model.specs.Direct.{direct}
 use Rattle.login_model.specs.Trail.{Trail}
 use Rattle.login_laws.proofs.Carried.{settle-carried}
-use Rattle.login_laws.proofs.Grows.{grows, grows-operated, grows-switched}
+use Rattle.login_laws.proofs.Widens.{widens, widens-operated, widens-switched}
 use Rattle.login_laws.proofs.Tame.{Tame, tame, tame-operated, tame-switched}
 use Rattle.login_laws.specs.Sound.{Awaits}
 use Rattle.login_core.proofs.TextsKept.{texts-later}
@@ -12,9 +12,9 @@ use Rattle.login_core.proofs.board.Draft.grant.Goals as goal
 pub direct-requires-clause-room : goal.direct-requires-clause-room
 direct-requires-clause-room c =
     let U = c.args.setup.now in
-    let g = settle-carried grows grows-switched grows-operated U (direct U c.args.event.now c.args.self.now.trail) in
-    let h = c.requires.room in
-    omega arith
+    λ r. (let g = settle-carried widens widens-switched widens-operated U (direct U c.args.event.now c.args.self.now.trail) r in
+    let h = c.requires.room r in
+    omega arith)
 
 pub settle-requires-clause-awaits : goal.settle-requires-clause-awaits
 settle-requires-clause-awaits c = subst Awaits (sym (trails c.direct.ensures.marked)) c.requires.awaits

@@ -9,7 +9,7 @@ use Rattle.login_core.specs.inner.Draft.{with_trail, marked_by}
 use Rattle.login_core.proofs.HandedOn.{greeted}
 use Rattle.login_core.proofs.Growing.{fits}
 use Rattle.login_laws.proofs.Carried.{tell_new_user-carried}
-use Rattle.login_laws.proofs.Grows.{grows}
+use Rattle.login_laws.proofs.Widens.{widens}
 use Rattle.login_core.proofs.board.Draft.know.Goals as goal
 
 pub returns : goal.returns
@@ -29,8 +29,8 @@ unfolding know
 put_known-requires c =
     let u = c.args.user in
     let t = c.args.self.now.trail in
-    let g = tell_new_user-carried grows u (value t (User u)) (put (User u) Known t) in
-    record { room = omega (arith, c.requires.room) }
+    let g = tell_new_user-carried widens u (value t (User u)) (put (User u) Known t) in
+    record { room = λ r. (let n = g r in let h = c.requires.room r in omega arith) }
 
 pub tell_new_user-requires : goal.tell_new_user-requires
 unfolding know

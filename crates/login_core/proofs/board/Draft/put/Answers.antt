@@ -5,10 +5,10 @@ use Rattle.login_model.specs.declared.fact.Fact.{Fact}
 use Rattle.login_model.specs.declared.mark.Mark.TheVariants.{Set}
 use Rattle.login_core.specs.inner.Facts.{StandFor}
 use Rattle.login_core.specs.inner.UnderWay.{so_far}
-use Rattle.login_core.specs.inner.Draft.{with_trail}
+use Rattle.login_core.specs.inner.Draft.{DraftState, with_trail}
 use Rattle.login_table.proofs.Appending.{put-made, put-same}
 use Rattle.login_core.proofs.TallyLaws.{seated-noted, seated-room}
-use Rattle.login_core.proofs.Drafting.{draft-more, one-more, room-inside, seen-more}
+use Rattle.login_core.proofs.Drafting.{draft-more, fresh-room, keys-set, new-here, one-more, room-inside, seen-more}
 use Rattle.login_core.proofs.board.Draft.put.Goals as goal
 
 pub returns-then-is_same_fact : goal.returns-then-is_same_fact
@@ -39,6 +39,14 @@ set-requires-clause-spare c =
     let fit = c.self.invariant.facts_fit in
     omega arith
 
+pub set-requires-clause-fresh : goal.set-requires-clause-fresh
+set-requires-clause-fresh c =
+    let d = c.args.self.now in
+    let f = c.self.inside in
+    let t = so_far f.journal.value.items f.marks.items in
+    let other : same_fact (value d.trail c.args.key) c.args.fact ≡ false = ap (λ (f : Fact). same_fact f c.args.fact) (sym c.fact.ensures) ∙ sym c.is_same_fact.ensures ∙ c.if-is_same_fact.false in
+    fresh-room f.facts c.args.key c.args.fact t d c.self.invariant.stands (ap (λ (w : DraftState). w.trail) c.self.view_is) (ap (λ (w : DraftState). w.keys) c.self.view_is) other c.requires.room
+
 pub push-requires : goal.push-requires
 push-requires c =
     let d = c.args.self.now in
@@ -66,9 +74,12 @@ pub returns : goal.returns
 returns c =
     let d = c.args.self.now in
     let f = c.self.inside in
+    let t = so_far f.journal.value.items f.marks.items in
     let other : same_fact (value d.trail c.args.key) c.args.fact ≡ false = ap (λ (f : Fact). same_fact f c.args.fact) (sym c.fact.ensures) ∙ sym c.is_same_fact.ensures ∙ c.if-is_same_fact.false in
+    let new = new-here f.facts t c.args.key c.self.invariant.stands in
+    let keys = keys-set c.args.key c.args.fact t in
     record {
       marked = seen-more f.journal.value.items f.marks.items c.push.new.self.items f.facts c.set.new.self f.reach (Set c.args.key c.args.fact) d c.self.view_is
-          c.push.ensures.items c.set.ensures.ears c.set.ensures.rings
+          c.push.ensures.items c.set.ensures.ears c.set.ensures.rings (omega (arith, c.set.ensures.fresh, new, keys))
           ∙ ap (with_trail d) (sym (put-made c.args.key c.args.fact d.trail other));
     }

@@ -1,5 +1,6 @@
-use Rattle.std.proofs.Common.{◌∙◌, length, ap, arith}
+use Rattle.std.proofs.Common.{◌∙◌, ap, arith}
 use Rattle.login_model.specs.Procedure.{each, release}
+use Rattle.login_laws.specs.Amounts.{amount}
 use Rattle.login_core.specs.inner.Draft.{marked_by}
 use Rattle.login_core.proofs.Controlled.{controlled-chosen, release-above}
 use Rattle.login_core.proofs.board.Draft.release_controlled.Goals as goal
@@ -10,9 +11,9 @@ for_each-requires-clause-spares c = release-above c.args.who
 pub for_each-requires-clause-room : goal.for_each-requires-clause-room
 for_each-requires-clause-room c =
     let t = c.args.self.now.trail in
-    let l = ap (λ xs. length (each release xs t)) (controlled-chosen t c.args.who) in
-    let r = c.requires in
-    omega arith
+    λ r. (let l = ap (λ xs. amount r (each release xs t)) (controlled-chosen t c.args.who) in
+    let h = c.requires.room r in
+    omega arith)
 
 pub returns : goal.returns
 returns c =

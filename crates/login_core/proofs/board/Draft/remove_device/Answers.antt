@@ -7,7 +7,7 @@ use Rattle.login_model.specs.Procedure.{each, revoke}
 use Rattle.login_model.specs.Taking.{lose_seat, remove_device, takers}
 use Rattle.login_model.specs.Trail.{Trail, put, value}
 use Rattle.login_laws.proofs.Carried.{each-carried, put-behind, revoke-carried}
-use Rattle.login_laws.proofs.Grows.{lose_seat-grows}
+use Rattle.login_laws.proofs.Widens.{lose_seat-widens}
 use Rattle.login_laws.proofs.Tame.{Tame, tame}
 use Rattle.login_core.specs.inner.Draft.{DraftState, with_trail, marked_by}
 use Rattle.login_core.specs.inner.HandedOn.{graphics_fact}
@@ -40,8 +40,8 @@ unfolding remove_device
 drop_device-requires c =
     let d = c.args.device in
     let t = c.args.self.now.trail in
-    let g = lose_seat-grows (value t (Dev d)) (dropped d t) in
-    record { room = omega (arith, c.requires.room) }
+    let g = lose_seat-widens (value t (Dev d)) (dropped d t) in
+    record { room = λ r. (let n = g r in let h = c.requires.room r in omega arith) }
 
 pub lose_seat-requires-clause-copies : goal.lose_seat-requires-clause-copies
 lose_seat-requires-clause-copies c =

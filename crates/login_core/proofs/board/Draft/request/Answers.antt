@@ -1,7 +1,12 @@
 use Rattle.std.proofs.Common.{arith}
 use Rattle.login_model.specs.Switching.{request}
-use Rattle.login_core.proofs.TakingOver.{has-more, more-can, more-draft, more-handles, more-made, more-seen}
+use Rattle.login_core.proofs.TakingOver.{has-more, has-room, more-can, more-draft, more-handles, more-made, more-seen}
 use Rattle.login_core.proofs.board.Draft.request.Goals as goal
+
+pub ask-requires-clause-room : goal.ask-requires-clause-room
+ask-requires-clause-room c =
+    let f = c.self.inside in
+    has-room (request c.args.vt) f.journal.value.items f.marks f.facts f.seating f.made f.reach c.args.self.now c.of-so_far.result c.self.invariant c.self.view_is c.requires.room c.of-so_far.ensures
 
 pub ask-requires-clause-handles : goal.ask-requires-clause-handles
 ask-requires-clause-handles c =
@@ -32,4 +37,4 @@ pub returns : goal.returns
 returns c =
     let f = c.self.inside in
     let more = has-more (request c.args.vt) f.journal.value.items f.marks c.ask.new.out f.facts f.seating f.made f.reach c.args.self.now c.of-so_far.result c.self.invariant c.self.view_is c.requires.room c.of-so_far.ensures c.ask.ensures.appends c.ask.ensures.room in
-    record { marked = more-seen _ _ f.marks c.ask.new.out f.facts c.take_over.new.facts f.seating c.take_over.new.seating f.made f.reach c.args.self.now c.len-from.result more c.take_over.ensures.takes }
+    record { marked = more-seen _ _ f.marks c.ask.new.out f.facts c.take_over.new.facts f.seating c.take_over.new.seating f.made f.reach c.args.self.now c.len-from.result more c.len-from.ensures.value c.take_over.ensures.takes }

@@ -1,7 +1,12 @@
 use Rattle.std.proofs.Common.{arith}
 use Rattle.login_model.specs.Procedure.{resume}
-use Rattle.login_core.proofs.TakingOver.{has-more, more-can, more-draft, more-made, more-numbered, more-seen}
+use Rattle.login_core.proofs.TakingOver.{has-more, has-room, more-can, more-draft, more-made, more-numbered, more-seen}
 use Rattle.login_core.proofs.board.Draft.resume.Goals as goal
+
+pub resume-requires-clause-room : goal.resume-requires-clause-room
+resume-requires-clause-room c =
+    let f = c.self.inside in
+    has-room (resume c.args.session) f.journal.value.items f.marks f.facts f.seating f.made f.reach c.args.self.now c.of-so_far.result c.self.invariant c.self.view_is c.requires.room c.of-so_far.ensures
 
 pub resume-requires-clause-numbered : goal.resume-requires-clause-numbered
 resume-requires-clause-numbered c =
@@ -32,4 +37,4 @@ pub returns : goal.returns
 returns c =
     let f = c.self.inside in
     let more = has-more (resume c.args.session) f.journal.value.items f.marks c.resume.new.out f.facts f.seating f.made f.reach c.args.self.now c.of-so_far.result c.self.invariant c.self.view_is c.requires.room c.of-so_far.ensures c.resume.ensures.appends c.resume.ensures.room in
-    record { marked = more-seen _ _ f.marks c.resume.new.out f.facts c.take_over.new.facts f.seating c.take_over.new.seating f.made f.reach c.args.self.now c.len-from.result more c.take_over.ensures.takes }
+    record { marked = more-seen _ _ f.marks c.resume.new.out f.facts c.take_over.new.facts f.seating c.take_over.new.seating f.made f.reach c.args.self.now c.len-from.result more c.len-from.ensures.value c.take_over.ensures.takes }

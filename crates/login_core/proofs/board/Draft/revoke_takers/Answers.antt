@@ -1,5 +1,6 @@
-use Rattle.std.proofs.Common.{◌∙◌, length, ap, arith}
+use Rattle.std.proofs.Common.{◌∙◌, ap, arith}
 use Rattle.login_model.specs.Procedure.{each, revoke}
+use Rattle.login_laws.specs.Amounts.{amount}
 use Rattle.login_core.specs.inner.Draft.{marked_by}
 use Rattle.login_core.proofs.Takers.{takers-above, takers-chosen}
 use Rattle.login_core.proofs.board.Draft.revoke_takers.Goals as goal
@@ -11,9 +12,9 @@ pub for_each-requires-clause-room : goal.for_each-requires-clause-room
 for_each-requires-clause-room c =
     let d = c.args.device in
     let t = c.args.self.now.trail in
-    let l = ap (λ xs. length (each (λ s u. revoke s d u) xs t)) (takers-chosen t d) in
-    let r = c.requires in
-    omega arith
+    λ r. (let l = ap (λ xs. amount r (each (λ s u. revoke s d u) xs t)) (takers-chosen t d) in
+    let h = c.requires.room r in
+    omega arith)
 
 pub returns : goal.returns
 returns c =

@@ -1,11 +1,13 @@
-use Rattle.std.proofs.Common.{◌≡◌, ◌∙◌, ap, sym, subst, List, arith}
+use Rattle.std.proofs.Common.{◌≡◌, ◌+◌, ◌∙◌, ℕ, ap, sym, subst, List, arith}
 use Rattle.login_base.specs.declared.ids.HandleNo.{HandleNo}
 use Rattle.login_model.specs.declared.mark.Mark.{Mark}
 use Rattle.device_model.specs.Ears.{heard_of}
-use Rattle.login_core.specs.inner.Draft.{DraftState, with_ears}
+use Rattle.login_model.specs.Trail.{key_count}
+use Rattle.login_core.specs.inner.Draft.{DraftState, with_ears, with_keys}
 use Rattle.login_core.specs.inner.Ears.{AreEnough, ListenOn, settled}
 use Rattle.login_core.specs.inner.Rings.{ring_count}
 use Rattle.login_core.specs.inner.UnderWay.{so_far}
+use Rattle.login_core.proofs.Drafting.{seen}
 use Rattle.login_core.proofs.EarLaws.{enough-there, hear-there, listen-there}
 use Rattle.login_core.proofs.board.Draft.settle_ears.Goals as goal
 
@@ -50,4 +52,8 @@ pub returns-clause-rings : goal.returns-clause-rings
 returns-clause-rings c = c.settle_ears.ensures.rings ∙ ap (λ (d : DraftState). ring_count d.ears d.rings) c.self.view_is
 
 pub returns-clause-rest : goal.returns-clause-rest
-returns-clause-rest c = ap (with_ears c.settle_ears.new.self.ears c.settle_ears.new.self.rings) c.self.view_is
+returns-clause-rest c =
+    let f = c.self.inside in
+    let g = c.settle_ears.new.self in
+    let d = seen f.journal.value.items f.marks.items f.facts f.reach in
+    ap (λ (n : ℕ). with_ears g.ears g.rings (with_keys (key_count d.trail + n) d)) c.settle_ears.ensures.fresh ∙ ap (with_ears g.ears g.rings) c.self.view_is

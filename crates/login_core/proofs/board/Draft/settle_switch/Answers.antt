@@ -1,7 +1,12 @@
 use Rattle.std.proofs.Common.{arith}
 use Rattle.login_model.specs.Switching.{settle_switch}
-use Rattle.login_core.proofs.TakingOver.{has-more, more-awaits, more-can, more-draft, more-handles, more-made, more-seen}
+use Rattle.login_core.proofs.TakingOver.{has-more, has-room, more-awaits, more-can, more-draft, more-handles, more-made, more-seen}
 use Rattle.login_core.proofs.board.Draft.settle_switch.Goals as goal
+
+pub settle-requires-clause-room : goal.settle-requires-clause-room
+settle-requires-clause-room c =
+    let f = c.self.inside in
+    has-room (settle_switch c.args.conf.now) f.journal.value.items f.marks f.facts f.seating f.made f.reach c.args.self.now c.of-so_far.result c.self.invariant c.self.view_is c.requires.room c.of-so_far.ensures
 
 pub settle-requires-clause-awaits : goal.settle-requires-clause-awaits
 settle-requires-clause-awaits c = (let f = c.self.inside in more-awaits f.journal.value.items f.marks.items f.facts f.reach c.args.self.now c.of-so_far.result c.self.view_is c.of-so_far.ensures c.requires.awaits)
@@ -35,4 +40,4 @@ pub returns : goal.returns
 returns c =
     let f = c.self.inside in
     let more = has-more (settle_switch c.args.conf.now) f.journal.value.items f.marks c.settle.new.out f.facts f.seating f.made f.reach c.args.self.now c.of-so_far.result c.self.invariant c.self.view_is c.requires.room c.of-so_far.ensures c.settle.ensures.appends c.settle.ensures.room in
-    record { marked = more-seen _ _ f.marks c.settle.new.out f.facts c.take_over.new.facts f.seating c.take_over.new.seating f.made f.reach c.args.self.now c.len-from.result more c.take_over.ensures.takes }
+    record { marked = more-seen _ _ f.marks c.settle.new.out f.facts c.take_over.new.facts f.seating c.take_over.new.seating f.made f.reach c.args.self.now c.len-from.result more c.len-from.ensures.value c.take_over.ensures.takes }

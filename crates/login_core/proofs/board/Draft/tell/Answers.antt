@@ -1,9 +1,9 @@
-use Rattle.std.proofs.Common.{arith, refl}
+use Rattle.std.proofs.Common.{◌+◌, ap, arith, refl}
 use Rattle.login_model.specs.declared.mark.Mark.TheVariants.{Say}
 use Rattle.login_core.specs.inner.UnderWay.{so_far}
 use Rattle.login_core.proofs.Standing.{stand-say}
 use Rattle.login_core.proofs.TallyLaws.{seated-say}
-use Rattle.login_core.proofs.Drafting.{draft-more, room-inside, said-room, seen-more}
+use Rattle.login_core.proofs.Drafting.{draft-more, keys-say, room-inside, said-room, seen-more}
 use Rattle.login_core.proofs.board.Draft.tell.Goals as goal
 
 pub push-requires : goal.push-requires
@@ -27,4 +27,4 @@ invariant_of-self c =
 pub returns : goal.returns
 returns c =
     let f = c.self.inside in
-    record { marked = seen-more f.journal.value.items f.marks.items c.push.new.self.items f.facts f.facts f.reach (Say c.args.whom c.args.notice) c.args.self.now c.self.view_is c.push.ensures.items refl refl }
+    record { marked = seen-more f.journal.value.items f.marks.items c.push.new.self.items f.facts f.facts f.reach (Say c.args.whom c.args.notice) c.args.self.now c.self.view_is c.push.ensures.items refl refl (ap (λ n. n + f.facts.fresh) (keys-say c.args.whom c.args.notice (so_far f.journal.value.items f.marks.items))) }

@@ -5,7 +5,7 @@ use Rattle.login_model.specs.declared.fact.Fact.TheVariants.{Moment}
 use Rattle.login_model.specs.Trail.{put}
 use Rattle.login_model.specs.Procedure.{each, forget}
 use Rattle.login_model.specs.Direct.{overdue, tick}
-use Rattle.login_laws.proofs.Grows.{each-grows, forget-grows}
+use Rattle.login_laws.proofs.Widens.{each-widens, forget-widens}
 use Rattle.login_core.specs.inner.Draft.{with_trail, marked_by}
 use Rattle.login_core.proofs.Departing.{late-then}
 use Rattle.login_core.proofs.Growing.{fits}
@@ -16,8 +16,8 @@ unfolding tick
 put_now-requires c =
     let t = c.args.self.now.trail in
     let m = c.args.moment in
-    let g = each-grows forget forget-grows (overdue c.args.setup.now t m.0) (put Now (Moment m) t) in
-    record { room = omega (arith, c.requires.room) }
+    let g = each-widens forget forget-widens (overdue c.args.setup.now t m.0) (put Now (Moment m) t) in
+    record { room = λ r. (let n = g r in let h = c.requires.room r in omega arith) }
 
 pub forget_overdue-requires : goal.forget_overdue-requires
 unfolding tick

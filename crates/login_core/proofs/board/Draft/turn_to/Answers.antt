@@ -1,5 +1,6 @@
-use Rattle.std.proofs.Common.{◌∙◌, ℕ, ap, length, arith, Option}
+use Rattle.std.proofs.Common.{◌∙◌, ℕ, ap, arith, Option}
 use Rattle.login_model.specs.Procedure.{if_some}
+use Rattle.login_laws.specs.Amounts.{amount}
 use Rattle.login_core.specs.inner.Places.{turn_to_place}
 use Rattle.login_core.specs.inner.Draft.{with_trail}
 use Rattle.login_core.proofs.Turned.{turned}
@@ -9,8 +10,7 @@ pub turn_to_some-requires : goal.turn_to_some-requires
 turn_to_some-requires c =
     let t = c.args.self.now.trail in
     let e = ap (λ (o : Option ℕ). if_some (turn_to_place c.args.seat) o t) c.next_place-place.ensures ∙ turned c.args.way c.args.seat t in
-    let n = ap length e in
-    record { room = omega (arith, c.requires.room) }
+    record { room = λ r. (let n = ap (amount r) e in let h = c.requires.room r in omega arith) }
 
 pub returns : goal.returns
 returns c =

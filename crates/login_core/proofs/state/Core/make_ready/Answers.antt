@@ -3,14 +3,15 @@ use Rattle.login_base.specs.declared.ids.ConnId.{ConnId}
 use Rattle.login_model.specs.Full.{connected_after, full, mark_count, marks_needed}
 use Rattle.login_model.specs.Legal.{IsLegal, answered, trail_of}
 use Rattle.login_model.specs.Policy.{verdict}
-use Rattle.login_model.specs.Trail.{Trail}
+use Rattle.login_laws.specs.Keys.{most_keys}
+use Rattle.login_model.specs.Trail.{Trail, key_count}
 use Rattle.login_model.specs.declared.rule.Verdict.{Verdict}
 use Rattle.login_model.specs.declared.mark.Entry.{Entry}
 use Rattle.login_laws.specs.Shares.{most_share_rise, share}
 use Rattle.login_laws.specs.Sound.{IsSound}
 use Rattle.login_laws.proofs.RoomLaws.{room}
 use Rattle.login_laws.proofs.SoundLaws.{sound-journal}
-use Rattle.login_core.specs.inner.Counts.{AreCounted}
+use Rattle.login_core.specs.inner.Counts.{AreCounted, HoldersAreThere}
 use Rattle.login_core.specs.inner.Draft.{DraftState}
 use Rattle.login_core.specs.State.{CoreState, NextIsWide, may_raise}
 use Rattle.login_core.specs.inner.Inside.{HaveEnds}
@@ -101,6 +102,7 @@ returns-clause-ready c =
     let entries = c.in_ok-reserve.ensures.entries in
     let kept = w.entries in
     let far = c.in_ok-reserve.ensures.far in
+    let keys = c.in_ok-reserve.ensures.keys in
     let Q : List Entry → Type 0 = IsLegal U in
     let legal = subst Q (sym items) c.self.invariant.legal in
     let holders = legal-holders U es legal in
@@ -112,9 +114,11 @@ returns-clause-ready c =
     let rings = c.in_ok-make_rings.ensures in
     let R : Trail → Type 0 = AreCounted c.counts.result in
     let most = c.most_marks-next.ensures t (subst R before c.counts.ensures) holders in
+    let known = ap key_count before in
     let next = c.in_ok-reserve.ensures.reach in
     let length_is = ap length behind in
     let same_far = ap (λ (d : DraftState). d.far) c.make_rings.ensures.rest ∙ ap (λ (d : DraftState). d.far) w.draft in
+    let same_keys = ap (λ (d : DraftState). d.keys) c.make_rings.ensures.rest ∙ ap (λ (d : DraftState). d.keys) w.draft in
     let same_reach = ap (λ (d : DraftState). d.reach) c.make_rings.ensures.rest ∙ ap (λ (d : DraftState). d.reach) w.draft in
     let v = c.args.verdict in
     let A : Verdict → Type 0 = λ w. AreWide (end_room n.journal) w t e in
@@ -128,6 +132,7 @@ returns-clause-ready c =
     record {
       entries = omega arith;
       far = omega arith;
+      keys = λ granted. (let asked = c.keys_needed-keys.ensures.granted (judged ∙ granted) (subst HoldersAreThere (sym before) holders) ∙ ap (λ (u : Trail). most_keys u e) before in omega arith);
       reach = omega arith;
       ends = subst A judged (all-wide v t e (end_room r.journal) (end_room n.journal) (λ who i. (let h = have who i in let k = c.reserve.ensures.ends who in omega arith)) (subst K behind w.keeps) wide);
       next_end = subst L judged (subst N behind c.in_ok-make_ends.ensures.next);
@@ -149,6 +154,7 @@ invariant_of-self-in_err-make_rings c = record {
   stop_is = search rules;
   entries = search rules;
   reach = search rules;
+  keys = search rules;
   within = search rules;
   ends = c.make_ends.ensures.have (reserved-have c.self.inside.board c.reserve.new.self c.reserve.ensures.ends c.reserve.ensures.items c.self.invariant.ends);
   ears = search rules;
@@ -166,6 +172,7 @@ invariant_of-self-in_err-prepare c = record {
   stop_is = search rules;
   entries = search rules;
   reach = search rules;
+  keys = search rules;
   within = search rules;
   ends = c.make_ends.ensures.have (reserved-have c.self.inside.board c.reserve.new.self c.reserve.ensures.ends c.reserve.ensures.items c.self.invariant.ends);
   ears = search rules;
@@ -183,6 +190,7 @@ invariant_of-self-2 c = record {
   stop_is = search rules;
   entries = search rules;
   reach = search rules;
+  keys = search rules;
   within = search rules;
   ends = c.make_ends.ensures.have (reserved-have c.self.inside.board c.reserve.new.self c.reserve.ensures.ends c.reserve.ensures.items c.self.invariant.ends);
   ears = search rules;
@@ -200,6 +208,7 @@ invariant_of-self-in_err-answer c = record {
   stop_is = search rules;
   entries = search rules;
   reach = search rules;
+  keys = search rules;
   within = search rules;
   ends = c.make_ends.ensures.have (reserved-have c.self.inside.board c.reserve.new.self c.reserve.ensures.ends c.reserve.ensures.items c.self.invariant.ends);
   ears = search rules;
@@ -217,6 +226,7 @@ invariant_of-self-3 c = record {
   stop_is = search rules;
   entries = search rules;
   reach = search rules;
+  keys = search rules;
   within = search rules;
   ends = c.make_ends.ensures.have (reserved-have c.self.inside.board c.reserve.new.self c.reserve.ensures.ends c.reserve.ensures.items c.self.invariant.ends);
   ears = search rules;

@@ -4,7 +4,7 @@ use Rattle.login_model.specs.Direct.{direct}
 use Rattle.login_model.specs.Legal.{IsLegal, IsPlaced, stepped, trail_of}
 use Rattle.login_model.specs.Policy.{verdict}
 use Rattle.login_laws.specs.Sound.{Awaits, IsSound}
-use Rattle.login_model.specs.Trail.{Trail, after}
+use Rattle.login_model.specs.Trail.{Trail, after, key_count}
 use Rattle.login_model.specs.declared.answer.Answer.{Answer}
 use Rattle.login_model.specs.declared.event.Event.{Event}
 use Rattle.login_model.specs.declared.mark.Entry.{Entry}
@@ -33,7 +33,7 @@ use Rattle.login_core.specs.inner.Ledger.{end_room, next_room}
 use Rattle.login_core.proofs.EndRooms.{ends-follow, welcome-more}
 use Rattle.login_core.proofs.Judged.{judged-inside, ready-judged}
 use Rattle.login_core.proofs.Listeners.{are-enough, listen-live, stepped-between}
-use Rattle.login_core.proofs.Stepping.{HearsOn, Stepping, answered-next, can-welcome, core-closed, has-entry, ready-texts, seen, stays-within, taken-step}
+use Rattle.login_core.proofs.Stepping.{HearsOn, Stepping, answered-next, can-welcome, core-closed, fits-both, has-entry, keys-step, ready-texts, seen, stays-within, taken-step}
 use Rattle.login_core.proofs.state.Core.step.Goals as goal
 
 stepping : (U : Setup) (m : Board) (x : Texts) (a : Ready) (stop : Option ℕ) (now : CoreState) (e : Event) (v : Verdict) → IsCore U m x stop → seen U m x a ≡ now
@@ -96,9 +96,13 @@ perform-requires-clause-room c =
     let m = c.self.inside.board in
     let v = c.verdict_for-verdict.result in
     let s = stepping U m c.self.inside.texts c.self.inside.ready c.self.inside.stop c.args.self.now c.args.event v c.self.invariant c.self.view_is c.requires.placed c.requires.ready c.verdict_for-verdict.ensures in
-    let reach = c.begin.new.self.draft.reach in
-    let P : Trail → Type 0 = λ t. length (stepped U v c.args.event t) ≤ reach in
-    subst P (sym (trails c.begin.ensures.draft ∙ c.self.invariant.no_marks)) (stays-within U m c.self.inside.texts c.self.inside.ready c.self.inside.stop c.args.event v reach c.begin.ensures.reach s)
+    let d = c.begin.new.self.draft in
+    let P : Trail → Type 0 = λ t. length (stepped U v c.args.event t) ≤ d.reach in
+    let Q : Trail → Type 0 = λ t. key_count (stepped U v c.args.event t) ≤ d.keys in
+    let same = sym (trails c.begin.ensures.draft ∙ c.self.invariant.no_marks) in
+    let keys = keys-step U m c.self.inside.texts c.self.inside.ready c.self.inside.stop c.args.event v s in
+    let kept = ap (λ (y : DraftState). y.keys) c.begin.ensures.draft in
+    fits-both (stepped U v c.args.event) d (subst P same (stays-within U m c.self.inside.texts c.self.inside.ready c.self.inside.stop c.args.event v d.reach c.begin.ensures.reach s)) (subst Q same (omega arith))
 
 pub settle_ears-requires-clause-live : goal.settle_ears-requires-clause-live
 settle_ears-requires-clause-live c =
@@ -198,6 +202,7 @@ invariant_of-self c =
     let follows = ends-follow v e (next_room m.journal) (next_room c.begin.new.self.journal) (end_room m.journal) (end_room c.begin.new.self.journal) (end_room c.welcome.new.self.journal) (end_room c.close_entry.new.self.journal)
     begin.next begin.ends welcome.ends close.ends in
     let far = close.far ∙ ap (λ (y : DraftState). y.far) welcome.draft ∙ ap (λ (y : DraftState). y.far) settle.rest ∙ ap (λ (y : DraftState). y.far) marked in
+    let keys = close.keys ∙ ap (λ (y : DraftState). y.keys) welcome.draft ∙ ap (λ (y : DraftState). y.keys) settle.rest ∙ ap (λ (y : DraftState). y.keys) marked in
     let same = ap length begin.items in
     let P : Trail → Type 0 = λ t. HaveTexts c.perform.new.texts (stepped U v e t) in
     let Q : Trail → Type 0 = HaveTexts c.perform.new.texts in
@@ -205,7 +210,7 @@ invariant_of-self c =
     let value = c.len.ensures.value in
     let few = c.self.invariant.few_entries in
     core-closed U m c.close_entry.new.self x c.perform.new.texts a b stop c.stop_after-self-inside.result e v closes.marks s w
-    (closes.entry ∙ ap (λ es. es ++ entry_of e v b closes.marks ∷ []) items) close.no_marks close.begun (close.entries ∙ welcome.entries ∙ begin.entries) far close.within follows
+    (closes.entry ∙ ap (λ es. es ++ entry_of e v b closes.marks ∷ []) items) close.no_marks close.begun (close.entries ∙ welcome.entries ∙ begin.entries) far keys close.within follows
     (c.stop_after-self-inside.ensures ∙ ap (stop_next stop e) (omega arith)) (subst P c.self.invariant.no_marks (subst Q (trails marked) c.perform.ensures.texts)) hears
 
 pub returns : goal.returns

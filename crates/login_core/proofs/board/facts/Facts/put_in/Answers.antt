@@ -54,6 +54,7 @@ tables_of f = record {
   held = f.holdings.list;
   owing = f.owing;
   spare = f.spare;
+  fresh = f.fresh;
 }
 
 pub moved-self-inside-requires : goal.moved-self-inside-requires
@@ -114,8 +115,9 @@ returns-in-Users-clause-stands c = λ t s.
     let lock = c.self.inside.lock + c.of-gained.result.locks in
     let held = c.shift.new.self.list in
     let spare = c.self.inside.spare - 1 in
-    let g : Tables = record f { users = rows; counts = counts; session = session; handle = handle; lock = lock; held = held; spare = spare } in
-    let places : Places f g k x Users = record { at_home = sym c.of.ensures ∙ c.in-Users.is; set = c.set.ensures.facts; stays = but-users f rows counts session handle lock held spare } in
+    let fresh = c.self.inside.fresh - c.from.result in
+    let g : Tables = record f { users = rows; counts = counts; session = session; handle = handle; lock = lock; held = held; spare = spare; fresh = fresh } in
+    let places : Places f g k x Users = record { at_home = sym c.of.ensures ∙ c.in-Users.is; set = c.set.ensures.facts; keys = c.set.ensures.keys; stays = but-users f rows counts session handle lock held spare fresh } in
     let moves : Moves f g k x t = record {
       counts = follow c.self.inside.counts c.of-lost.result c.of-gained.result counts k x c.read-before.result.now (value t k) c.of-lost.ensures (c.read-before.ensures t s) c.of-gained.ensures c.moved-self-inside.ensures;
       session = ap (λ (n : Counts). c.self.inside.session + n.opened) c.of-gained.ensures;
@@ -138,8 +140,9 @@ returns-in-Sessions-clause-stands c = λ t s.
     let lock = c.self.inside.lock + c.of-gained.result.locks in
     let held = c.shift.new.self.list in
     let spare = c.self.inside.spare - 1 in
-    let g : Tables = record f { sessions = rows; counts = counts; session = session; handle = handle; lock = lock; held = held; spare = spare } in
-    let places : Places f g k x Sessions = record { at_home = sym c.of.ensures ∙ c.in-Sessions.is; set = c.set-in-Sessions.ensures.facts; stays = but-sessions f rows counts session handle lock held spare } in
+    let fresh = c.self.inside.fresh - c.from-in-Sessions.result in
+    let g : Tables = record f { sessions = rows; counts = counts; session = session; handle = handle; lock = lock; held = held; spare = spare; fresh = fresh } in
+    let places : Places f g k x Sessions = record { at_home = sym c.of.ensures ∙ c.in-Sessions.is; set = c.set-in-Sessions.ensures.facts; keys = c.set-in-Sessions.ensures.keys; stays = but-sessions f rows counts session handle lock held spare fresh } in
     let moves : Moves f g k x t = record {
       counts = follow c.self.inside.counts c.of-lost.result c.of-gained.result counts k x c.read-before.result.now (value t k) c.of-lost.ensures (c.read-before.ensures t s) c.of-gained.ensures c.moved-self-inside.ensures;
       session = ap (λ (n : Counts). c.self.inside.session + n.opened) c.of-gained.ensures;
@@ -162,8 +165,9 @@ returns-in-Seats-clause-stands c = λ t s.
     let lock = c.self.inside.lock + c.of-gained.result.locks in
     let held = c.shift.new.self.list in
     let spare = c.self.inside.spare - 1 in
-    let g : Tables = record f { seats = rows; counts = counts; session = session; handle = handle; lock = lock; held = held; spare = spare } in
-    let places : Places f g k x Seats = record { at_home = sym c.of.ensures ∙ c.in-Seats.is; set = c.set-in-Seats.ensures.facts; stays = but-seats f rows counts session handle lock held spare } in
+    let fresh = c.self.inside.fresh - c.from-in-Seats.result in
+    let g : Tables = record f { seats = rows; counts = counts; session = session; handle = handle; lock = lock; held = held; spare = spare; fresh = fresh } in
+    let places : Places f g k x Seats = record { at_home = sym c.of.ensures ∙ c.in-Seats.is; set = c.set-in-Seats.ensures.facts; keys = c.set-in-Seats.ensures.keys; stays = but-seats f rows counts session handle lock held spare fresh } in
     let moves : Moves f g k x t = record {
       counts = follow c.self.inside.counts c.of-lost.result c.of-gained.result counts k x c.read-before.result.now (value t k) c.of-lost.ensures (c.read-before.ensures t s) c.of-gained.ensures c.moved-self-inside.ensures;
       session = ap (λ (n : Counts). c.self.inside.session + n.opened) c.of-gained.ensures;
@@ -188,8 +192,9 @@ returns-in-Devices-clause-stands c = λ t s.
     let lock = c.self.inside.lock + c.of-gained.result.locks in
     let held = c.shift.new.self.list in
     let spare = c.self.inside.spare - 1 in
-    let g : Tables = record f { devices = rows; ears = ears; rings = rings; counts = counts; session = session; handle = handle; lock = lock; held = held; spare = spare } in
-    let places : Places f g k x Devices = record { at_home = sym c.of.ensures ∙ c.in-Devices.is; set = c.set-in-Devices.ensures.facts; stays = but-devices f rows ears rings counts session handle lock held spare } in
+    let fresh = c.self.inside.fresh - c.from-in-Devices.result in
+    let g : Tables = record f { devices = rows; ears = ears; rings = rings; counts = counts; session = session; handle = handle; lock = lock; held = held; spare = spare; fresh = fresh } in
+    let places : Places f g k x Devices = record { at_home = sym c.of.ensures ∙ c.in-Devices.is; set = c.set-in-Devices.ensures.facts; keys = c.set-in-Devices.ensures.keys; stays = but-devices f rows ears rings counts session handle lock held spare fresh } in
     let moves : Moves f g k x t = record {
       counts = follow c.self.inside.counts c.of-lost.result c.of-gained.result counts k x c.read-before.result.now (value t k) c.of-lost.ensures (c.read-before.ensures t s) c.of-gained.ensures c.moved-self-inside.ensures;
       session = ap (λ (n : Counts). c.self.inside.session + n.opened) c.of-gained.ensures;
@@ -212,8 +217,9 @@ returns-in-Controls-clause-stands c = λ t s.
     let lock = c.self.inside.lock + c.of-gained.result.locks in
     let held = c.shift.new.self.list in
     let spare = c.self.inside.spare - 1 in
-    let g : Tables = record f { controls = rows; counts = counts; session = session; handle = handle; lock = lock; held = held; spare = spare } in
-    let places : Places f g k x Controls = record { at_home = sym c.of.ensures ∙ c.in-Controls.is; set = c.set-in-Controls.ensures.facts; stays = but-controls f rows counts session handle lock held spare } in
+    let fresh = c.self.inside.fresh - c.from-in-Controls.result in
+    let g : Tables = record f { controls = rows; counts = counts; session = session; handle = handle; lock = lock; held = held; spare = spare; fresh = fresh } in
+    let places : Places f g k x Controls = record { at_home = sym c.of.ensures ∙ c.in-Controls.is; set = c.set-in-Controls.ensures.facts; keys = c.set-in-Controls.ensures.keys; stays = but-controls f rows counts session handle lock held spare fresh } in
     let moves : Moves f g k x t = record {
       counts = follow c.self.inside.counts c.of-lost.result c.of-gained.result counts k x c.read-before.result.now (value t k) c.of-lost.ensures (c.read-before.ensures t s) c.of-gained.ensures c.moved-self-inside.ensures;
       session = ap (λ (n : Counts). c.self.inside.session + n.opened) c.of-gained.ensures;
@@ -236,8 +242,9 @@ returns-in-Takes-clause-stands c = λ t s.
     let lock = c.self.inside.lock + c.of-gained.result.locks in
     let held = c.shift.new.self.list in
     let spare = c.self.inside.spare - 1 in
-    let g : Tables = record f { takes = rows; counts = counts; session = session; handle = handle; lock = lock; held = held; spare = spare } in
-    let places : Places f g k x Takes = record { at_home = sym c.of.ensures ∙ c.in-Takes.is; set = c.set-in-Takes.ensures.facts; stays = but-takes f rows counts session handle lock held spare } in
+    let fresh = c.self.inside.fresh - c.from-in-Takes.result in
+    let g : Tables = record f { takes = rows; counts = counts; session = session; handle = handle; lock = lock; held = held; spare = spare; fresh = fresh } in
+    let places : Places f g k x Takes = record { at_home = sym c.of.ensures ∙ c.in-Takes.is; set = c.set-in-Takes.ensures.facts; keys = c.set-in-Takes.ensures.keys; stays = but-takes f rows counts session handle lock held spare fresh } in
     let moves : Moves f g k x t = record {
       counts = follow c.self.inside.counts c.of-lost.result c.of-gained.result counts k x c.read-before.result.now (value t k) c.of-lost.ensures (c.read-before.ensures t s) c.of-gained.ensures c.moved-self-inside.ensures;
       session = ap (λ (n : Counts). c.self.inside.session + n.opened) c.of-gained.ensures;
@@ -260,8 +267,9 @@ returns-in-Locks-clause-stands c = λ t s.
     let lock = c.self.inside.lock + c.of-gained.result.locks in
     let held = c.shift.new.self.list in
     let spare = c.self.inside.spare - 1 in
-    let g : Tables = record f { locks = rows; counts = counts; session = session; handle = handle; lock = lock; held = held; spare = spare } in
-    let places : Places f g k x Locks = record { at_home = sym c.of.ensures ∙ c.in-Locks.is; set = c.set-in-Locks.ensures.facts; stays = but-locks f rows counts session handle lock held spare } in
+    let fresh = c.self.inside.fresh - c.from-in-Locks.result in
+    let g : Tables = record f { locks = rows; counts = counts; session = session; handle = handle; lock = lock; held = held; spare = spare; fresh = fresh } in
+    let places : Places f g k x Locks = record { at_home = sym c.of.ensures ∙ c.in-Locks.is; set = c.set-in-Locks.ensures.facts; keys = c.set-in-Locks.ensures.keys; stays = but-locks f rows counts session handle lock held spare fresh } in
     let moves : Moves f g k x t = record {
       counts = follow c.self.inside.counts c.of-lost.result c.of-gained.result counts k x c.read-before.result.now (value t k) c.of-lost.ensures (c.read-before.ensures t s) c.of-gained.ensures c.moved-self-inside.ensures;
       session = ap (λ (n : Counts). c.self.inside.session + n.opened) c.of-gained.ensures;
@@ -284,8 +292,9 @@ returns-in-Power-clause-stands c = λ t s.
     let lock = c.self.inside.lock + c.of-gained.result.locks in
     let held = c.shift.new.self.list in
     let spare = c.self.inside.spare - 1 in
-    let g : Tables = record f { power = rows; counts = counts; session = session; handle = handle; lock = lock; held = held; spare = spare } in
-    let places : Places f g k x Power = record { at_home = sym c.of.ensures ∙ c.in-Power.is; set = c.set-in-Power.ensures.facts; stays = but-power f rows counts session handle lock held spare } in
+    let fresh = c.self.inside.fresh - c.from-in-Power.result in
+    let g : Tables = record f { power = rows; counts = counts; session = session; handle = handle; lock = lock; held = held; spare = spare; fresh = fresh } in
+    let places : Places f g k x Power = record { at_home = sym c.of.ensures ∙ c.in-Power.is; set = c.set-in-Power.ensures.facts; keys = c.set-in-Power.ensures.keys; stays = but-power f rows counts session handle lock held spare fresh } in
     let moves : Moves f g k x t = record {
       counts = follow c.self.inside.counts c.of-lost.result c.of-gained.result counts k x c.read-before.result.now (value t k) c.of-lost.ensures (c.read-before.ensures t s) c.of-gained.ensures c.moved-self-inside.ensures;
       session = ap (λ (n : Counts). c.self.inside.session + n.opened) c.of-gained.ensures;

@@ -10,7 +10,7 @@ returns-in_err-reserve-2-clause-stands c = λ t s.
     let Q : Tables → Type 0 = λ f. AreOwed f.owing t in
     let f = subst P (sym c.self.view_is) (opened c.args.self.now t s) in
     let o = subst Q (sym c.self.view_is) (owing-of c.args.self.now t s) in
-    closed _ t (tables-roomy _ _ t f c.room.ensures.same c.room-2.ensures.same c.room-3.ensures.same c.room-4.ensures.same c.room-5.ensures.same c.room-6.ensures.same c.room-7.ensures.same c.room-8.ensures.same refl refl refl refl c.reserve.ensures.list) (c.reserve-2.ensures.owed t o)
+    closed _ t (tables-roomy _ _ t f refl refl refl refl refl refl refl refl refl refl refl refl c.reserve.ensures.list) (c.reserve-2.ensures.owed t o)
 
 pub returns-clause-stands : goal.returns-clause-stands
 returns-clause-stands c = λ t s.
@@ -18,4 +18,4 @@ returns-clause-stands c = λ t s.
     let Q : Tables → Type 0 = λ f. AreOwed f.owing t in
     let f = subst P (sym c.self.view_is) (opened c.args.self.now t s) in
     let o = subst Q (sym c.self.view_is) (owing-of c.args.self.now t s) in
-    closed _ t (tables-roomy _ _ t f c.room.ensures.same c.room-2.ensures.same c.room-3.ensures.same c.room-4.ensures.same c.room-5.ensures.same c.room-6.ensures.same c.room-7.ensures.same c.room-8.ensures.same refl refl refl refl c.reserve.ensures.list) (c.reserve-2.ensures.owed t o)
+    closed _ t (tables-roomy _ _ t f refl refl refl refl refl refl refl refl refl refl refl refl c.reserve.ensures.list) (c.reserve-2.ensures.owed t o)

@@ -75,8 +75,8 @@ gain-requires-clause-bound c = λ d.
     let behind = behind-taken c.args.key c.fact-before.result.now c.args.fact few.marks c.taker_in-lost_taker.result c.taker_in-taker.result c.self-2.inside.owing c.shift.new.self c.taker_in-lost_taker.ensures before c.taker_in-taker.ensures taken c.shift.ensures.taken in
     let R : Tables → Type 0 = λ f. TablesStand f few.marks in
     let stand = subst R (sym c.self.view_is) (opened now few.marks few.stand) in
-    let tables = subst Q (sym c.self-2.view_is) (c.put_in.ensures.stands few.marks (tables-same _ c.lose.new.self c.self.inside.spare few.marks stand)) in
-    let gained = c.of-gained.ensures u (tables-same _ c.shift.new.self c.self-2.inside.spare u tables) behind d in
+    let tables = subst Q (sym c.self-2.view_is) (c.put_in.ensures.stands few.marks (tables-same _ c.lose.new.self c.self.inside.spare c.self.inside.fresh few.marks stand)) in
+    let gained = c.of-gained.ensures u (tables-same _ c.shift.new.self c.self-2.inside.spare c.self-2.inside.fresh u tables) behind d in
     let all = behind-marks c.args.key c.fact-before.result.now c.args.fact few.marks c.by-touched.result c.self.inside.owing c.lose.new.self c.self-2.inside.owing c.shift.new.self d _ _
     c.by-touched.ensures before inside (c.lose.ensures.marks d) (c.of-lost.ensures few.marks (opened now few.marks few.stand) o.taken d) put c.shift.ensures.marks gained in
     let most = owed-few c.args.key c.args.fact few.marks d few.few in
@@ -96,9 +96,9 @@ returns-clause-stands c = λ t s.
     let taken = kept-taken c.self.inside.owing c.lose.new.self c.self-2.inside.owing t inside c.lose.ensures.taken put in
     let behind = behind-taken c.args.key c.fact-before.result.now c.args.fact t c.taker_in-lost_taker.result c.taker_in-taker.result c.self-2.inside.owing c.shift.new.self c.taker_in-lost_taker.ensures before c.taker_in-taker.ensures taken c.shift.ensures.taken in
     let stand = subst R (sym c.self.view_is) (opened now t s) in
-    let tables = subst Q (sym c.self-2.view_is) (c.put_in.ensures.stands t (tables-same _ c.lose.new.self c.self.inside.spare t stand)) in
-    let gained = λ (d : ConnId). c.of-gained.ensures u (tables-same _ c.shift.new.self c.self-2.inside.spare u tables) behind d in
+    let tables = subst Q (sym c.self-2.view_is) (c.put_in.ensures.stands t (tables-same _ c.lose.new.self c.self.inside.spare c.self.inside.fresh t stand)) in
+    let gained = λ (d : ConnId). c.of-gained.ensures u (tables-same _ c.shift.new.self c.self-2.inside.spare c.self-2.inside.fresh u tables) behind d in
     let all = λ (d : ConnId). behind-marks c.args.key c.fact-before.result.now c.args.fact t c.by-touched.result c.self.inside.owing c.lose.new.self c.self-2.inside.owing c.shift.new.self d _ _
     c.by-touched.ensures before inside (c.lose.ensures.marks d) (c.of-lost.ensures t (opened now t s) o.taken d) put c.shift.ensures.marks (gained d) in
-    closed _ u (tables-same _ c.gain.new.self c.self-2.inside.spare u tables)
+    closed _ u (tables-same _ c.gain.new.self c.self-2.inside.spare c.self-2.inside.fresh u tables)
     (record { marks = λ d. c.gain.ensures.marks d ∙ all d; taken = λ r. ap (λ (w : Room (ℕ × ℕ)). sum_in w.items r.0) c.gain.ensures.taken ∙ behind r })
