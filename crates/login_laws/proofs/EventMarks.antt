@@ -14,7 +14,8 @@ use Rattle.login_model.specs.Fresh.{is_open_fact, next_handle, next_lock, next_s
 use Rattle.login_model.specs.Devices.{is_handle_fact, is_taken, taken_devices}
 use Rattle.login_model.specs.Full.{controlled_sessions, is_controlled_fact, taken_by, taken_count}
 use Rattle.login_model.specs.Legal.{stepped}
-use Rattle.login_laws.specs.Need.{IsDisconnect, IsWithin, RoomIsKept, switch_need}
+use Rattle.login_laws.specs.Asking.{asked_vt, call_vt}
+use Rattle.login_laws.specs.Need.{IsDisconnect, IsWithin, RoomIsKept, call_goes_over, goes_over, goes_over_users, hardware_goes_over, is_wide, marks_beside, marks_over_all, marks_over_users, most_marks, switch_need}
 use Rattle.login_model.specs.Policy.{meant_user, uid_of, verdict}
 use Rattle.login_model.specs.Procedure.{each, if_some, kill, know, no, oust, release, revoke, shut, take_seat, untake, yes}
 use Rattle.login_model.specs.Facts.{is_number_fact}
@@ -22,6 +23,7 @@ use Rattle.login_model.specs.Creating.{appear_on, create, created_session, seat_
 use Rattle.login_model.specs.Direct.{activate, control, control_from, direct, direct_call, disconnect, exit, happen, lock_session, press, unlock_session}
 use Rattle.login_model.specs.Words.{whom_of}
 use Rattle.login_model.specs.Settle.{settle}
+use Rattle.login_model.specs.Switching.{complete, settle_switch}
 use Rattle.login_laws.specs.Sound.{IsSound}
 use Rattle.login_laws.proofs.UnusedLaws.{Unused}
 use Rattle.login_model.specs.declared.call.Call.{Call}
@@ -32,6 +34,7 @@ use Rattle.login_model.specs.declared.event.Event.TheVariants.{Connect, Disconne
 use Rattle.login_model.specs.declared.hardware.Hardware.{Hardware}
 use Rattle.login_model.specs.declared.hardware.Hardware.TheVariants.{Add, Remove, VtKey, Exit, Key as HardKeyPressed, Dock, JobDone}
 use Rattle.login_base.specs.declared.ids.HandleNo.{HandleNo}
+use Rattle.login_model.specs.declared.conf.Conf.{Conf}
 use Rattle.login_model.specs.declared.conf.KeyAction.{KeyAction}
 use Rattle.login_model.specs.declared.conf.KeyAction.TheVariants as does
 use Rattle.login_model.specs.declared.hardware.DevKind.{DevKind}
@@ -40,7 +43,7 @@ use Rattle.login_model.specs.declared.lock.Lock.{Lock}
 use Rattle.login_model.specs.declared.operation.OpKind.{OpKind}
 use Rattle.login_model.specs.declared.operation.Operation.TheVariants.{Idle, Waiting, Running}
 use Rattle.login_model.specs.Locks.{asked_lock}
-use Rattle.login_model.specs.Power.{ask_operation, end_operation, inhibit, is_blocked, job_done, key_action, prepare}
+use Rattle.login_model.specs.Power.{ask_operation, end_operation, inhibit, is_blocked, job_done, key_action, prepare, settle_operation}
 use Rattle.login_model.specs.Same.{same_key}
 use Rattle.login_model.specs.Taking.{acknowledge, add_device, appear_seat, enliven, has_graphics, lose_seat, remove_device, set_mode, take_device, takers}
 use Rattle.login_model.specs.declared.mark.Notice.TheVariants as notice
@@ -67,7 +70,8 @@ use Rattle.login_laws.proofs.Counts.{both-true, connections-list, count-less, co
 use Rattle.login_laws.proofs.Ending.{good-disconnect}
 use Rattle.login_laws.proofs.Paying.{Falls, base, counted, falls-controlled, falls-locked, falls-opened, handle-in, open-session}
 use Rattle.login_laws.proofs.PayingEnds.{pays-disconnect}
-use Rattle.login_laws.proofs.PayingMoves.{settle-within}
+use Rattle.login_laws.proofs.Calm.{direct-calm}
+use Rattle.login_laws.proofs.PayingMoves.{settle-within, start-within}
 use Rattle.login_laws.proofs.NeedLaws.{ends, need-is}
 use Rattle.login_laws.proofs.RoomLaws.{room, stop-stays}
 use Rattle.login_laws.proofs.WithinLaws.{Within, active-there, filter-length, owner-within, plain-within, say-within, taken-there, within-each, within-if, within-more, within-refl, within-trans}
@@ -574,6 +578,148 @@ taken-at false t s e g =
 pub taken-within : (t : Trail) → Good none_out t → TakenWithin t
 taken-within t g s = taken-at (is_session t s) t s refl g
 
+-- ---- events that make few marks
+
+-- so many more at most
+abbrev Adds : ℕ → Trail → Trail → Type 0
+Adds n t u = length u ≤ length t + n
+
+adds : (n m : ℕ) (t u : Trail) → n ≤ m → Within n t u → Adds m t u
+adds n m t u l w = let k = w.marks in omega arith
+
+adds-some : {A : Type 0} (n : ℕ) (f : A → Trail → Trail) (o : Option A) (t : Trail) → ((x : A) → Adds n t (f x t)) → Adds n t (if_some f o t)
+adds-some n f None t step = omega arith
+adds-some n f (Some x) t step = step x
+
+take-adds : (c : ConnId) (s : SessId) (d : DevNo) (h : HandleNo) (t : Trail) → Adds 3 t (take_device c s d h t)
+unfolding take_device
+take-adds c s d h t =
+    let o = fact.Owned (owner.Device c s d) in
+    let x = fact.Handle h in
+    let a = put (key.Owner h) o t in
+    let b = put (key.Taken s d) x a in
+    let m = put-length (key.Owner h) o t in
+    let n = put-length (key.Taken s d) x a in
+    let k = (enliven-within h (is_active t s) b).marks in
+    omega arith
+
+inhibit-adds : (x : Lock) (l : LockNo) (h : HandleNo) (t : Trail) → Adds 3 t (inhibit x l h t)
+inhibit-adds x l h t =
+    let u = put (key.Lock l) (fact.Lock x) t in
+    let m = put-length (key.Lock l) (fact.Lock x) t in
+    let n = put-length (key.Owner h) (fact.Owned (owner.Lock x.holder l)) u in
+    omega arith
+
+-- a call that goes over nothing
+call-adds : (U : Setup) (c : ConnId) (x : Call) (t : Trail) → call_goes_over x ≡ false → Adds 3 t (direct_call U c x t)
+call-adds U c (call.Create x) t e = cc
+call-adds U c (call.Activate id) t e = cc
+call-adds U c (call.ActivateOnSeat id seat) t e = cc
+call-adds U c call.LockAll t e = cc
+call-adds U c call.UnlockAll t e = cc
+call-adds U c (call.Terminate id) t e = cc
+call-adds U c (call.TerminateUser u) t e = cc
+call-adds U c (call.TerminateSeat seat) t e = cc
+call-adds U c (call.Control id force) t e = cc
+call-adds U c (call.Uncontrol id) t e = cc
+call-adds U c (call.SwitchTo seat vt) t e = cc
+call-adds U c (call.SwitchToNext seat) t e = cc
+call-adds U c (call.SwitchToPrevious seat) t e = cc
+call-adds U c (call.KillUser u signal) t e = cc
+call-adds U c (call.Close h) t e = cc
+call-adds U c (call.Lock id) t e = adds-some 3 lock_session (session_of id) t (λ s. adds 1 3 t (lock_session s t) (omega arith) (say-within All (notice.Lock s) t))
+call-adds U c (call.Unlock id) t e = adds-some 3 unlock_session (session_of id) t (λ s. adds 1 3 t (unlock_session s t) (omega arith) (say-within All (notice.Unlock s) t))
+call-adds U c (call.Kill id who signal) t e =
+    (let f = λ (s : SessId) (u : Trail). put (key.Sig s) (fact.Signal (whom_of who) signal) u in
+    adds-some 3 f (session_of id) t (λ s. adds 1 3 t (f s t) (omega arith) (signal-within (whom_of who) signal s t)))
+call-adds U c (call.SetLinger u on) t e =
+    (let v = direct_call U c (call.SetLinger u on) t in adds 3 3 t v (omega arith) (linger-within U (record { 0 = meant_user t c u.0 }) on t))
+call-adds U c (call.SetIdle id on) t e =
+    (let f = λ (s : SessId) (u : Trail). put (key.Idle s) (fact.Flag on) u in
+    adds-some 3 f (session_of id) t (λ s. adds 1 3 t (f s t) (omega arith) (plain-within (key.Idle s) (fact.Flag on) t refl)))
+call-adds U c (call.SetLocked id on) t e =
+    (let f = λ (s : SessId) (u : Trail). put (key.Locked s) (fact.Flag on) u in
+    adds-some 3 f (session_of id) t (λ s. adds 1 3 t (f s t) (omega arith) (plain-within (key.Locked s) (fact.Flag on) t refl)))
+call-adds U c (call.TakeDevice id d) t e = adds-some 3 (λ s u. take_device c s d (next_handle u) u) (session_of id) t (λ s. take-adds c s d (next_handle t) t)
+call-adds U c (call.ReleaseDevice id d) t e = adds-some 3 (λ s u. untake s d u) (session_of id) t (λ s. adds 3 3 t (untake s d t) (omega arith) (untake-within s d t))
+call-adds U c (call.PauseComplete id d) t e = adds-some 3 (λ s u. acknowledge s d u) (session_of id) t (λ s. adds 2 3 t (acknowledge s d t) (omega arith) (acknowledge-within s d t))
+call-adds U c (call.SetMode h mode) t e = (let x = value t (key.Owner h) in adds 1 3 t (set_mode x mode t) (omega arith) (mode-within x mode t))
+call-adds U c (call.Power k) t e = (let b = is_blocked t k in adds 2 3 t (ask_operation k b t) (omega arith) (ask-within k b t))
+call-adds U c (call.Inhibit x) t e = inhibit-adds (asked_lock c (record { 0 = uid_of t c }) x) (next_lock t) (next_handle t) t
+call-adds U c _ t e = omega arith
+
+happen-adds : (U : Setup) (x : Hardware) (t : Trail) → hardware_goes_over x ≡ false → Adds 3 t (happen U x t)
+happen-adds U (VtKey vt) t e = cc
+happen-adds U (Exit id) t e = cc
+happen-adds U (Remove d) t e = cc
+happen-adds U (HardKeyPressed k) t e = cc
+happen-adds U (Add d kind seat) t e = adds 3 3 t (add_device d kind seat t) (omega arith) (add-within d kind seat t)
+happen-adds U (Dock on) t e = adds 1 3 t (put key.Docked (fact.Flag on) t) (omega arith) (plain-within key.Docked (fact.Flag on) t refl)
+happen-adds U JobDone t e = adds 2 3 t (job_done t) (omega arith) (done-within t)
+happen-adds U _ t e = omega arith
+
+direct-adds : (U : Setup) (e : Event) (t : Trail) → (IsDisconnect e → ⊥) → goes_over e ≡ false → Adds (cond (goes_over_users e) (marks_over_users t) 0 + 3) t (direct U e t)
+unfolding direct
+direct-adds U (Connect c u) t n f = (let m = put-length (key.Conn c) (fact.Connected u) t in omega arith)
+direct-adds U (Disconnect c) t n f = absurd (n tt)
+direct-adds U (Calls r) t n f = (let m = call-adds U r.who r.call t f in omega arith)
+direct-adds U (Happens x) t n f = (let m = happen-adds U x t f in omega arith)
+direct-adds U (Tick m) t n f = adds (2 * length (users t) + 1) (marks_over_users t + 3) t (direct U (Tick m) t) (omega arith) (tick-within U m t)
+direct-adds U Stop t n f = omega arith
+
+-- what asks for a terminal goes over what is taken
+call-over : (t : Trail) (x : Call) (v : ℕ) → call_vt t x ≡ Some v → call_goes_over x ≡ false → ⊥
+call-over t (call.Activate id) v e f = cc
+call-over t (call.ActivateOnSeat id seat) v e f = cc
+call-over t (call.SwitchTo seat vt) v e f = cc
+call-over t (call.SwitchToNext seat) v e f = cc
+call-over t (call.SwitchToPrevious seat) v e f = cc
+call-over t _ v e f = (let z : None ≡ Some v = e in cc)
+
+hardware-over : (t : Trail) (x : Hardware) (v : ℕ) → asked_vt t (Happens x) ≡ Some v → hardware_goes_over x ≡ false → ⊥
+unfolding asked_vt
+hardware-over t (VtKey vt) v e f = cc
+hardware-over t _ v e f = (let z : None ≡ Some v = e in cc)
+
+asks-over : (t : Trail) (e : Event) (v : ℕ) → asked_vt t e ≡ Some v → goes_over e ≡ false → ⊥
+unfolding asked_vt
+asks-over t (Calls r) v e f = call-over t r.call v e f
+asks-over t (Happens x) v e f = hardware-over t x v e f
+asks-over t _ v e f = (let z : None ≡ Some v = e in cc)
+
+-- so no switch is pending behind an event that goes over nothing, where none was
+calm-over : (U : Setup) (e : Event) (t : Trail) → goes_over e ≡ false → is_number_fact (value t key.Pending) ≡ false → is_number_fact (value (direct U e t) key.Pending) ≡ false
+calm-over U e t f p = elim (direct-calm U e t) [
+  | inl k ↦ ap is_number_fact k.pending ∙ p
+  | inr q ↦ absurd (asks-over t e q.0 q.1 f)
+]
+
+-- and nothing completes
+not-pending : (x : Fact) (conf : Conf) (t : Trail) → is_number_fact x ≡ false → complete conf x t ≡ t
+not-pending (fact.Number v) conf t e = absurd (let z : true ≡ false = e in cc)
+not-pending _ conf t e = refl
+
+none-completes : (conf : Conf) (t : Trail) → is_number_fact (value t key.Pending) ≡ false → settle_switch conf t ≡ t
+unfolding settle_switch
+none-completes conf t e = not-pending (value t key.Pending) conf t e
+
+operation-adds : (U : Setup) (t : Trail) → Adds 1 t (settle_operation U.conf t)
+unfolding settle_operation
+operation-adds U t = (start-within (value t key.Op) U t).marks
+
+neither : (a b : Bool) → (a || b) ≡ false → (a ≡ false) × (b ≡ false)
+neither true b e = cc
+neither false b e = (refl, e)
+
+few-marks : (U : Setup) (e : Event) (t : Trail) → (IsDisconnect e → ⊥) → is_wide t e ≡ false → length (settle U (direct U e t)) ≤ length t + (cond (goes_over_users e) (marks_over_users t) 0 + marks_beside)
+few-marks U e t n f =
+    let g = neither (goes_over e) (is_number_fact (value t key.Pending)) f in
+    let u = direct U e t in
+    let a = direct-adds U e t n g.0 in
+    let s = ap length (none-completes U.conf u (calm-over U e t g.0 g.1)) in
+    let o = operation-adds U (settle_switch U.conf u) in
+    omega arith
+
 -- ---- with what is settled
 
 switch-at : (b : Bool) (n : ℕ) → cond b (8 * n + 8) 0 ≤ 8 * n + 8
@@ -583,8 +729,13 @@ switch-at false n = omega arith
 switch-most : (t : Trail) → switch_need t ≤ 8 * taken_count t + 8
 switch-most t = switch-at (is_number_fact (value t key.Pending)) (taken_count t)
 
-settle-step : {b : Bool} (U : Setup) (t u : Trail) → Steps b t u → IsWithin t (settle U u)
-settle-step U t u p =
+-- where an event may make many marks, and where it makes few
+most-at : (w : Bool) (n k m : ℕ) (t u : Trail) → (w ≡ true → length u ≤ length t + (n + m)) → (w ≡ false → length u ≤ length t + (k + m)) → length u ≤ length t + (cond w n k + m)
+most-at true n k m t u f g = f refl
+most-at false n k m t u f g = g refl
+
+settle-step : {b : Bool} (U : Setup) (e : Event) (t u : Trail) → (is_wide t e ≡ false → length (settle U u) ≤ length t + (cond (goes_over_users e) (marks_over_users t) 0 + marks_beside)) → Steps b t u → IsWithin e t (settle U u)
+settle-step U e t u few p =
     let v = settle U u in
     let w = settle-within U u in
     let c = counted u v w.falls in
@@ -593,14 +744,21 @@ settle-step U t u p =
     let b1 = c.connected in let b2 = c.controlled in let b3 = c.taken in let b4 = c.opened in let b5 = c.locked in
     let s = switch-most v in
     let n = need-is t in let k = need-is v in
-    record { marks = omega arith; need_rises = omega arith; takes = omega arith }
+    record {
+      marks = most-at (is_wide t e) (marks_over_all t) (cond (goes_over_users e) (marks_over_users t) 0) marks_beside t v (λ y. omega arith) few;
+      need_rises = omega arith;
+      takes = omega arith;
+    }
 
-other-by : (v : Verdict) (U : Setup) (e : Event) (t : Trail) → IsSound U t → (IsDisconnect e → ⊥) → IsWithin t (stepped U v e t)
-other-by Granted U e t s n = (let g = good-sound t s.between in settle-step U t (direct U e t) (step-direct U e t n g.unused (taken-within t g)))
-other-by (Denied r) U e t s n = record { marks = omega arith; need_rises = omega arith; takes = omega arith }
+none-more : (n : ℕ) (t : Trail) → length t ≤ length t + n
+none-more n t = omega arith
+
+other-by : (v : Verdict) (U : Setup) (e : Event) (t : Trail) → IsSound U t → (IsDisconnect e → ⊥) → IsWithin e t (stepped U v e t)
+other-by Granted U e t s n = (let g = good-sound t s.between in settle-step U e t (direct U e t) (few-marks U e t n) (step-direct U e t n g.unused (taken-within t g)))
+other-by (Denied r) U e t s n = record { marks = none-more (most_marks t e) t; need_rises = omega arith; takes = omega arith }
 
 -- another event stays within both sums
-pub other : (U : Setup) (t : Trail) (e : Event) → IsSound U t → (IsDisconnect e → ⊥) → IsWithin t (stepped U (verdict U t e) e t)
+pub other : (U : Setup) (t : Trail) (e : Event) → IsSound U t → (IsDisconnect e → ⊥) → IsWithin e t (stepped U (verdict U t e) e t)
 other U t e s n = other-by (verdict U t e) U e t s n
 
 -- a disconnect takes no device

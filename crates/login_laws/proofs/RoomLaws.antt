@@ -4,7 +4,7 @@ use Rattle.login_model.specs.Devices.{is_awaiting}
 use Rattle.login_model.specs.Direct.{direct}
 use Rattle.login_model.specs.Full.{controlled_sessions, marks_needed, taken_count}
 use Rattle.login_model.specs.Legal.{stepped}
-use Rattle.login_laws.specs.Need.{most_marks, most_rise, need}
+use Rattle.login_laws.specs.Need.{goes_over_users, is_wide, marks_over_all, marks_over_users, most_marks, most_of_any, most_rise, need}
 use Rattle.login_model.specs.Settle.{settle}
 use Rattle.login_laws.specs.Sound.{IsHeld, IsSound}
 use Rattle.login_model.specs.Facts.{is_number_fact}
@@ -13,6 +13,7 @@ use Rattle.login_model.specs.Trail.{Trail, put, value}
 use Rattle.login_model.specs.Where.{active_on, connections, locks, open_sessions, sessions, users}
 use Rattle.login_model.specs.Start.{seat0}
 use Rattle.login_model.specs.declared.conf.Conf.{Conf}
+use Rattle.login_model.specs.declared.event.Event.{Event}
 use Rattle.login_model.specs.declared.event.Event.TheVariants.{Stop}
 use Rattle.login_model.specs.declared.fact.Fact.{Fact}
 use Rattle.login_model.specs.declared.fact.Fact.TheVariants.{Number, Operation}
@@ -59,7 +60,16 @@ room-at true m a c k o l n u = omega arith
 room-at false m a c k o l n u = omega arith
 
 -- both sums have room beside the marks
-pub room : (t : Trail) (marks : ℕ) → marks + need t + most_marks t + most_rise t ≤ marks_needed t marks
+pub room : (t : Trail) (marks : ℕ) → marks + need t + most_of_any t + most_rise t ≤ marks_needed t marks
 unfolding need
 room t marks =
     room-at (is_number_fact (value t key.Pending)) marks (length (connections t)) (length (controlled_sessions t)) (taken_count t) (length (open_sessions t)) (length (locks t)) (length (sessions t)) (length (users t))
+
+less-at : (w u : Bool) (m n : ℕ) → n ≤ m → cond w m (cond u n 0) ≤ m
+less-at true u m n l = omega arith
+less-at false true m n l = l
+less-at false false m n l = omega arith
+
+-- no event makes more than any does
+pub most-less : (t : Trail) (e : Event) → most_marks t e ≤ most_of_any t
+most-less t e = let l = less-at (is_wide t e) (goes_over_users e) (marks_over_all t) (marks_over_users t) (omega arith) in omega arith
