@@ -4,16 +4,19 @@ use Rattle.std.specs.List.{AllByRecursion}
 use Rattle.login_model.specs.Trail.{Trail, after}
 use Rattle.login_model.specs.declared.fact.Fact.{Fact}
 use Rattle.login_model.specs.declared.fact.Fact.TheVariants.{Absent, Flag, Number, Handle, Owned, Operation}
+use Rattle.login_model.specs.declared.fact.Owner.TheVariants.{Device}
 use Rattle.login_model.specs.declared.mark.Mark.{Mark}
 use Rattle.login_model.specs.declared.mark.Mark.TheVariants.{Set, Say}
 
--- a fact that has no memory of its own, so that a second one is made without any
+-- the facts that marks behind others set: nothing, a flag, a number, a handle, that a handle is a device's, an operation.
+-- None has memory of its own, so that a second one is made without any, and none makes a connection a controller, the
+-- owner of a fifo or the holder of a lock
 abbrev pub IsPlain : Fact → Type 0
 IsPlain Absent = Unit {0}
 IsPlain (Flag on) = Unit {0}
 IsPlain (Number n) = Unit {0}
 IsPlain (Handle h) = Unit {0}
-IsPlain (Owned o) = Unit {0}
+IsPlain (Owned (Device c s d)) = Unit {0}
 IsPlain (Operation o) = Unit {0}
 IsPlain _ = ⊥
 

@@ -17,7 +17,7 @@ ghost use Rattle.switch_core.specs.inner.Keeping.{Keeps, is_switching};
 use crate::ahead::Ahead;
 use crate::rounds::Task;
 use login_base::{ConnId, DevNo, HandleNo, SessId};
-use login_model::{DevKind, Fact, Key, Look, Notice, Owner, PauseKind, Whom};
+use login_model::{DevKind, Fact, Key, Look, Notice, PauseKind, Whom};
 
 /// A live device of a session is taken from it by force.
 #[derive(Drop)]
@@ -104,7 +104,7 @@ impl<'a, F: Look> Ahead<'a, F> {
         ensures marked { self.new ≡ marked_by (renew session device handle (controller_fact controller)) self.old }
     {
         if let Some(who) = controller {
-            self.put_owner(handle, Owner::Device(who, session, device));
+            self.put_owner(handle, who, session, device);
             self.put_flag(Key::Live(handle), true);
             self.put_handle(session, device, handle);
             self.tell(Whom::One(who), Notice::Resume(session, device, handle));

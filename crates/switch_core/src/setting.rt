@@ -59,12 +59,15 @@ impl<'a, F: Look> Ahead<'a, F> {
         self.put(key, Fact::Number(number));
     }
 
-    /// A handle has an owner.
-    pub fn put_owner(&mut self, handle: HandleNo, owner: Owner)
-        requires room { Fits (put (Key.Owner handle) (Fact.Owned owner)) self.old }
-        ensures marked { self.new ≡ marked_by (put (Key.Owner handle) (Fact.Owned owner)) self.old }
+    /// A handle is one of a device, which a session of this controller has taken.
+    pub fn put_owner(&mut self, handle: HandleNo, who: ConnId, session: SessId, device: DevNo)
+        requires room { Fits (put (Key.Owner handle) (Fact.Owned (Owner.Device who session device))) self.old }
+        ensures marked { self.new ≡ marked_by (put (Key.Owner handle) (Fact.Owned (Owner.Device who session device))) self.old }
     {
-        self.put(Key::Owner(handle), Fact::Owned(owner));
+        self.put(
+            Key::Owner(handle),
+            Fact::Owned(Owner::Device(who, session, device)),
+        );
     }
 
     /// A session has taken a device with a handle.
