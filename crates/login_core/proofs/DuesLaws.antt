@@ -1,5 +1,5 @@
 -- What is due, and what connections owe behind one more mark.
-use Rattle.std.proofs.Common.{◌≡◌, ◌+◌, ◌*◌, ◌∙◌, ℕ, Bool, true, cond, Option, List, [], ◌∷◌, length, ap, sym}
+use Rattle.std.proofs.Common.{◌≡◌, ◌+◌, ◌*◌, ◌∙◌, ℕ, Bool, true, cond, Option, List, [], ◌∷◌, length, ap, refl, sym}
 use Rattle.login_base.specs.declared.ids.ConnId.{ConnId}
 use Rattle.login_base.specs.declared.ids.SessId.{SessId}
 use Rattle.login_model.specs.declared.fact.Key.TheVariants as key
@@ -9,13 +9,14 @@ use Rattle.login_model.specs.declared.mark.Whom.{Whom}
 use Rattle.login_model.specs.declared.mark.Notice.{Notice}
 use Rattle.login_model.specs.Devices.{taken_devices}
 use Rattle.login_model.specs.Facts.{controller_in}
-use Rattle.login_model.specs.Trail.{Trail, value}
+use Rattle.login_model.specs.Trail.{Trail, value, was_set}
 use Rattle.login_model.specs.Where.{is_session}
 use Rattle.login_core.specs.declared.board.owing.Charge.{Charge}
 use Rattle.login_core.specs.declared.board.owing.Owing.{Owing}
 use Rattle.login_core.specs.inner.Dues.{AreOwed, charge_at}
 use Rattle.login_core.specs.inner.Owing.{charge, due_at, keeper}
-use Rattle.login_core.specs.inner.Sums.{sum_in}
+use Rattle.login_core.specs.inner.Sums.{has_row, sum_in}
+use Rattle.login_core.proofs.Known.{known-none, known-say}
 use Rattle.login_core.proofs.OwedLaws.{owed-none, owed-say}
 use Rattle.login_core.proofs.TakenLaws.{taken-none, taken-say}
 
@@ -31,20 +32,34 @@ charge-is t c s x y there e f k h =
 
 -- ---- what is owed
 
+none-set : (c : ConnId) → was_set [] (key.Conn c) ≡ true → ⊥
+unfolding was_set
+none-set c e = cc
+
+said : (c : ConnId) (w : Whom) (n : Notice) (t : Trail) → was_set t (key.Conn c) ≡ was_set (Say w n ∷ t) (key.Conn c)
+unfolding was_set
+said c w n t = refl
+
 pub owing-none : (owing : Owing) → owing.marks.items ≡ [] → owing.taken.items ≡ [] → AreOwed owing []
 owing-none owing e f = record {
   marks = λ c. ap (λ (xs : List (ℕ × ℕ)). sum_in xs c.0) e ∙ sym (owed-none c);
   taken = λ s. ap (λ (xs : List (ℕ × ℕ)). sum_in xs s.0) f ∙ sym (taken-none s);
+  known = known-none;
+  rows = λ c e. absurd (none-set c e);
 }
 
 pub owing-say : (owing : Owing) (w : Whom) (n : Notice) (t : Trail) → AreOwed owing t → AreOwed owing (Say w n ∷ t)
 owing-say owing w n t o = record {
   marks = λ c. o.marks c ∙ sym (owed-say w n t c);
   taken = λ s. o.taken s ∙ sym (taken-say w n t s);
+  known = known-say w n t o.known;
+  rows = λ c e. o.rows c (said c w n t ∙ e);
 }
 
 pub owing-same : (old new : Owing) (t : Trail) → new.marks.items ≡ old.marks.items → new.taken.items ≡ old.taken.items → AreOwed old t → AreOwed new t
 owing-same old new t e f o = record {
   marks = λ c. ap (λ (xs : List (ℕ × ℕ)). sum_in xs c.0) e ∙ o.marks c;
   taken = λ s. ap (λ (xs : List (ℕ × ℕ)). sum_in xs s.0) f ∙ o.taken s;
+  known = o.known;
+  rows = λ c w. ap (λ (xs : List (ℕ × ℕ)). has_row xs c.0) e ∙ o.rows c w;
 }

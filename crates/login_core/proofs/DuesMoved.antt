@@ -86,9 +86,10 @@ taken-small t s a e few = let most = taken-bound t s in omega arith
 
 -- ---- the sums beside the facts, step by step
 
--- what was taken stays as it is where only what is due is lost
-pub kept-taken : (old lost put : Owing) (t : Trail) → AreOwed old t → lost.taken ≡ old.taken → put ≡ lost → AreTaken put t
-kept-taken old lost put t o e f = λ s. ap (λ (w : Owing). sum_in w.taken.items s.0) f ∙ ap (λ (r : Room (ℕ × ℕ)). sum_in r.items s.0) e ∙ o.taken s
+-- what was taken stays as it is where only what is due is lost, and a connection comes
+pub kept-taken : (old lost put welcomed : Owing) (t : Trail) → AreOwed old t → lost.taken ≡ old.taken → put ≡ lost → welcomed.taken ≡ put.taken → AreTaken welcomed t
+kept-taken old lost put welcomed t o e f g = λ s.
+    ap (λ (r : Room (ℕ × ℕ)). sum_in r.items s.0) g ∙ ap (λ (w : Owing). sum_in w.taken.items s.0) f ∙ ap (λ (r : Room (ℕ × ℕ)). sum_in r.items s.0) e ∙ o.taken s
 
 pub behind-taken : (k : Key) (x y : Fact) (t : Trail) (lost gained : Option SessId) (put shifted : Owing) → lost ≡ taker_in k x → x ≡ value t k → gained ≡ taker_in k y → AreTaken put t
     → ((s : SessId) → sum_in shifted.taken.items s.0 + taker_at lost s ≡ sum_in put.taken.items s.0 + taker_at gained s) → AreTaken shifted (Set k y ∷ t)
@@ -96,8 +97,8 @@ behind-taken k x y t lost gained put shifted e f g a m = λ s.
     taken-moved k x y t s lost gained (sum_in put.taken.items s.0) (sum_in shifted.taken.items s.0) e f g (a s) (m s)
 
 pub behind-marks : (k : Key) (x y : Fact) (t : Trail) (touched : Touched) (old lost put shifted : Owing) (c : ConnId) (d e : ℕ) → touched ≡ touched_by k x y → x ≡ value t k → AreOwed old t
-    → sum_in lost.marks.items c.0 + d ≡ sum_in old.marks.items c.0 → d ≡ touched_at t c touched → put ≡ lost → shifted.marks ≡ put.marks → e ≡ touched_at (Set k y ∷ t) c touched
+    → sum_in lost.marks.items c.0 + d ≡ sum_in old.marks.items c.0 → d ≡ touched_at t c touched → put ≡ lost → sum_in shifted.marks.items c.0 ≡ sum_in put.marks.items c.0 → e ≡ touched_at (Set k y ∷ t) c touched
     → sum_in shifted.marks.items c.0 + e ≡ owed (Set k y ∷ t) c
 behind-marks k x y t touched old lost put shifted c d e p q o l r f g v =
-    ap (λ (z : Room (ℕ × ℕ)). sum_in z.items c.0 + e) (g ∙ ap (λ (w : Owing). w.marks) f)
+    ap (λ (n : ℕ). n + e) (g ∙ ap (λ (w : Owing). sum_in w.marks.items c.0) f)
     ∙ marks-moved k x y t touched c (sum_in old.marks.items c.0) (sum_in lost.marks.items c.0) d e p q (o.marks c) l r v

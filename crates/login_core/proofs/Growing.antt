@@ -1,5 +1,5 @@
 -- That procedures only add marks and keys, for the tactics.
-use Rattle.std.proofs.Common.{◌≡◌, ◌≤◌, length, ap, arith}
+use Rattle.std.proofs.Common.{◌≡◌, ◌≤◌, ap, arith}
 use Rattle.login_model.specs.Trail.{Trail}
 use Rattle.login_laws.specs.Amounts.{Resource, amount}
 use Rattle.login_core.specs.inner.Draft.{DraftState, limit, with_trail}

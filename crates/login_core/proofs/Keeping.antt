@@ -4,7 +4,7 @@ use Rattle.login_base.specs.declared.ids.ConnId.{ConnId}
 use Rattle.login_model.specs.Direct.{direct, direct_call}
 use Rattle.login_model.specs.Full.{connected_after, entries_needed, full, is_granted, mark_count, marks_needed, over}
 use Rattle.login_model.specs.Legal.{stepped, trail_of}
-use Rattle.login_laws.specs.Need.{IsDisconnect, most_marks, most_rise, need}
+use Rattle.login_laws.specs.Need.{IsDisconnect, most_of_any, most_rise, need}
 use Rattle.login_model.specs.Policy.{verdict}
 use Rattle.login_model.specs.Settle.{settle}
 use Rattle.login_laws.specs.Sound.{IsSound}
@@ -27,7 +27,7 @@ use Rattle.login_model.specs.Creating.{create, created_session}
 use Rattle.login_laws.proofs.Comings.{IsCreation, IsTame, comes-connections, connect-connections, disconnect-connections, event-comes, event-tame, tame-connections}
 use Rattle.login_laws.proofs.EventMarks.{other}
 use Rattle.login_laws.proofs.NeedLaws.{ends}
-use Rattle.login_laws.proofs.RoomLaws.{stop-stays}
+use Rattle.login_laws.proofs.RoomLaws.{most-less, stop-stays}
 use Rattle.login_core.specs.Fullness.{always_fits}
 use Rattle.login_core.specs.inner.Inside.{stop_need}
 
@@ -76,11 +76,12 @@ small U before (Tick m) f h = small-by U before (Tick m) h
 abbrev pub Within : ℕ → Trail → Type 0
 Within limit t = length t + need t ≤ limit
 
-pub other-within : (U : Setup) (e : Event) (t : Trail) (limit : ℕ) → IsSound U t → (IsDisconnect e → ⊥) → length t + need t + most_marks t + most_rise t ≤ limit → Within limit (stepped U (verdict U t e) e t)
+pub other-within : (U : Setup) (e : Event) (t : Trail) (limit : ℕ) → IsSound U t → (IsDisconnect e → ⊥) → length t + need t + most_of_any t + most_rise t ≤ limit → Within limit (stepped U (verdict U t e) e t)
 other-within U e t limit s n h =
     let w = other U t e s n in
     let a = w.marks in
     let b = w.need_rises in
+    let l = most-less t e in
     omega arith
 
 pub disconnect-within : (U : Setup) (c : ConnId) (t : Trail) (limit : ℕ) → IsSound U t → is_connected t c ≡ true → Within limit t → Within limit (stepped U Granted (Disconnect c) t)
@@ -149,9 +150,9 @@ pub record StaysWithin (entries reach count : ℕ) (stop : Option ℕ) (t : Trai
 -- the room that was made for an event that is no end
 pub record Made (U : Setup) (entries reach count : ℕ) (t : Trail) (e : Event) : Type 0 where
   pub entries_made : connected_after U t e + 2 ≤ entries
-  pub reach_made : length t + need t + most_marks t + most_rise t ≤ reach
+  pub reach_made : length t + need t + most_of_any t + most_rise t ≤ reach
   pub few_entries : count + connected_after U t e + 2 ≤ 200000
-  pub few_marks : length t + need t + most_marks t + most_rise t ≤ 4000000
+  pub few_marks : length t + need t + most_of_any t + most_rise t ≤ 4000000
 
 pub kept-other : (U : Setup) (entries reach count : ℕ) (t : Trail) (e : Event) (v : Verdict) → IsSound U t → (IsDisconnect e → ⊥) → v ≡ verdict U t e → Made U (entries + 1) reach count t e
     → StaysWithin entries reach (count + 1) None (stepped U v e t)

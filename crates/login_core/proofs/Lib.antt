@@ -1,4 +1,5 @@
 pub mod Counting
+pub mod Known
 pub mod SumLaws
 pub mod DuesLaws
 pub mod DuesMoved
@@ -16,6 +17,7 @@ pub mod HeldOrder
 pub mod HeldRows
 pub mod HeldNext
 pub mod HomeLaws
+pub mod Welcomed
 pub mod Standing
 pub mod Placed
 pub mod HandedOn

@@ -1,10 +1,10 @@
 -- Sums by number, one of which is moved.
-use Rattle.std.proofs.Common.{◌≡◌, ◌+◌, ◌==◌, ◌∙◌, ℕ, Bool, cond, Option, Some, None, List, ap, arith, inl, inr}
+use Rattle.std.proofs.Common.{◌≡◌, ◌+◌, ◌==◌, ◌∙◌, ℕ, Bool, true, false, cond, Option, Some, None, List, ap, arith, inl, inr, refl}
 use Rattle.std.specs.Map.{lookup}
-use Rattle.std.specs.Option.{unwrap_or}
+use Rattle.std.specs.Option.{is_some, unwrap_or}
 use Rattle.login_model.proofs.Keys.{same-number, test}
 use Rattle.login_model.proofs.Values.{same-refl}
-use Rattle.login_core.specs.inner.Sums.{part, sum_in}
+use Rattle.login_core.specs.inner.Sums.{KeepRows, has_row, part, sum_in}
 
 -- what a number has of its own
 pub own-part : (number amount : ℕ) → part number amount number ≡ amount
@@ -39,6 +39,33 @@ gone-at xs ys number n lost e s = elim (test (number == n)) [
       let own : part number lost n ≡ 0 = ap (λ (b : Bool). cond b lost 0) z in
       omega arith)
 ]
+
+-- a table that has one row more has the same sums, where that is of zero
+pub opened-at : (xs ys : List (ℕ × ℕ)) (number n : ℕ) → lookup (λ k. n == k) ys ≡ cond (number == n) (Some 0) (lookup (λ k. n == k) xs) → has_row xs number ≡ false → sum_in ys n ≡ sum_in xs n
+opened-at xs ys number n e lacks = elim (test (number == n)) [
+  | inl y ↦
+      (let new : sum_in ys n ≡ 0 = ap (λ (o : Option ℕ). unwrap_or o 0) (e ∙ ap (λ (b : Bool). cond b (Some 0) (lookup (λ k. n == k) xs)) y) in
+      let none : sum_in xs number ≡ 0 = nothing (lookup (λ k. number == k) xs) lacks in
+      let old : sum_in xs number ≡ sum_in xs n = ap (sum_in xs) (same-number number n y) in
+      omega arith)
+  | inr z ↦ ap (λ (o : Option ℕ). unwrap_or o 0) (e ∙ ap (λ (b : Bool). cond b (Some 0) (lookup (λ k. n == k) xs)) z)
+]
+  where
+    nothing : (o : Option ℕ) → is_some o ≡ false → unwrap_or o 0 ≡ 0
+    nothing None f = refl
+    nothing (Some m) f = cc
+
+-- a table in which a number has a sum, and others what they had, has the rows that were there
+pub rows-kept : (xs ys : List (ℕ × ℕ)) (number sum : ℕ) → ((n : ℕ) → lookup (λ k. n == k) ys ≡ cond (number == n) (Some sum) (lookup (λ k. n == k) xs)) → KeepRows xs ys
+rows-kept xs ys number sum e n h = ap is_some (e n) ∙ by (number == n)
+  where
+    by : (b : Bool) → is_some (cond b (Some sum) (lookup (λ k. n == k) xs)) ≡ true
+    by true = refl
+    by false = h
+
+-- and the number's own
+pub row-there : (xs ys : List (ℕ × ℕ)) (number sum : ℕ) → ((n : ℕ) → lookup (λ k. n == k) ys ≡ cond (number == n) (Some sum) (lookup (λ k. n == k) xs)) → has_row ys number ≡ true
+row-there xs ys number sum e = ap is_some (e number ∙ ap (λ (b : Bool). cond b (Some sum) (lookup (λ k. number == k) xs)) (same-refl number))
 
 pub gained-at : (xs ys : List (ℕ × ℕ)) (number n gained sum : ℕ) → lookup (λ k. n == k) ys ≡ cond (number == n) (Some sum) (lookup (λ k. n == k) xs) → sum ≡ sum_in xs number + gained
     → sum_in ys n ≡ sum_in xs n + part number gained n

@@ -21,7 +21,7 @@ use Rattle.device_model.specs.declared.ears.Ear.{Ear}
 use Rattle.login_core.specs.declared.board.Reach.{Reach}
 use Rattle.login_core.specs.declared.board.seating.Seating.{Seating}
 use Rattle.login_core.specs.inner.Draft.{DraftState, Fits, IsDraft, marked_by, with_ears, with_keys, with_trail}
-use Rattle.login_laws.specs.Amounts.{Keys, Marks, Resource, amount}
+use Rattle.login_laws.specs.Amounts.{Keys, Marks}
 use Rattle.login_laws.proofs.Widens.{Widens, say-widens, set-widens, widens-refl, widens-trans}
 use Rattle.login_table.specs.Home.{home}
 use Rattle.login_core.specs.inner.Facts.{Tables, StandFor, StandsForFew, new_keys, table}

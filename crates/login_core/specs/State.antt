@@ -5,7 +5,7 @@ use Rattle.login_base.specs.declared.ids.ConnId.{ConnId}
 use Rattle.login_model.specs.Full.{connected_after, full, taken_count}
 use Rattle.login_model.specs.Legal.{answered, trail_of}
 use Rattle.login_laws.specs.Keys.{most_keys}
-use Rattle.login_laws.specs.Need.{most_marks, most_rise, need}
+use Rattle.login_laws.specs.Need.{most_marks, most_of_any, most_rise, need}
 use Rattle.login_laws.specs.Shares.{concerns, most_share_rise, share}
 use Rattle.login_model.specs.Policy.{verdict}
 use Rattle.login_model.specs.Stopping.{stopped}
@@ -62,13 +62,14 @@ NextIsWide Granted t (Connect who u) next = end_marks Granted t (Connect who u) 
 NextIsWide _ t _ next = Unit {0}
 
 -- room was made for the event's entry and marks, for one device more that is taken, and for all that connections and
--- the stop need after it: in the tables for the keys of all of it, beside them for its marks, and in the list of each
--- connection for its own end
+-- the stop need after it: in the tables for the keys of all of it, where the event is granted; beside them for the marks
+-- of any event and of the ends; in the list of the entry for the marks of this event, and in that of each connection for
+-- those of its own end
 pub record IsRoomFor (c : CoreState) (e : Event) : Type 0 where
   pub entries : connected_after c.setup (trail_of c.journal) e + 2 ≤ c.entries
-  pub far : length (trail_of c.journal) + need (trail_of c.journal) + most_marks (trail_of c.journal) + most_rise (trail_of c.journal) ≤ c.far
+  pub far : length (trail_of c.journal) + need (trail_of c.journal) + most_of_any (trail_of c.journal) + most_rise (trail_of c.journal) ≤ c.far
   pub keys : verdict c.setup (trail_of c.journal) e ≡ Granted → key_count (trail_of c.journal) + most_keys (trail_of c.journal) e ≤ c.keys
-  pub reach : length (trail_of c.journal) + most_marks (trail_of c.journal) ≤ c.reach
+  pub reach : length (trail_of c.journal) + most_marks (trail_of c.journal) e ≤ c.reach
   pub ends : (who : ConnId) → is_connected (trail_of c.journal) who ≡ true → end_marks (verdict c.setup (trail_of c.journal) e) (trail_of c.journal) e who ≤ room_of c.ends who
   pub next_end : NextIsWide (verdict c.setup (trail_of c.journal) e) (trail_of c.journal) e c.next_end
   pub rings : taken_count (trail_of c.journal) + 1 ≤ c.rings

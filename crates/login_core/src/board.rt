@@ -4,6 +4,7 @@ pub mod choosing;
 pub mod concerning;
 pub mod ends;
 pub mod facts;
+pub mod going_over;
 pub mod hearing;
 pub mod holding;
 pub mod keys;
@@ -26,6 +27,7 @@ ghost use Rattle.login_model.specs.Trail.{after, key_count, put};
 ghost use Rattle.login_model.specs.Fresh.{next_lock, next_session};
 ghost use Rattle.login_core.specs.inner.Counts.{AreCounted};
 ghost use Rattle.device_model.specs.Ears.{heard_of};
+ghost use Rattle.login_core.specs.inner.Dues.{NamesKnown};
 ghost use Rattle.login_core.specs.inner.Draft.{marked_by, reaching, tell, with_ears, with_keys, with_rings, Fits};
 ghost use Rattle.login_core.specs.inner.Ears.{AreEnough, ListenLive, settled};
 ghost use Rattle.login_core.specs.inner.Ledger.{end_room, next_room, with_trimmed};
@@ -118,8 +120,8 @@ impl Draft {
     }
 
     /// How far marks may go so that there is room for so many in all: an eighth further than is asked for, where it is
-    /// not made so far yet. What connections have, and the sums of what their ends make, are gone over when they get
-    /// room, so they get it for some entries to come.
+    /// not made so far yet. What connections have, and how many devices each session has taken, are gone over when
+    /// they get room, so they get it for some entries to come.
     fn far_for(&self, far: u32) -> u32
         requires { far + 2 < 2 ^ 31 }
         ensures far { far ≤ result }
@@ -238,8 +240,10 @@ impl Draft {
     }
 
     /// Sets a fact, unless it is so already. The fact comes twice: for the mark and for the facts.
+    /// A connection that the fact names was connected once.
     pub fn put(&mut self, key: Key, fact: Fact, copy: Fact)
         requires copy { copy ≡ fact }
+        requires known { NamesKnown fact self.old.trail }
         requires room { Fits (put key fact) self.old }
         ensures marked { self.new ≡ marked_by (put key fact) self.old }
     {

@@ -9,6 +9,7 @@ ghost use Rattle.login_laws.specs.Sound.{Awaits, IsSound};
 ghost use Rattle.login_core.specs.Ready.{AreReady};
 ghost use Rattle.login_core.specs.inner.Spares.{HaveTexts};
 ghost use Rattle.login_core.specs.inner.Draft.{marked_by, Fits};
+ghost use Rattle.login_core.specs.inner.Dues.{CallerIsKnown};
 
 use crate::board::Draft;
 use crate::room::texts::Texts;
@@ -30,6 +31,7 @@ impl Draft {
     /// What a granted event does, with what follows from it.
     fn grant(&mut self, setup: &Setup, event: &Event, texts: &mut Texts)
         requires granted { policy_verdict setup.now self.old.trail event.now ≡ Verdict.Granted }
+        requires known { CallerIsKnown event.now self.old.trail }
         requires sound { IsSound setup.now self.old.trail }
         requires awaits { Awaits (direct setup.now event.now self.old.trail) }
         requires ready { AreReady event.now texts.old }
@@ -45,6 +47,7 @@ impl Draft {
     /// What an event does with its verdict: a denied one does nothing.
     pub fn perform(&mut self, setup: &Setup, event: &Event, verdict: Verdict, texts: &mut Texts)
         requires verdict { verdict ≡ policy_verdict setup.now self.old.trail event.now }
+        requires known { CallerIsKnown event.now self.old.trail }
         requires sound { IsSound setup.now self.old.trail }
         requires awaits { verdict ≡ Verdict.Granted → Awaits (direct setup.now event.now self.old.trail) }
         requires ready { AreReady event.now texts.old }

@@ -282,7 +282,7 @@ impl Core {
         ensures same { IsSame self.old self.new }
     {
         let entries = self.entries_for(event, verdict);
-        let next = self.board.draft.counts().most_marks();
+        let next = self.board.draft.most_marks(event);
         let reach = self.reach_for();
         let keys = self.board.draft.keys_needed(event, verdict);
         self.board

@@ -1,13 +1,17 @@
 -- What is kept of what connections owe, and how a setting moves it.
-use Rattle.std.specs.Prelude.{ℕ, ◌≡◌, ◌+◌, ◌*◌, if◌then◌else◌, Option, Some, None, length}
+use Rattle.std.specs.Prelude.{ℕ, ◌≡◌, ◌+◌, ◌*◌, if◌then◌else◌, true, Option, Some, None, IfSome, length}
 use Rattle.login_base.specs.declared.ids.ConnId.{ConnId}
 use Rattle.login_base.specs.declared.ids.SessId.{SessId}
 use Rattle.login_model.specs.declared.fact.Key.{Key}
 use Rattle.login_model.specs.declared.fact.Key.TheVariants as key
 use Rattle.login_model.specs.declared.fact.Fact.{Fact}
+use Rattle.login_model.specs.declared.fact.Fact.TheVariants as fact
+use Rattle.login_model.specs.declared.fact.Owner.TheVariants as owner
+use Rattle.login_model.specs.declared.event.Event.{Event}
+use Rattle.login_model.specs.declared.event.Event.TheVariants.{Call as Calls}
 use Rattle.login_model.specs.Devices.{is_handle_fact, taken_devices}
 use Rattle.login_model.specs.Facts.{fifo_session, lock_holder}
-use Rattle.login_model.specs.Trail.{Trail, value}
+use Rattle.login_model.specs.Trail.{Trail, value, was_set}
 use Rattle.login_core.specs.declared.board.owing.Charge.{Charge}
 use Rattle.login_core.specs.declared.board.owing.Dues.{Dues}
 use Rattle.login_core.specs.declared.board.owing.Dues.TheVariants as dues
@@ -15,22 +19,77 @@ use Rattle.login_core.specs.declared.board.owing.Owing.{Owing}
 use Rattle.login_core.specs.declared.board.owing.Touched.{Touched}
 use Rattle.login_core.specs.declared.board.owing.Touched.TheVariants as touched
 use Rattle.login_core.specs.inner.Owing.{charge, due_at, of_some, other_than, owed}
-use Rattle.login_core.specs.inner.Sums.{part, sum_in}
+use Rattle.login_core.specs.inner.Sums.{has_row, part, sum_in}
 
 -- it has how many devices each session has taken
 abbrev pub AreTaken : Owing → Trail → Type 0
 AreTaken owing t = (s : SessId) → sum_in owing.taken.items s.0 ≡ length (taken_devices t s)
 
--- it has what the marks leave
+-- ---- which connections have a row
+
+-- the connection that a fact says has something: as a session's controller, a fifo's owner or a lock's holder
+abbrev pub named_in : Fact → Option ConnId
+named_in (fact.Controller c) = Some c
+named_in (fact.Owned (owner.Fifo c s)) = Some c
+named_in (fact.Lock l) = Some l.holder
+named_in _ = None
+
+-- a connection was connected once: there is a setting of its key
+abbrev pub WasConnected : Trail → ConnId → Type 0
+WasConnected t c = was_set t (key.Conn c) ≡ true
+
+-- the connection that a fact names so was connected once
+abbrev pub NamesKnown : Fact → Trail → Type 0
+NamesKnown x t = IfSome (named_in x) (WasConnected t)
+
+-- and so of each fact
+abbrev pub AllNamesKnown : Trail → Type 0
+AllNamesKnown t = (k : Key) → NamesKnown (value t k) t
+
+-- whoever calls was connected once
+abbrev pub CallerIsKnown : Event → Trail → Type 0
+CallerIsKnown (Calls q) t = WasConnected t q.who
+CallerIsKnown _ t = Unit {0}
+
+-- a connection has a row
+abbrev pub HasRow : Owing → ConnId → Type 0
+HasRow owing c = has_row owing.marks.items c.0 ≡ true
+
+-- each that was connected has one
+abbrev pub HaveRows : Owing → Trail → Type 0
+HaveRows owing t = (c : ConnId) → WasConnected t c → HasRow owing c
+
+-- the connection whose key this is
+abbrev pub connection_in : Key → Option ConnId
+connection_in (key.Conn c) = Some c
+connection_in _ = None
+
+-- how many rows a connection adds that comes, if one does
+abbrev pub new_rows : Owing → Option ConnId → ℕ
+new_rows owing None = 0
+new_rows owing (Some c) = if has_row owing.marks.items c.0 then 0 else 1
+
+-- it has what the marks leave; each connection that a fact names was connected once, and each that was has a row
 pub record AreOwed (owing : Owing) (t : Trail) : Type 0 where
   pub marks : (c : ConnId) → sum_in owing.marks.items c.0 ≡ owed t c
   pub taken : AreTaken owing t
+  pub known : AllNamesKnown t
+  pub rows : HaveRows owing t
 
 -- ---- what is due
 
 -- what a charge is for a connection
 abbrev pub charge_at : Charge → ConnId → ℕ
 charge_at x c = due_at x.controller (1 + 2 * x.taken) c + due_at x.keeper (4 + 2 * x.taken) c
+
+-- something is so of each connection that a charge is for
+abbrev pub EachCharged : (ConnId → Type 0) → Charge → Type 0
+EachCharged P x = IfSome x.controller P × IfSome x.keeper P
+
+-- and of each that some dues are for
+abbrev pub EachDue : (ConnId → Type 0) → Dues → Type 0
+EachDue P (dues.Sessions x y) = EachCharged P x × EachCharged P y
+EachDue P (dues.Lock holder) = IfSome holder P
 
 -- what some dues are for a connection
 abbrev pub dues_at : Dues → ConnId → ℕ

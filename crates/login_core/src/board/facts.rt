@@ -15,6 +15,7 @@ ghost use Rattle.login_model.specs.declared.answer.Input.{Input as AnyInput};
 ghost use Rattle.login_core.specs.inner.Ears.{AreEnough, ListenOn, settled};
 ghost use Rattle.login_core.specs.inner.Rings.{ring_count};
 ghost use Rattle.login_table.specs.Home.{home};
+ghost use Rattle.login_core.specs.inner.Dues.{NamesKnown};
 ghost use Rattle.login_core.specs.inner.Facts.{StandFor, StandsForFew, TablesStand, new_keys, table};
 ghost use Rattle.login_core.specs.inner.Owing.{owed};
 ghost use Rattle.login_core.specs.inner.Sums.{sum_in};
@@ -22,7 +23,7 @@ ghost use Rattle.login_core.specs.inner.Holding.{AreSuch};
 
 use crate::board::hearing::settle;
 use crate::board::holding::{Holding, Holdings, holding_in};
-use crate::board::owing::{Dues, Owing, Touched, taker_in};
+use crate::board::owing::{Dues, Owing, Touched, connection_in, taker_in};
 use crate::board::with_more;
 use crate::room::counts::Counts;
 use controller::Controller;
@@ -64,12 +65,13 @@ pub struct Facts {
     owing: Owing,
     /// How many more settings can be put in beside the tables.
     spare: usize,
-    /// How many more keys can be set that were not set before: tables have rows for them.
+    /// How many more keys can be set that were not set before: tables have rows for them, and so have the sums of what
+    /// connections' ends make.
     fresh: usize,
 }
 
 impl Model for Facts {
-    ghost use Rattle.std.specs.Prelude.{◌≤◌, ◌*◌};
+    ghost use Rattle.std.specs.Prelude.{◌≤◌};
     ghost use Rattle.login_core.specs.inner.Facts.{Tables};
 
     ghost Value = { Tables };
@@ -95,7 +97,7 @@ impl Model for Facts {
       fresh = f.fresh;
     } };
 
-    ghost invariant = { λ f. (f.fresh ≤ f.users.spare) × (f.fresh ≤ f.sessions.spare) × (f.fresh ≤ f.seats.spare) × (f.fresh ≤ f.devices.spare) × (f.fresh ≤ f.controls.spare) × (f.fresh ≤ f.takes.spare) × (f.fresh ≤ f.locks.spare) × (f.fresh ≤ f.power.spare) × (f.spare ≤ f.holdings.spare) × (4 * f.spare ≤ f.owing.marks.spare) × (f.spare ≤ f.owing.taken.spare) };
+    ghost invariant = { λ f. (f.fresh ≤ f.users.spare) × (f.fresh ≤ f.sessions.spare) × (f.fresh ≤ f.seats.spare) × (f.fresh ≤ f.devices.spare) × (f.fresh ≤ f.controls.spare) × (f.fresh ≤ f.takes.spare) × (f.fresh ≤ f.locks.spare) × (f.fresh ≤ f.power.spare) × (f.fresh ≤ f.owing.marks.spare) × (f.spare ≤ f.holdings.spare) × (f.spare ≤ f.owing.taken.spare) };
 }
 
 #[tactic(auto, unfolding(crate::specs::inner::Facts::StandFor))]
@@ -127,7 +129,6 @@ impl Facts {
 
     /// Makes room for so many more settings, beside the tables.
     pub fn reserve(&mut self, more: usize) -> Result<(), NoMemory>
-        requires { more < 2 ^ 32 }
         ensures ok { OnOk result (more ≤ self.new.spare) }
         ensures stands { (t : Trail) → StandFor self.old t → StandFor self.new t }
         ensures spare { self.old.spare ≤ self.new.spare }
@@ -144,7 +145,8 @@ impl Facts {
         Ok(())
     }
 
-    /// Makes room in the tables for so many more keys that were not set before.
+    /// Makes room in the tables for so many more keys that were not set before, each of which may be of a connection
+    /// that comes.
     pub fn reserve_keys(&mut self, keys: usize) -> Result<(), NoMemory>
         ensures ok { OnOk result (keys ≤ self.new.fresh) }
         ensures refused { OnErr result (self.new.fresh ≡ self.old.fresh) }
@@ -166,6 +168,7 @@ impl Facts {
         self.takes.room(keys)?;
         self.locks.room(keys)?;
         self.power.room(keys)?;
+        self.owing.reserve_rows(keys)?;
         self.fresh = keys;
         Ok(())
     }
@@ -249,6 +252,7 @@ impl Facts {
 
     /// Puts a setting in. It takes no memory. A key that was set before takes no room in its table.
     pub fn set(&mut self, key: Key, fact: Fact)
+        requires known { NamesKnown fact self.old.controls }
         requires spare { 0 < self.old.spare }
         requires fresh { was_set (table self.old (home key)) key ≡ false → 0 < self.old.fresh }
         requires few { StandsForFew StandFor self.old }
@@ -262,9 +266,11 @@ impl Facts {
         let touched = Touched::by(&key, before, &fact);
         let lost_taker = taker_in(&key, before);
         let taker = taker_in(&key, &fact);
+        let comer = connection_in(&key);
         let lost = Dues::of(self, touched);
         self.owing.lose(lost);
         self.put_in(key, fact);
+        self.owing.welcome(comer);
         self.owing.shift(lost_taker, taker);
         let gained = Dues::of(self, touched);
         self.owing.gain(gained);

@@ -1,22 +1,19 @@
 // What connections owe: the marks that the end of each makes for its sessions and its locks.
 
-ghost use Rattle.std.specs.Prelude.{◌≡◌, ◌+◌, ◌*◌, ◌<◌, ◌≤◌, ◌^◌, [], OnOk};
+ghost use Rattle.std.specs.Prelude.{ℕ, ◌≡◌, ◌+◌, ◌<◌, ◌≤◌, ◌^◌, [], IfSome, OnOk, false};
 ghost use Rattle.login_base.specs.declared.ids.ConnId.{ConnId as AnyConnection};
 ghost use Rattle.login_base.specs.declared.ids.SessId.{SessId as AnySession};
 ghost use Rattle.login_model.specs.Trail.{Trail, value};
-ghost use Rattle.login_core.specs.inner.Dues.{AreOwed, AreTaken, charge_at, dues_at, taker_at, taker_in, touched_at, touched_by};
+ghost use Rattle.login_core.specs.inner.Dues.{AreOwed, AreTaken, EachCharged, EachDue, HasRow, AllNamesKnown, WasConnected, charge_at, connection_in, dues_at, new_rows, taker_at, taker_in, touched_at, touched_by};
 ghost use Rattle.login_core.specs.inner.Facts.{TablesStand};
 ghost use Rattle.login_core.specs.inner.Owing.{charge, due_at, keeper, keeper_in, of_some, other_than};
-ghost use Rattle.login_core.specs.inner.Sums.{sum_in};
+ghost use Rattle.login_core.specs.inner.Sums.{KeepRows, has_row, sum_in};
 
 use crate::board::facts::Facts;
 use crate::board::sums::Sums;
 use login_base::{ConnId, LockNo, NoMemory, SessId};
 use login_model::{Fact, Key};
 use std::alloc::Global;
-
-/// How many rows of connections a setting may make: of the controllers and of the keepers of two sessions.
-const ROWS: usize = 4;
 
 /// What a setting tells of: sessions, of which a handle may go from one to another, or a lock.
 #[derive(Clone, Copy)]
@@ -54,6 +51,16 @@ impl Touched {
             Key::Lock(lock) => Touched::Lock(*lock),
             _ => Touched::Sessions(None, None),
         }
+    }
+}
+
+/// The connection whose key this is.
+pub fn connection_in(key: &Key) -> Option<ConnId>
+    ensures { result ≡ connection_in key.now }
+{
+    match key {
+        Key::Conn(who) => Some(*who),
+        _ => None,
     }
 }
 
@@ -117,7 +124,8 @@ impl Charge {
     /// What a session makes.
     fn of(facts: &Facts, session: SessId) -> Charge
         requires few { sum_in facts.now.owing.taken.items session.0 < 2 ^ 32 }
-        ensures { (t : Trail) → TablesStand facts.now t → AreTaken facts.now.owing t → (c : AnyConnection) → charge_at result c ≡ charge t c session }
+        ensures charge { (t : Trail) → TablesStand facts.now t → AreTaken facts.now.owing t → (c : AnyConnection) → charge_at result c ≡ charge t c session }
+        ensures known { (t : Trail) → TablesStand facts.now t → AllNamesKnown t → EachCharged (WasConnected t) result }
     {
         let fact = facts.read(&Key::Sess(session));
         if !fact.is_session() {
@@ -133,7 +141,8 @@ impl Charge {
     /// What a session makes that there may be.
     fn of_some(facts: &Facts, session: Option<SessId>) -> Charge
         requires few { (s : AnySession) → sum_in facts.now.owing.taken.items s.0 < 2 ^ 32 }
-        ensures { (t : Trail) → TablesStand facts.now t → AreTaken facts.now.owing t → (c : AnyConnection) → charge_at result c ≡ of_some (charge t c) session }
+        ensures charge { (t : Trail) → TablesStand facts.now t → AreTaken facts.now.owing t → (c : AnyConnection) → charge_at result c ≡ of_some (charge t c) session }
+        ensures known { (t : Trail) → TablesStand facts.now t → AllNamesKnown t → EachCharged (WasConnected t) result }
     {
         match session {
             Some(session) => Charge::of(facts, session),
@@ -155,7 +164,8 @@ impl Dues {
     /// What is due of what a setting touches.
     pub fn of(facts: &Facts, touched: Touched) -> Dues
         requires few { (s : AnySession) → sum_in facts.now.owing.taken.items s.0 < 2 ^ 32 }
-        ensures { (t : Trail) → TablesStand facts.now t → AreTaken facts.now.owing t → (c : AnyConnection) → dues_at result c ≡ touched_at t c touched }
+        ensures dues { (t : Trail) → TablesStand facts.now t → AreTaken facts.now.owing t → (c : AnyConnection) → dues_at result c ≡ touched_at t c touched }
+        ensures known { (t : Trail) → TablesStand facts.now t → AllNamesKnown t → EachDue (WasConnected t) result }
     {
         match touched {
             Touched::Sessions(one, other) => {
@@ -169,7 +179,7 @@ impl Dues {
 /// What connections owe, and how many devices sessions have taken.
 #[derive(Drop)]
 pub struct Owing {
-    /// The marks of each connection's end.
+    /// The marks of each connection's end. Each that was connected has a row.
     pub marks: Sums,
     /// How many devices each session has taken.
     pub taken: Sums,
@@ -186,23 +196,46 @@ impl Owing {
         }
     }
 
-    /// Makes room for so many more settings.
+    /// Makes room for so many more settings, each of which may be of a session that had taken nothing.
     pub fn reserve(&mut self, settings: usize) -> Result<(), NoMemory>
-        requires { settings < 2 ^ 32 }
-        ensures marks { OnOk result (4 * settings ≤ self.new.marks.spare) }
         ensures taken { OnOk result (settings ≤ self.new.taken.spare) }
-        ensures owed { (t : Trail) → AreOwed self.old t → AreOwed self.new t }
-        ensures keeps_marks { self.old.marks.spare ≤ self.new.marks.spare }
         ensures keeps_taken { self.old.taken.spare ≤ self.new.taken.spare }
+        ensures owed { (t : Trail) → AreOwed self.old t → AreOwed self.new t }
+        ensures marks { self.new.marks ≡ self.old.marks }
     {
-        self.marks.reserve(ROWS * settings)?;
         self.taken.reserve(settings)
     }
 
-    /// A connection that there may be owes so much less.
+    /// Makes room for so many more connections.
+    pub fn reserve_rows(&mut self, connections: usize) -> Result<(), NoMemory>
+        ensures marks { OnOk result (connections ≤ self.new.marks.spare) }
+        ensures keeps_marks { self.old.marks.spare ≤ self.new.marks.spare }
+        ensures owed { (t : Trail) → AreOwed self.old t → AreOwed self.new t }
+        ensures taken { self.new.taken ≡ self.old.taken }
+    {
+        self.marks.reserve(connections)
+    }
+
+    /// A connection that comes has a row from then on. It takes no memory.
+    pub fn welcome(&mut self, comer: Option<ConnId>)
+        requires room { IfSome comer (λ c. has_row self.old.marks.items c.0 ≡ false → 0 < self.old.marks.spare) }
+        ensures marks { (n : ℕ) → sum_in self.new.marks.items n ≡ sum_in self.old.marks.items n }
+        ensures row { IfSome comer (HasRow self.new) }
+        ensures rows { KeepRows self.old.marks.items self.new.marks.items }
+        ensures spare { self.old.marks.spare ≤ self.new.marks.spare + new_rows self.old comer }
+        ensures taken { self.new.taken ≡ self.old.taken }
+    {
+        if let Some(who) = comer {
+            self.marks.open(who.0);
+        }
+    }
+
+    /// A connection that there may be owes so much less, and not nothing.
     fn lose_at(&mut self, who: Option<ConnId>, lost: u64)
-        requires { (c : AnyConnection) → due_at who lost c ≤ sum_in self.old.marks.items c.0 }
+        requires some { 0 < lost }
+        requires within { (c : AnyConnection) → due_at who lost c ≤ sum_in self.old.marks.items c.0 }
         ensures marks { (c : AnyConnection) → sum_in self.new.marks.items c.0 + due_at who lost c ≡ sum_in self.old.marks.items c.0 }
+        ensures rows { KeepRows self.old.marks.items self.new.marks.items }
         ensures spare { self.old.marks.spare ≤ self.new.marks.spare }
         ensures taken { self.new.taken ≡ self.old.taken }
     {
@@ -213,10 +246,11 @@ impl Owing {
 
     /// A connection that there may be owes so much more.
     fn gain_at(&mut self, who: Option<ConnId>, gained: u64)
-        requires room { 0 < self.old.marks.spare }
+        requires row { IfSome who (HasRow self.old) }
         requires bound { (c : AnyConnection) → sum_in self.old.marks.items c.0 + due_at who gained c < 2 ^ 64 }
         ensures marks { (c : AnyConnection) → sum_in self.new.marks.items c.0 ≡ sum_in self.old.marks.items c.0 + due_at who gained c }
-        ensures spare { self.old.marks.spare ≤ self.new.marks.spare + 1 }
+        ensures rows { KeepRows self.old.marks.items self.new.marks.items }
+        ensures spare { self.old.marks.spare ≤ self.new.marks.spare }
         ensures taken { self.new.taken ≡ self.old.taken }
     {
         if let Some(who) = who {
@@ -228,6 +262,7 @@ impl Owing {
     fn lose_charge(&mut self, lost: Charge)
         requires { (c : AnyConnection) → charge_at lost c ≤ sum_in self.old.marks.items c.0 }
         ensures marks { (c : AnyConnection) → sum_in self.new.marks.items c.0 + charge_at lost c ≡ sum_in self.old.marks.items c.0 }
+        ensures rows { KeepRows self.old.marks.items self.new.marks.items }
         ensures spare { self.old.marks.spare ≤ self.new.marks.spare }
         ensures taken { self.new.taken ≡ self.old.taken }
     {
@@ -238,10 +273,11 @@ impl Owing {
 
     /// What a session makes is owed as well.
     fn gain_charge(&mut self, gained: Charge)
-        requires room { 1 < self.old.marks.spare }
+        requires rows { EachCharged (HasRow self.old) gained }
         requires bound { (c : AnyConnection) → sum_in self.old.marks.items c.0 + charge_at gained c < 2 ^ 64 }
         ensures marks { (c : AnyConnection) → sum_in self.new.marks.items c.0 ≡ sum_in self.old.marks.items c.0 + charge_at gained c }
-        ensures spare { self.old.marks.spare ≤ self.new.marks.spare + 2 }
+        ensures rows { KeepRows self.old.marks.items self.new.marks.items }
+        ensures spare { self.old.marks.spare ≤ self.new.marks.spare }
         ensures taken { self.new.taken ≡ self.old.taken }
     {
         let devices = 2 * u64::from(gained.taken);
@@ -253,6 +289,7 @@ impl Owing {
     pub fn lose(&mut self, lost: Dues)
         requires { (c : AnyConnection) → dues_at lost c ≤ sum_in self.old.marks.items c.0 }
         ensures marks { (c : AnyConnection) → sum_in self.new.marks.items c.0 + dues_at lost c ≡ sum_in self.old.marks.items c.0 }
+        ensures rows { KeepRows self.old.marks.items self.new.marks.items }
         ensures spare { self.old.marks.spare ≤ self.new.marks.spare }
         ensures taken { self.new.taken ≡ self.old.taken }
     {
@@ -265,12 +302,13 @@ impl Owing {
         }
     }
 
-    /// What is due is owed as well. It takes no memory.
+    /// What is due is owed as well.
     pub fn gain(&mut self, gained: Dues)
-        requires room { 4 ≤ self.old.marks.spare }
+        requires rows { EachDue (HasRow self.old) gained }
         requires bound { (c : AnyConnection) → sum_in self.old.marks.items c.0 + dues_at gained c < 2 ^ 64 }
         ensures marks { (c : AnyConnection) → sum_in self.new.marks.items c.0 ≡ sum_in self.old.marks.items c.0 + dues_at gained c }
-        ensures spare { self.old.marks.spare ≤ self.new.marks.spare + 4 }
+        ensures rows { KeepRows self.old.marks.items self.new.marks.items }
+        ensures spare { self.old.marks.spare ≤ self.new.marks.spare }
         ensures taken { self.new.taken ≡ self.old.taken }
     {
         match gained {
@@ -303,6 +341,7 @@ impl Owing {
         ensures marks { self.new.marks ≡ self.old.marks }
     {
         if let Some(session) = gained {
+            self.taken.open(session.0);
             self.taken.gain(session.0, 1);
         }
     }

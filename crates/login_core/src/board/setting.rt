@@ -6,6 +6,7 @@ ghost use Rattle.login_model.specs.Procedure.{tell_controller};
 ghost use Rattle.login_core.specs.inner.HandedOn.{controller_fact};
 ghost use Rattle.login_model.specs.Facts.{controller_in};
 ghost use Rattle.login_core.specs.inner.Draft.{marked_by, Fits};
+ghost use Rattle.login_core.specs.inner.Dues.{NamesKnown, WasConnected};
 
 use crate::board::Draft;
 use crate::room::slots::SeatSlots;
@@ -45,8 +46,9 @@ impl Draft {
         self.put(key, Fact::Number(number), Fact::Number(number));
     }
 
-    /// A handle has an owner.
+    /// A handle has an owner. A connection that owns it as a fifo was connected once.
     pub fn put_owner(&mut self, handle: HandleNo, owner: Owner)
+        requires known { NamesKnown (Fact.Owned owner) self.old.trail }
         requires room { Fits (put (Key.Owner handle) (Fact.Owned owner)) self.old }
         ensures marked { self.new ≡ marked_by (put (Key.Owner handle) (Fact.Owned owner)) self.old }
     {
@@ -65,8 +67,9 @@ impl Draft {
         );
     }
 
-    /// A connection controls a session.
+    /// A connection, which was connected once, controls a session.
     pub fn put_controller(&mut self, session: SessId, who: ConnId)
+        requires known { WasConnected self.old.trail who }
         requires room { Fits (put (Key.Ctl session) (Fact.Controller who)) self.old }
         ensures marked { self.new ≡ marked_by (put (Key.Ctl session) (Fact.Controller who)) self.old }
     {

@@ -1,14 +1,14 @@
 // Sums by number.
 
-ghost use Rattle.std.specs.Prelude.{ℕ, ◌≡◌, ◌+◌, ◌<◌, ◌≤◌, ◌^◌, [], OnOk};
-ghost use Rattle.login_core.specs.inner.Sums.{part, sum_in};
+ghost use Rattle.std.specs.Prelude.{ℕ, ◌≡◌, ◌+◌, ◌<◌, ◌≤◌, ◌^◌, [], OnOk, false, if◌then◌else◌, true};
+ghost use Rattle.login_core.specs.inner.Sums.{KeepRows, has_row, part, sum_in};
 
 use indexmap::IndexMap;
 use login_base::NoMemory;
 use std::alloc::Global;
 use std::marker::Model;
 
-/// A sum for each number. A number that has none has zero.
+/// A sum for each number. A number that has no row has zero.
 #[derive(Drop)]
 pub struct Sums {
     /// In a hash table, so that a number costs the same however many there are.
@@ -55,31 +55,50 @@ impl Sums {
         }
     }
 
-    /// Takes so much off the sum of a number. One that comes to zero leaves room for another.
-    pub fn lose(&mut self, number: u32, lost: u64)
-        requires { lost ≤ sum_in self.old.items number }
-        ensures sums { (n : ℕ) → sum_in self.new.items n + part number lost n ≡ sum_in self.old.items n }
-        ensures spare { self.old.spare ≤ self.new.spare }
+    /// Makes a row for a number, where it has none. It takes no memory.
+    pub fn open(&mut self, number: u32)
+        requires room { has_row self.old.items number ≡ false → 0 < self.old.spare }
+        ensures sums { (n : ℕ) → sum_in self.new.items n ≡ sum_in self.old.items n }
+        ensures row { has_row self.new.items number ≡ true }
+        ensures rows { KeepRows self.old.items self.new.items }
+        ensures spare { self.old.spare ≤ self.new.spare + (if has_row self.old.items number then 0 else 1) }
     {
-        let left = self.of(number) - lost;
-        if left == 0 {
-            self.rows.swap_remove(&number);
-        } else if let Some(sum) = self.rows.get_mut(&number) {
-            *sum = left;
+        if self.rows.contains_key(&number) {
+            return;
+        }
+        match self.rows.insert(number, 0) {
+            Ok(_) => {}
+            Err(_) => unreachable!(),
         }
     }
 
-    /// Adds so much to the sum of a number. It takes no memory.
+    /// Takes so much, and not nothing, off the sum of a number. Its row stays, also where it comes to zero.
+    pub fn lose(&mut self, number: u32, lost: u64)
+        requires some { 0 < lost }
+        requires within { lost ≤ sum_in self.old.items number }
+        ensures sums { (n : ℕ) → sum_in self.new.items n + part number lost n ≡ sum_in self.old.items n }
+        ensures rows { KeepRows self.old.items self.new.items }
+        ensures spare { self.old.spare ≤ self.new.spare }
+    {
+        let left = self.of(number) - lost;
+        match self.rows.get_mut(&number) {
+            Some(sum) => *sum = left,
+            None => unreachable!(),
+        }
+    }
+
+    /// Adds so much to the sum of a number that has a row.
     pub fn gain(&mut self, number: u32, gained: u64)
-        requires room { 0 < self.old.spare }
+        requires row { has_row self.old.items number ≡ true }
         requires bound { sum_in self.old.items number + gained < 2 ^ 64 }
         ensures sums { (n : ℕ) → sum_in self.new.items n ≡ sum_in self.old.items n + part number gained n }
-        ensures spare { self.old.spare ≤ self.new.spare + 1 }
+        ensures rows { KeepRows self.old.items self.new.items }
+        ensures spare { self.old.spare ≤ self.new.spare }
     {
         let sum = self.of(number) + gained;
-        match self.rows.insert(number, sum) {
-            Ok(_) => {}
-            Err(_) => unreachable!(),
+        match self.rows.get_mut(&number) {
+            Some(kept) => *kept = sum,
+            None => unreachable!(),
         }
     }
 }

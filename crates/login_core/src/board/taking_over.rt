@@ -16,7 +16,7 @@ use crate::board::facts::Facts;
 use crate::board::seating::Seating;
 use crate::board::so_far::SoFar;
 use login_base::{DevNo, Reserved, SessId};
-use login_model::{Conf, Fact, Mark, OpKind};
+use login_model::{Conf, Fact, Mark, OpKind, Owner};
 
 /// A second one of a plain fact.
 fn copy_of(fact: &Fact) -> Fact
@@ -28,7 +28,9 @@ fn copy_of(fact: &Fact) -> Fact
         Fact::Flag(is_so) => Fact::Flag(*is_so),
         Fact::Number(number) => Fact::Number(*number),
         Fact::Handle(handle) => Fact::Handle(*handle),
-        Fact::Owned(owner) => Fact::Owned(*owner),
+        Fact::Owned(Owner::Device(who, session, device)) => {
+            Fact::Owned(Owner::Device(*who, *session, *device))
+        }
         Fact::Operation(operation) => Fact::Operation(*operation),
         _ => unreachable!(),
     }

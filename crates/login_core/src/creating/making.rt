@@ -8,6 +8,7 @@ ghost use Rattle.login_model.specs.Where.{active_on};
 ghost use Rattle.login_model.specs.Procedure.{take_seat};
 ghost use Rattle.login_model.specs.Creating.{appear_on, create, created_session, session_texts};
 ghost use Rattle.login_core.specs.inner.Draft.{marked_by, Fits};
+ghost use Rattle.login_core.specs.inner.Dues.{WasConnected};
 
 use crate::board::Draft;
 use crate::creating::created::{created_session, seat_of};
@@ -97,6 +98,7 @@ impl Draft {
         fifo: HandleNo,
         copies: Copies,
     )
+        requires known { WasConnected self.old.trail who }
         requires mark { copies.mark ≡ session_texts creation.now }
         requires fact { copies.fact ≡ session_texts creation.now }
         requires room { Fits (create who creation.now session fifo) self.old }
@@ -113,6 +115,7 @@ impl Draft {
 
     /// A session is created, with the next number and the next handle. Its texts come as two copies.
     pub fn create(&mut self, who: ConnId, creation: &Creation, copies: Copies)
+        requires known { WasConnected self.old.trail who }
         requires mark { copies.mark ≡ session_texts creation.now }
         requires fact { copies.fact ≡ session_texts creation.now }
         requires room { Fits (λ t. create who creation.now (next_session t) (next_handle t) t) self.old }

@@ -14,6 +14,7 @@ ghost use Rattle.login_core.specs.Ready.{AreReadyToCall};
 ghost use Rattle.login_core.specs.inner.Spares.{AreClosing, HaveTexts};
 ghost use Rattle.login_core.specs.inner.Calls.{IsPlain, NamesRightly, call_on};
 ghost use Rattle.login_core.specs.inner.Draft.{marked_by, Fits};
+ghost use Rattle.login_core.specs.inner.Dues.{WasConnected};
 
 use crate::board::Draft;
 use crate::room::spares::Spares;
@@ -33,6 +34,7 @@ fn whom_of(text: &[u8]) -> KillWhom
 impl Draft {
     /// What a call does to the session that it names.
     fn call_on(&mut self, who: ConnId, session: SessId, call: &Call)
+        requires known { WasConnected self.old.trail who }
         requires room { Fits (call_on who call.now session) self.old }
         ensures marked { self.new ≡ marked_by (call_on who call.now session) self.old }
     {
@@ -56,6 +58,7 @@ impl Draft {
 
     /// What a call does to the session that it names, if it names one.
     fn call_session(&mut self, who: ConnId, session: Option<SessId>, call: &Call)
+        requires known { WasConnected self.old.trail who }
         requires room { Fits (if_some (call_on who call.now) session) self.old }
         ensures marked { self.new ≡ marked_by (if_some (call_on who call.now) session) self.old }
     {
@@ -138,6 +141,7 @@ impl Draft {
 
     /// A call that needs no texts.
     fn call_plain(&mut self, setup: &Setup, who: ConnId, call: &Call)
+        requires known { WasConnected self.old.trail who }
         requires plain { IsPlain call.now }
         requires named { NamesRightly call.now }
         requires room { Fits (direct_call setup.now who call.now) self.old }
@@ -171,6 +175,7 @@ impl Draft {
 
     /// What a granted call does by itself.
     pub fn direct_call(&mut self, setup: &Setup, who: ConnId, call: &Call, texts: &mut Texts)
+        requires known { WasConnected self.old.trail who }
         requires named { NamesRightly call.now }
         requires ready { AreReadyToCall call.now texts.old }
         requires texts { HaveTexts texts.old self.old.trail }

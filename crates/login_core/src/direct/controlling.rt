@@ -6,6 +6,7 @@ ghost use Rattle.login_model.specs.Devices.{taken_devices};
 ghost use Rattle.login_model.specs.Direct.{control_from, control, lock_session, unlock_session};
 ghost use Rattle.login_core.specs.inner.HandedOn.{controller_fact};
 ghost use Rattle.login_core.specs.inner.Draft.{marked_by, Fits};
+ghost use Rattle.login_core.specs.inner.Dues.{WasConnected};
 
 use crate::board::Draft;
 use login_base::{ConnId, SessId};
@@ -15,6 +16,7 @@ use login_model::Notice;
 impl Draft {
     /// A connection takes control of a session: from another one, if there is one.
     fn control_from(&mut self, controller: Option<ConnId>, who: ConnId, session: SessId)
+        requires known { WasConnected self.old.trail who }
         requires room { Fits (control_from (controller_fact controller) who session) self.old }
         ensures marked { self.new ≡ marked_by (control_from (controller_fact controller) who session) self.old }
     {
@@ -30,6 +32,7 @@ impl Draft {
 
     /// A connection takes control of a session, unless it has it.
     pub fn control(&mut self, who: ConnId, session: SessId)
+        requires known { WasConnected self.old.trail who }
         requires room { Fits (control who session) self.old }
         ensures marked { self.new ≡ marked_by (control who session) self.old }
     {

@@ -10,6 +10,7 @@ ghost use Rattle.login_core.specs.Ready.{AreOfLock, HasLock};
 ghost use Rattle.login_core.specs.inner.Spares.{HaveTexts};
 ghost use Rattle.login_core.specs.Texts.{lock_texts};
 ghost use Rattle.login_core.specs.inner.Draft.{marked_by, Fits};
+ghost use Rattle.login_core.specs.inner.Dues.{WasConnected};
 
 use crate::board::Draft;
 use crate::room::locks::{LockCopies, LockTexts};
@@ -88,6 +89,7 @@ impl Draft {
     /// A lock stands. It comes twice: for the mark and for the facts.
     fn put_lock(&mut self, number: LockNo, lock: Boxed<Lock>, copy: Boxed<Lock>)
         requires copy { copy ≡ lock }
+        requires known { WasConnected self.old.trail lock.holder }
         requires room { Fits (put (Key.Lock number) (Fact.Lock lock)) self.old }
         ensures marked { self.new ≡ marked_by (put (Key.Lock number) (Fact.Lock lock)) self.old }
     {
@@ -103,6 +105,7 @@ impl Draft {
         copy: Boxed<Lock>,
     )
         requires copy { copy ≡ lock }
+        requires known { WasConnected self.old.trail lock.holder }
         requires room { Fits (inhibit lock number handle) self.old }
         ensures marked { self.new ≡ marked_by (inhibit lock number handle) self.old }
     {
@@ -113,6 +116,7 @@ impl Draft {
 
     /// The lock that a call asks for stands, with the next number and the next handle. Its texts come as two copies.
     pub fn inhibit(&mut self, who: ConnId, inhibition: &Inhibition, copies: LockCopies)
+        requires known { WasConnected self.old.trail who }
         requires named { is_what inhibition.now.what ≡ true }
         requires copies { AreOfLock inhibition.now copies }
         requires room { Fits (λ t. inhibit (asked_lock who (record { 0 = uid_of t who }) inhibition.now) (next_lock t) (next_handle t) t) self.old }
@@ -127,6 +131,7 @@ impl Draft {
 
     /// The lock that a call asks for stands, by the copies that are kept of its texts.
     pub fn inhibit_kept(&mut self, who: ConnId, inhibition: &Inhibition, texts: &mut Texts)
+        requires known { WasConnected self.old.trail who }
         requires named { is_what inhibition.now.what ≡ true }
         requires ready { HasLock inhibition.now texts.old.lock }
         requires texts { HaveTexts texts.old self.old.trail }

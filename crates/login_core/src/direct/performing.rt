@@ -15,6 +15,7 @@ ghost use Rattle.login_core.specs.inner.Calls.{ExitsHere, HappensPlain};
 ghost use Rattle.login_core.specs.Ready.{AreReady, AreReadyFor, AreReadyToHappen, HasSlots};
 ghost use Rattle.login_core.specs.inner.Spares.{HaveTexts};
 ghost use Rattle.login_core.specs.inner.Draft.{marked_by, Fits};
+ghost use Rattle.login_core.specs.inner.Dues.{CallerIsKnown, WasConnected};
 
 use crate::board::Draft;
 use crate::room::texts::{FreshTexts, Texts};
@@ -25,6 +26,7 @@ use login_model::{Creation, DevKind, Event, Fact, Hardware, Key, Setup};
 impl Draft {
     /// A session is created, and the copies for its end are kept.
     pub fn create_session(&mut self, who: ConnId, creation: &Creation, texts: &mut Texts)
+        requires known { WasConnected self.old.trail who }
         requires ready { AreReadyFor creation.now texts.old }
         requires texts { HaveTexts texts.old self.old.trail }
         requires room { Fits (λ t. create who creation.now (next_session t) (next_handle t) t) self.old }
@@ -132,6 +134,7 @@ impl Draft {
     #[tactic(auto, unfolding(login_model::specs::Direct::direct))]
     pub fn direct(&mut self, setup: &Setup, event: &Event, texts: &mut Texts)
         requires granted { policy_verdict setup.now self.old.trail event.now ≡ Granted }
+        requires known { CallerIsKnown event.now self.old.trail }
         requires sound { IsSound setup.now self.old.trail }
         requires ready { AreReady event.now texts.old }
         requires texts { HaveTexts texts.old self.old.trail }

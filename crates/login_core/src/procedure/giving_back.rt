@@ -5,6 +5,7 @@ ghost use Rattle.login_model.specs.Devices.{taken_devices};
 ghost use Rattle.login_model.specs.Procedure.{untake, release, revoke, oust};
 ghost use Rattle.login_laws.proofs.Widens.{untake-widens, revoke-widens};
 ghost use Rattle.login_core.specs.inner.Draft.{marked_by, Fits};
+ghost use Rattle.login_core.specs.inner.Dues.{WasConnected};
 
 use crate::board::Draft;
 use crate::board::rounds::{TakenBy, Task};
@@ -64,6 +65,7 @@ impl Draft {
     /// Another connection takes control of a session by force.
     #[tactic(auto, using(crate::proofs::Growing::growing), unfolding(login_model::specs::Procedure::oust, login_model::specs::Devices::taken_devices))]
     pub fn oust(&mut self, session: SessId, who: ConnId)
+        requires known { WasConnected self.old.trail who }
         requires room { Fits (oust session who) self.old }
         ensures marked { self.new ≡ marked_by (oust session who) self.old }
     {

@@ -1,7 +1,7 @@
 // How many there are of what needs room or has a limit.
 
 ghost use Rattle.std.specs.Prelude.{◌≡◌, ◌+◌, ◌<◌, ◌≤◌, ◌^◌};
-ghost use Rattle.login_laws.specs.Need.{most_marks};
+ghost use Rattle.login_laws.specs.Need.{marks_over_all, marks_over_users};
 ghost use Rattle.login_laws.specs.Shares.{active_share_rise};
 ghost use Rattle.login_model.specs.Full.{marks_needed};
 ghost use Rattle.login_model.specs.Trail.{Trail};
@@ -11,9 +11,6 @@ use login_model::{Fact, Key};
 
 /// What is kept for marks beside the sums over what stands.
 const MARKS_IN_RESERVE: u64 = 64;
-
-/// The most marks of an event beside those of what stands.
-const MARKS_BESIDE: u64 = 32;
 
 /// By how many marks an event may raise those of the end of who has seat0's active session, beside those of devices.
 const SHARE_BESIDE: u64 = 12;
@@ -123,14 +120,20 @@ impl Counts {
         }
     }
 
-    /// The most marks that an event makes which is no end.
-    pub fn most_marks(self) -> u64
-        ensures { (t : Trail) → AreCounted self t → HoldersAreThere t → result ≡ most_marks t }
+    /// The most marks of going over all users.
+    pub fn marks_over_users(self) -> u64
+        ensures value { (t : Trail) → AreCounted self t → result ≡ marks_over_users t }
+        ensures bound { result < 2 ^ 34 }
     {
-        12 * u64::from(self.taken)
-            + 8 * u64::from(self.present)
-            + 4 * u64::from(self.users)
-            + MARKS_BESIDE
+        4 * u64::from(self.users)
+    }
+
+    /// The most marks of going over all that is taken, all sessions and all users.
+    pub fn marks_over_all(self) -> u64
+        ensures value { (t : Trail) → AreCounted self t → HoldersAreThere t → result ≡ marks_over_all t }
+        ensures bound { result < 2 ^ 37 }
+    {
+        12 * u64::from(self.taken) + 8 * u64::from(self.present) + self.marks_over_users()
     }
 
     /// The most marks by which an event raises those of a connection's end.

@@ -26,4 +26,4 @@ control_from-requires c =
     let s = c.args.session in
     let t = c.args.self.now.trail in
     let e = ap (λ (o : Option ConnId). control_from (controller_fact o) c.args.who s t) c.controller-controller.ensures ∙ taken-from (value t (Ctl s)) c.args.who s t in
-    record { room = λ r. (let n = ap (amount r) e in let h = c.requires.room r in omega arith) }
+    record { known = c.requires.known; room = λ r. (let n = ap (amount r) e in let h = c.requires.room r in omega arith) }

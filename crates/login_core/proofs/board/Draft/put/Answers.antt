@@ -1,12 +1,15 @@
 use Rattle.std.proofs.Common.{◌≡◌, ◌∙◌, ◌∷◌, sym, ap, subst, false, true, arith}
 use Rattle.login_model.specs.Same.{same_fact}
-use Rattle.login_model.specs.Trail.{value}
+use Rattle.login_model.specs.Trail.{Trail, value}
 use Rattle.login_model.specs.declared.fact.Fact.{Fact}
 use Rattle.login_model.specs.declared.mark.Mark.TheVariants.{Set}
+use Rattle.login_core.specs.inner.Dues.{NamesKnown}
 use Rattle.login_core.specs.inner.Facts.{StandFor}
 use Rattle.login_core.specs.inner.UnderWay.{so_far}
 use Rattle.login_core.specs.inner.Draft.{DraftState, with_trail}
 use Rattle.login_table.proofs.Appending.{put-made, put-same}
+use Rattle.login_core.proofs.Known.{named-here}
+use Rattle.login_core.proofs.Standing.{opened}
 use Rattle.login_core.proofs.TallyLaws.{seated-noted, seated-room}
 use Rattle.login_core.proofs.Drafting.{draft-more, fresh-room, keys-set, new-here, one-more, room-inside, seen-more}
 use Rattle.login_core.proofs.board.Draft.put.Goals as goal
@@ -46,6 +49,15 @@ set-requires-clause-fresh c =
     let t = so_far f.journal.value.items f.marks.items in
     let other : same_fact (value d.trail c.args.key) c.args.fact ≡ false = ap (λ (f : Fact). same_fact f c.args.fact) (sym c.fact.ensures) ∙ sym c.is_same_fact.ensures ∙ c.if-is_same_fact.false in
     fresh-room f.facts c.args.key c.args.fact t d c.self.invariant.stands (ap (λ (w : DraftState). w.trail) c.self.view_is) (ap (λ (w : DraftState). w.keys) c.self.view_is) other c.requires.room
+
+pub set-requires-clause-known : goal.set-requires-clause-known
+set-requires-clause-known c =
+    let f = c.self.inside in
+    let t = so_far f.journal.value.items f.marks.items in
+    let P : Trail → Type 0 = NamesKnown c.args.fact in
+    let named = subst P (sym (ap (λ (w : DraftState). w.trail) c.self.view_is)) c.requires.known in
+    let Q : Fact → Type 0 = λ x. NamesKnown x f.facts.controls in
+    subst Q (sym c.requires.copy) (named-here f.facts t c.args.fact (opened f.facts t c.self.invariant.stands) named)
 
 pub push-requires : goal.push-requires
 push-requires c =

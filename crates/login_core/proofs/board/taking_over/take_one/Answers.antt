@@ -1,3 +1,7 @@
+use Rattle.std.proofs.Common.{sym, subst}
+use Rattle.login_model.specs.declared.fact.Fact.{Fact}
+use Rattle.login_core.specs.inner.Dues.{NamesKnown}
+use Rattle.login_core.proofs.Known.{plain-known}
 use Rattle.login_core.proofs.TakingOver.{can-few, can-fresh, can-note, can-set, takes-say, takes-set}
 use Rattle.login_core.proofs.board.taking_over.take_one.Goals as goal
 
@@ -6,6 +10,11 @@ copy_of-copy-requires c = (can-set c.args.facts.now c.args.seating.now c.args.ma
 
 pub note-requires : goal.note-requires
 note-requires c = can-note c.args.facts.now c.args.seating.now c.args.mark.now c.in-Set.key c.copy_of-copy.result c.fact.result.now c.requires c.fact.ensures
+
+pub set-requires-clause-known : goal.set-requires-clause-known
+set-requires-clause-known c =
+    let P : Fact → Type 0 = λ x. NamesKnown x c.args.facts.now.controls in
+    subst P (sym c.copy_of-copy.ensures) (plain-known c.in-Set.fact c.args.facts.now.controls (can-set c.args.facts.now c.args.seating.now c.args.mark.now c.in-Set.key c.in-Set.fact c.in-Set.is c.requires).plain.0)
 
 pub set-requires-clause-few : goal.set-requires-clause-few
 set-requires-clause-few c = can-few c.args.facts.now c.args.seating.now c.args.mark.now c.requires

@@ -4,12 +4,13 @@ use Rattle.login_model.specs.Full.{connected_after, full, mark_count, marks_need
 use Rattle.login_model.specs.Legal.{IsLegal, answered, trail_of}
 use Rattle.login_model.specs.Policy.{verdict}
 use Rattle.login_laws.specs.Keys.{most_keys}
+use Rattle.login_laws.specs.Need.{most_marks}
 use Rattle.login_model.specs.Trail.{Trail, key_count}
 use Rattle.login_model.specs.declared.rule.Verdict.{Verdict}
 use Rattle.login_model.specs.declared.mark.Entry.{Entry}
 use Rattle.login_laws.specs.Shares.{most_share_rise, share}
 use Rattle.login_laws.specs.Sound.{IsSound}
-use Rattle.login_laws.proofs.RoomLaws.{room}
+use Rattle.login_laws.proofs.RoomLaws.{most-less, room}
 use Rattle.login_laws.proofs.SoundLaws.{sound-journal}
 use Rattle.login_core.specs.inner.Counts.{AreCounted, HoldersAreThere}
 use Rattle.login_core.specs.inner.Draft.{DraftState}
@@ -51,8 +52,9 @@ overflow_cast-next c =
     let marks = s.marks in
     let journal = ap (λ (q : CoreState). marks_needed (trail_of q.journal) (mark_count q.journal)) c.self.view_is in
     let bound = room t (mark_count es) in
-    let R : Trail → Type 0 = AreCounted c.counts.result in
-    let most = c.most_marks-next.ensures t (subst R c.self.invariant.no_marks c.counts.ensures) (legal-holders U es c.self.invariant.legal) in
+    let less = most-less t c.args.event.now in
+    let H : Trail → Type 0 = HoldersAreThere in
+    let most = c.most_marks-next.ensures (subst H (sym c.self.invariant.no_marks) (legal-holders U es c.self.invariant.legal)) ∙ ap (λ (u : Trail). most_marks u c.args.event.now) c.self.invariant.no_marks in
     omega arith
 
 pub reserve-requires-clause-within : goal.reserve-requires-clause-within
@@ -64,9 +66,10 @@ reserve-requires-clause-within c =
     let reach = c.reach_for-reach.ensures in
     let journal = ap (λ (q : CoreState). marks_needed (trail_of q.journal) (mark_count q.journal)) c.self.view_is in
     let bound = room t (mark_count es) in
+    let less = most-less t c.args.event.now in
     let counted = marks-counted es in
-    let R : Trail → Type 0 = AreCounted c.counts.result in
-    let most = c.most_marks-next.ensures t (subst R c.self.invariant.no_marks c.counts.ensures) (legal-holders U es c.self.invariant.legal) in
+    let H : Trail → Type 0 = HoldersAreThere in
+    let most = c.most_marks-next.ensures (subst H (sym c.self.invariant.no_marks) (legal-holders U es c.self.invariant.legal)) ∙ ap (λ (u : Trail). most_marks u c.args.event.now) c.self.invariant.no_marks in
     let length_is = ap length c.self.invariant.no_marks in
     omega arith
 
@@ -98,6 +101,7 @@ returns-clause-ready c =
     let reach = c.reach_for-reach.ensures ∙ ap (λ (js : List Entry). marks_needed (trail_of js) (mark_count js)) journal in
     let judged = c.requires.judged ∙ (λ i. verdict (setup i) (trail_of (journal i)) e) in
     let bound = room t (mark_count es) in
+    let less = most-less t c.args.event.now in
     let counted = marks-counted es in
     let entries = c.in_ok-reserve.ensures.entries in
     let kept = w.entries in
@@ -112,8 +116,8 @@ returns-clause-ready c =
     let P : Trail → Type 0 = AreCounted c.counts-taken.result in
     let taken = (subst P trail c.counts-taken.ensures).taken ∙ pairs-taken t holders in
     let rings = c.in_ok-make_rings.ensures in
-    let R : Trail → Type 0 = AreCounted c.counts.result in
-    let most = c.most_marks-next.ensures t (subst R before c.counts.ensures) holders in
+    let G : Trail → Type 0 = HoldersAreThere in
+    let most = c.most_marks-next.ensures (subst G (sym before) holders) ∙ ap (λ (u : Trail). most_marks u e) before in
     let known = ap key_count before in
     let next = c.in_ok-reserve.ensures.reach in
     let length_is = ap length behind in

@@ -16,6 +16,7 @@ use Rattle.login_laws.proofs.LawfulLaws.{granted-awaits, legal-is-lawful}
 use Rattle.device_model.specs.Ears.{heard_of}
 use Rattle.device_model.specs.declared.ears.Ear.{Ear}
 use Rattle.login_core.specs.inner.Board.{IsBegun}
+use Rattle.login_core.specs.inner.Dues.{CallerIsKnown}
 use Rattle.login_core.specs.inner.Draft.{DraftState, marked_by, reaching, with_ears}
 use Rattle.login_core.specs.inner.Ears.{AreEnough, ListenLive, settled}
 use Rattle.login_core.specs.inner.Rings.{ring_count}
@@ -29,6 +30,7 @@ use Rattle.login_core.specs.declared.room.ready.Ready.{Ready}
 use Rattle.login_core.specs.declared.room.texts.Texts.{Texts}
 use Rattle.login_core.proofs.Entries.{Steps, begun-marked, last-is, legal-closed, so_far-is}
 use Rattle.login_core.proofs.Growing.{trails}
+use Rattle.login_core.proofs.Known.{caller-known}
 use Rattle.login_core.specs.inner.Ledger.{end_room, next_room}
 use Rattle.login_core.proofs.EndRooms.{ends-follow, welcome-more}
 use Rattle.login_core.proofs.Judged.{judged-inside, ready-judged}
@@ -62,6 +64,13 @@ begin-requires-clause-no_marks c = c.self.invariant.no_marks ∙ sym c.self.inva
 
 pub perform-requires-clause-verdict : goal.perform-requires-clause-verdict
 perform-requires-clause-verdict c = c.verdict_for-verdict.ensures ∙ ap (λ (t : Trail). verdict c.self.inside.setup t c.args.event) (sym (trails c.begin.ensures.draft))
+
+pub perform-requires-clause-known : goal.perform-requires-clause-known
+perform-requires-clause-known c =
+    let m = c.self.inside.board in
+    let s = stepping c.self.inside.setup m c.self.inside.texts c.self.inside.ready c.self.inside.stop c.args.self.now c.args.event c.verdict_for-verdict.result c.self.invariant c.self.view_is c.requires.placed c.requires.ready c.verdict_for-verdict.ensures in
+    let P : Trail → Type 0 = CallerIsKnown c.args.event in
+    subst P (sym (trails c.begin.ensures.draft ∙ c.self.invariant.no_marks)) (caller-known m.journal.items c.args.event s.placed)
 
 pub perform-requires-clause-sound : goal.perform-requires-clause-sound
 perform-requires-clause-sound c =

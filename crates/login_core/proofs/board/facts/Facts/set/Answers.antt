@@ -1,11 +1,14 @@
-use Rattle.std.proofs.Common.{◌≡◌, ◌+◌, ◌∙◌, ◌∷◌, ℕ, length, ap, sym, subst, add-one, arith}
+use Rattle.std.proofs.Common.{◌≡◌, ◌+◌, ◌∙◌, ◌∷◌, ℕ, length, ap, sym, subst, add-one, arith, rules}
 use Rattle.login_base.specs.Room.{Room}
 use Rattle.login_base.specs.declared.ids.ConnId.{ConnId}
 use Rattle.login_model.specs.declared.mark.Mark.TheVariants.{Set}
-use Rattle.login_core.specs.inner.Dues.{AreOwed}
+use Rattle.login_core.specs.declared.board.owing.Owing.{Owing}
+use Rattle.login_core.specs.inner.Dues.{AreOwed, HasRow, WasConnected}
 use Rattle.login_core.specs.inner.Facts.{Tables, TablesStand}
 use Rattle.login_core.specs.inner.Sums.{sum_in}
 use Rattle.login_core.proofs.DuesMoved.{behind-marks, behind-taken, due-within, kept-taken, owed-few, taken-small, taker-few, taker-within}
+use Rattle.login_core.proofs.Known.{known-set, named-there}
+use Rattle.login_core.proofs.Welcomed.{each-due, rows-behind, rows-few}
 use Rattle.login_core.proofs.Standing.{closed, opened, owing-of, tables-same}
 use Rattle.login_core.proofs.board.facts.Facts.set.Goals as goal
 
@@ -24,7 +27,7 @@ lose-requires c = λ d.
     let P : Tables → Type 0 = λ f. AreOwed f.owing few.marks in
     let inside = subst P (sym c.self.view_is) o in
     due-within c.self.inside.owing c.args.key c.fact-before.result.now c.args.fact few.marks c.by-touched.result d _ inside c.by-touched.ensures (c.fact-before.ensures few.marks few.stand)
-    (c.of-lost.ensures few.marks (opened now few.marks few.stand) o.taken d)
+    (c.of-lost.ensures.dues few.marks (opened now few.marks few.stand) o.taken d)
 
 pub shift-requires-clause-within : goal.shift-requires-clause-within
 shift-requires-clause-within c = λ s.
@@ -33,7 +36,7 @@ shift-requires-clause-within c = λ s.
     let P : Tables → Type 0 = λ f. AreOwed f.owing few.marks in
     let inside = subst P (sym c.self.view_is) o in
     let put = ap (λ (f : Tables). f.owing) c.self-2.view_is ∙ c.put_in.ensures.owing in
-    let taken = kept-taken c.self.inside.owing c.lose.new.self c.self-2.inside.owing few.marks inside c.lose.ensures.taken put in
+    let taken = kept-taken c.self.inside.owing c.lose.new.self c.self-2.inside.owing c.welcome.new.self few.marks inside c.lose.ensures.taken put c.welcome.ensures.taken in
     taker-within c.args.key c.fact-before.result.now few.marks s c.taker_in-lost_taker.result _ c.taker_in-lost_taker.ensures (c.fact-before.ensures few.marks few.stand) (taken s)
 
 pub shift-requires-clause-bound : goal.shift-requires-clause-bound
@@ -43,7 +46,7 @@ shift-requires-clause-bound c = λ s.
     let P : Tables → Type 0 = λ f. AreOwed f.owing few.marks in
     let inside = subst P (sym c.self.view_is) o in
     let put = ap (λ (f : Tables). f.owing) c.self-2.view_is ∙ c.put_in.ensures.owing in
-    let taken = kept-taken c.self.inside.owing c.lose.new.self c.self-2.inside.owing few.marks inside c.lose.ensures.taken put in
+    let taken = kept-taken c.self.inside.owing c.lose.new.self c.self-2.inside.owing c.welcome.new.self few.marks inside c.lose.ensures.taken put c.welcome.ensures.taken in
     taker-few few.marks s c.taker_in-taker.result _ (taken s) few.few
 
 pub of-gained-requires : goal.of-gained-requires
@@ -55,8 +58,8 @@ of-gained-requires c =
     let P : Tables → Type 0 = λ f. AreOwed f.owing few.marks in
     let inside = subst P (sym c.self.view_is) o in
     let put = ap (λ (f : Tables). f.owing) c.self-2.view_is ∙ c.put_in.ensures.owing in
-    let taken = kept-taken c.self.inside.owing c.lose.new.self c.self-2.inside.owing few.marks inside c.lose.ensures.taken put in
-    let behind = behind-taken c.args.key c.fact-before.result.now c.args.fact few.marks c.taker_in-lost_taker.result c.taker_in-taker.result c.self-2.inside.owing c.shift.new.self
+    let taken = kept-taken c.self.inside.owing c.lose.new.self c.self-2.inside.owing c.welcome.new.self few.marks inside c.lose.ensures.taken put c.welcome.ensures.taken in
+    let behind = behind-taken c.args.key c.fact-before.result.now c.args.fact few.marks c.taker_in-lost_taker.result c.taker_in-taker.result c.welcome.new.self c.shift.new.self
     c.taker_in-lost_taker.ensures (c.fact-before.ensures few.marks few.stand) c.taker_in-taker.ensures taken c.shift.ensures.taken in
     record { few = λ s. taken-small (Set c.args.key c.args.fact ∷ few.marks) s _ (behind s) (omega arith) }
 
@@ -71,16 +74,52 @@ gain-requires-clause-bound c = λ d.
     let inside = subst P (sym c.self.view_is) o in
     let before = c.fact-before.ensures few.marks few.stand in
     let put = ap (λ (f : Tables). f.owing) c.self-2.view_is ∙ c.put_in.ensures.owing in
-    let taken = kept-taken c.self.inside.owing c.lose.new.self c.self-2.inside.owing few.marks inside c.lose.ensures.taken put in
-    let behind = behind-taken c.args.key c.fact-before.result.now c.args.fact few.marks c.taker_in-lost_taker.result c.taker_in-taker.result c.self-2.inside.owing c.shift.new.self c.taker_in-lost_taker.ensures before c.taker_in-taker.ensures taken c.shift.ensures.taken in
+    let taken = kept-taken c.self.inside.owing c.lose.new.self c.self-2.inside.owing c.welcome.new.self few.marks inside c.lose.ensures.taken put c.welcome.ensures.taken in
+    let behind = behind-taken c.args.key c.fact-before.result.now c.args.fact few.marks c.taker_in-lost_taker.result c.taker_in-taker.result c.welcome.new.self c.shift.new.self c.taker_in-lost_taker.ensures before c.taker_in-taker.ensures taken c.shift.ensures.taken in
     let R : Tables → Type 0 = λ f. TablesStand f few.marks in
     let stand = subst R (sym c.self.view_is) (opened now few.marks few.stand) in
     let tables = subst Q (sym c.self-2.view_is) (c.put_in.ensures.stands few.marks (tables-same _ c.lose.new.self c.self.inside.spare c.self.inside.fresh few.marks stand)) in
-    let gained = c.of-gained.ensures u (tables-same _ c.shift.new.self c.self-2.inside.spare c.self-2.inside.fresh u tables) behind d in
+    let gained = c.of-gained.ensures.dues u (tables-same _ c.shift.new.self c.self-2.inside.spare c.self-2.inside.fresh u tables) behind d in
     let all = behind-marks c.args.key c.fact-before.result.now c.args.fact few.marks c.by-touched.result c.self.inside.owing c.lose.new.self c.self-2.inside.owing c.shift.new.self d _ _
-    c.by-touched.ensures before inside (c.lose.ensures.marks d) (c.of-lost.ensures few.marks (opened now few.marks few.stand) o.taken d) put c.shift.ensures.marks gained in
+    c.by-touched.ensures before inside (c.lose.ensures.marks d) (c.of-lost.ensures.dues few.marks (opened now few.marks few.stand) o.taken d) put (ap (λ (r : Room (ℕ × ℕ)). sum_in r.items d.0) c.shift.ensures.marks ∙ c.welcome.ensures.marks d.0) gained in
     let most = owed-few c.args.key c.args.fact few.marks d few.few in
     omega arith
+
+pub gain-requires-clause-rows : goal.gain-requires-clause-rows
+gain-requires-clause-rows c =
+    let few = c.requires.few in
+    let now = c.args.self.now in
+    let u = Set c.args.key c.args.fact ∷ few.marks in
+    let o = owing-of now few.marks few.stand in
+    let P : Tables → Type 0 = λ f. AreOwed f.owing few.marks in
+    let Q : Tables → Type 0 = λ f. TablesStand f u in
+    let R : Tables → Type 0 = λ f. TablesStand f few.marks in
+    let inside = subst P (sym c.self.view_is) o in
+    let put = ap (λ (f : Tables). f.owing) c.self-2.view_is ∙ c.put_in.ensures.owing in
+    let stand = subst R (sym c.self.view_is) (opened now few.marks few.stand) in
+    let tables = subst Q (sym c.self-2.view_is) (c.put_in.ensures.stands few.marks (tables-same _ c.lose.new.self c.self.inside.spare c.self.inside.fresh few.marks stand)) in
+    let known = known-set c.args.key c.args.fact few.marks (named-there now few.marks c.args.fact (opened now few.marks few.stand) c.requires.known) o.known in
+    let rows = rows-behind c.args.key c.args.fact few.marks c.self.inside.owing c.lose.new.self c.self-2.inside.owing c.welcome.new.self c.shift.new.self c.connection_in-comer.result
+    inside.rows c.lose.ensures.rows put c.connection_in-comer.ensures c.welcome.ensures.row c.welcome.ensures.rows c.shift.ensures.marks in
+    each-due (WasConnected u) (HasRow c.shift.new.self) rows c.of-gained.result (c.of-gained.ensures.known u (tables-same _ c.shift.new.self c.self-2.inside.spare c.self-2.inside.fresh u tables) known)
+
+pub invariant_of-self-3 : goal.invariant_of-self-3
+invariant_of-self-3 c =
+    let few = c.requires.few in
+    let now = c.args.self.now in
+    let P : Tables → Type 0 = λ f. AreOwed f.owing few.marks in
+    let R : Tables → Type 0 = λ f. TablesStand f few.marks in
+    let inside = subst P (sym c.self.view_is) (owing-of now few.marks few.stand) in
+    let put = ap (λ (f : Tables). f.owing) c.self-2.view_is ∙ c.put_in.ensures.owing in
+    let stand = subst R (sym c.self.view_is) (opened now few.marks few.stand) in
+    let rows = rows-few _ c.args.key few.marks c.self.inside.owing c.lose.new.self c.self-2.inside.owing c.connection_in-comer.result stand inside.rows c.lose.ensures.rows put c.connection_in-comer.ensures in
+    let fresh = c.put_in.ensures.fresh in
+    let fresh-is = ap (λ (f : Tables). f.fresh) c.self-2.view_is in
+    let put-spare = ap (λ (w : Owing). w.marks.spare) put in
+    let shifted = ap (λ (r : Room (ℕ × ℕ)). r.spare) c.shift.ensures.marks in
+    let before = c.self.invariant in
+    let i = c.self-2.invariant in
+    search rules
 
 pub returns-clause-stands : goal.returns-clause-stands
 returns-clause-stands c = λ t s.
@@ -93,12 +132,18 @@ returns-clause-stands c = λ t s.
     let inside = subst P (sym c.self.view_is) o in
     let before = c.fact-before.ensures t s in
     let put = ap (λ (f : Tables). f.owing) c.self-2.view_is ∙ c.put_in.ensures.owing in
-    let taken = kept-taken c.self.inside.owing c.lose.new.self c.self-2.inside.owing t inside c.lose.ensures.taken put in
-    let behind = behind-taken c.args.key c.fact-before.result.now c.args.fact t c.taker_in-lost_taker.result c.taker_in-taker.result c.self-2.inside.owing c.shift.new.self c.taker_in-lost_taker.ensures before c.taker_in-taker.ensures taken c.shift.ensures.taken in
+    let taken = kept-taken c.self.inside.owing c.lose.new.self c.self-2.inside.owing c.welcome.new.self t inside c.lose.ensures.taken put c.welcome.ensures.taken in
+    let behind = behind-taken c.args.key c.fact-before.result.now c.args.fact t c.taker_in-lost_taker.result c.taker_in-taker.result c.welcome.new.self c.shift.new.self c.taker_in-lost_taker.ensures before c.taker_in-taker.ensures taken c.shift.ensures.taken in
     let stand = subst R (sym c.self.view_is) (opened now t s) in
     let tables = subst Q (sym c.self-2.view_is) (c.put_in.ensures.stands t (tables-same _ c.lose.new.self c.self.inside.spare c.self.inside.fresh t stand)) in
-    let gained = λ (d : ConnId). c.of-gained.ensures u (tables-same _ c.shift.new.self c.self-2.inside.spare c.self-2.inside.fresh u tables) behind d in
+    let gained = λ (d : ConnId). c.of-gained.ensures.dues u (tables-same _ c.shift.new.self c.self-2.inside.spare c.self-2.inside.fresh u tables) behind d in
     let all = λ (d : ConnId). behind-marks c.args.key c.fact-before.result.now c.args.fact t c.by-touched.result c.self.inside.owing c.lose.new.self c.self-2.inside.owing c.shift.new.self d _ _
-    c.by-touched.ensures before inside (c.lose.ensures.marks d) (c.of-lost.ensures t (opened now t s) o.taken d) put c.shift.ensures.marks (gained d) in
+    c.by-touched.ensures before inside (c.lose.ensures.marks d) (c.of-lost.ensures.dues t (opened now t s) o.taken d) put (ap (λ (r : Room (ℕ × ℕ)). sum_in r.items d.0) c.shift.ensures.marks ∙ c.welcome.ensures.marks d.0) (gained d) in
     closed _ u (tables-same _ c.gain.new.self c.self-2.inside.spare c.self-2.inside.fresh u tables)
-    (record { marks = λ d. c.gain.ensures.marks d ∙ all d; taken = λ r. ap (λ (w : Room (ℕ × ℕ)). sum_in w.items r.0) c.gain.ensures.taken ∙ behind r })
+    (record {
+      marks = λ d. c.gain.ensures.marks d ∙ all d;
+      taken = λ r. ap (λ (w : Room (ℕ × ℕ)). sum_in w.items r.0) c.gain.ensures.taken ∙ behind r;
+      known = known-set c.args.key c.args.fact t (named-there now t c.args.fact (opened now t s) c.requires.known) o.known;
+      rows = λ d e. c.gain.ensures.rows d.0 (rows-behind c.args.key c.args.fact t c.self.inside.owing c.lose.new.self c.self-2.inside.owing c.welcome.new.self c.shift.new.self c.connection_in-comer.result
+          inside.rows c.lose.ensures.rows put c.connection_in-comer.ensures c.welcome.ensures.row c.welcome.ensures.rows c.shift.ensures.marks d e);
+    })

@@ -4,8 +4,8 @@ use Rattle.login_core.specs.declared.board.owing.Charge.{Charge}
 use Rattle.login_core.proofs.DuesLaws.{charge-is}
 use Rattle.login_core.proofs.board.owing.Charge.of.Goals as goal
 
-pub returns : goal.returns
-returns c = λ t s taken d.
+pub returns-clause-charge : goal.returns-clause-charge
+returns-clause-charge c = λ t s taken d.
     let x : Charge = record { controller = c.controller.result; keeper = c.keeper.result; taken = c.taken_by.result } in
     let yes : c.is_session.result ≡ true = search rules in
     let there = ap is_session_fact (sym (c.read-fact.ensures t s)) ∙ sym c.is_session.ensures ∙ yes in

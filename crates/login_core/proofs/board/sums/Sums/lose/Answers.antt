@@ -1,12 +1,12 @@
 use Rattle.std.proofs.Common.{ℕ, ◌≡◌, ◌-◌, ◌∙◌, Option, ap, subst, arith, rules}
 use Rattle.std.specs.Prelude.{IsSome}
 use Rattle.login_base.specs.Room.{Room}
-use Rattle.login_core.specs.inner.Sums.{sum_in}
-use Rattle.login_core.proofs.SumLaws.{lost-at}
+use Rattle.login_core.specs.inner.Sums.{has_row, sum_in}
+use Rattle.login_core.proofs.SumLaws.{lost-at, rows-kept}
 use Rattle.login_core.proofs.board.sums.Sums.lose.Goals as goal
 
-pub returns-in-Some-clause-sums : goal.returns-in-Some-clause-sums
-returns-in-Some-clause-sums c = λ n.
+pub returns-clause-sums : goal.returns-clause-sums
+returns-clause-sums c = λ n.
     let left = c.of.result - c.args.lost in
     let there : IsSome _ = subst (λ (o : Option ℕ). IsSome o) c.in-Some.ensures.value (search rules) in
     let written = (c.get_mut.follows.holds left).3 there in
@@ -14,5 +14,12 @@ returns-in-Some-clause-sums c = λ n.
     let seen : (m : ℕ) → sum_in old m ≡ sum_in c.args.self.now.items m = λ m. ap (λ (r : Room (ℕ × ℕ)). sum_in r.items m) c.self.view_is in
     let own = seen c.args.number in
     let is = c.of.ensures in
-    let within = c.requires in
+    let within = c.requires.within in
     lost-at old (c.get_mut.follows.lender left).entries c.args.number n c.args.lost left (written.0 n) (omega arith) ∙ seen n
+
+pub returns-clause-rows : goal.returns-clause-rows
+returns-clause-rows c = λ n h.
+    let left = c.of.result - c.args.lost in
+    let there : IsSome _ = subst (λ (o : Option ℕ). IsSome o) c.in-Some.ensures.value (search rules) in
+    let written = (c.get_mut.follows.holds left).3 there in
+    rows-kept c.self.inside.rows.entries (c.get_mut.follows.lender left).entries c.args.number left (λ m. written.0 m) n (ap (λ (r : Room (ℕ × ℕ)). has_row r.items n) c.self.view_is ∙ h)
