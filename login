@@ -52,7 +52,7 @@ crates() {
 # The checksum of the names and contents of the files of these crates.
 sources() {
     cd "$top/crates" && (($# > 0)) &&
-        find ../crates.txt "$@" \( -name out -o -name must-fail \) -prune -o -type f -print0 |
+        find ../crates.txt "$@" \( -name out -o -name must-fail -o -name wrong-bodies \) -prune -o -type f -print0 |
         LC_ALL=C sort -z | xargs -0 sha256sum | sha256sum
 }
 

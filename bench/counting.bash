@@ -15,7 +15,7 @@ build() {
     mkdir -p "$work/crates/$name/src"
     cp "$top/HANDLES" "$top/crates.txt" "$work/"
     echo "$name: $needs" >>"$work/crates.txt"
-    (cd "$top" && tar cf - --exclude=out --exclude=must-fail crates) | tar xf - -C "$work"
+    (cd "$top" && tar cf - --exclude=out --exclude=must-fail --exclude=wrong-bodies crates) | tar xf - -C "$work"
     local text
     for text in "$top/bench/programs/$name"/*.txt; do
         cp "$text" "$work/crates/$name/src/$(basename "$text" .txt).rt"
