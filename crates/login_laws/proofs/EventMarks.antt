@@ -15,7 +15,8 @@ use Rattle.login_model.specs.Devices.{is_handle_fact, is_taken, taken_devices}
 use Rattle.login_model.specs.Full.{controlled_sessions, is_controlled_fact, taken_by, taken_count}
 use Rattle.login_model.specs.Legal.{stepped}
 use Rattle.login_laws.specs.Asking.{asked_vt, call_vt}
-use Rattle.login_laws.specs.Need.{IsDisconnect, IsWithin, RoomIsKept, call_goes_over, goes_over, goes_over_users, hardware_goes_over, is_wide, marks_beside, marks_over_all, marks_over_users, most_marks, switch_need}
+use Rattle.login_laws.specs.Few.{TakeAtMost}
+use Rattle.login_laws.specs.Need.{IsDisconnect, IsWithin, RoomIsKept, asks_to_turn, call_marks, call_turns, hardware_marks, hardware_turns, marks_beside, marks_over, marks_over_devices, may_switch, most_marks, most_of_any, seat_marks, switch_need}
 use Rattle.login_model.specs.Policy.{meant_user, uid_of, verdict}
 use Rattle.login_model.specs.Procedure.{each, if_some, kill, know, no, oust, release, revoke, shut, take_seat, untake, yes}
 use Rattle.login_model.specs.Facts.{is_number_fact}
@@ -23,7 +24,6 @@ use Rattle.login_model.specs.Creating.{appear_on, create, created_session, seat_
 use Rattle.login_model.specs.Direct.{activate, control, control_from, direct, direct_call, disconnect, exit, happen, lock_session, press, unlock_session}
 use Rattle.login_model.specs.Words.{whom_of}
 use Rattle.login_model.specs.Settle.{settle}
-use Rattle.login_model.specs.Switching.{complete, settle_switch}
 use Rattle.login_laws.specs.Sound.{IsSound}
 use Rattle.login_laws.proofs.UnusedLaws.{Unused}
 use Rattle.login_model.specs.declared.call.Call.{Call}
@@ -34,7 +34,6 @@ use Rattle.login_model.specs.declared.event.Event.TheVariants.{Connect, Disconne
 use Rattle.login_model.specs.declared.hardware.Hardware.{Hardware}
 use Rattle.login_model.specs.declared.hardware.Hardware.TheVariants.{Add, Remove, VtKey, Exit, Key as HardKeyPressed, Dock, JobDone}
 use Rattle.login_base.specs.declared.ids.HandleNo.{HandleNo}
-use Rattle.login_model.specs.declared.conf.Conf.{Conf}
 use Rattle.login_model.specs.declared.conf.KeyAction.{KeyAction}
 use Rattle.login_model.specs.declared.conf.KeyAction.TheVariants as does
 use Rattle.login_model.specs.declared.hardware.DevKind.{DevKind}
@@ -43,7 +42,7 @@ use Rattle.login_model.specs.declared.lock.Lock.{Lock}
 use Rattle.login_model.specs.declared.operation.OpKind.{OpKind}
 use Rattle.login_model.specs.declared.operation.Operation.TheVariants.{Idle, Waiting, Running}
 use Rattle.login_model.specs.Locks.{asked_lock}
-use Rattle.login_model.specs.Power.{ask_operation, end_operation, inhibit, is_blocked, job_done, key_action, prepare, settle_operation}
+use Rattle.login_model.specs.Power.{ask_operation, end_operation, inhibit, is_blocked, job_done, key_action, prepare}
 use Rattle.login_model.specs.Same.{same_key}
 use Rattle.login_model.specs.Taking.{acknowledge, add_device, appear_seat, enliven, has_graphics, lose_seat, remove_device, set_mode, take_device, takers}
 use Rattle.login_model.specs.declared.mark.Notice.TheVariants as notice
@@ -71,10 +70,10 @@ use Rattle.login_laws.proofs.Ending.{good-disconnect}
 use Rattle.login_laws.proofs.Paying.{Falls, base, counted, falls-controlled, falls-locked, falls-opened, handle-in, open-session}
 use Rattle.login_laws.proofs.PayingEnds.{pays-disconnect}
 use Rattle.login_laws.proofs.Calm.{direct-calm}
-use Rattle.login_laws.proofs.PayingMoves.{settle-within, start-within}
+use Rattle.login_laws.proofs.PayingMoves.{settle-adds, settle-within}
 use Rattle.login_laws.proofs.NeedLaws.{ends, need-is}
-use Rattle.login_laws.proofs.RoomLaws.{room, stop-stays}
-use Rattle.login_laws.proofs.WithinLaws.{Within, active-there, filter-length, owner-within, plain-within, say-within, taken-there, within-each, within-if, within-more, within-refl, within-trans}
+use Rattle.login_laws.proofs.RoomLaws.{most-less, room, stop-stays}
+use Rattle.login_laws.proofs.WithinLaws.{ThereAtMost, Within, active-there, filter-length, owner-within, plain-within, say-within, taken-there, within-each, within-if, within-more, within-refl, within-trans}
 use Rattle.login_laws.proofs.ProcedureMarks.{TakenWithin, activate-within, close-within, exit-within, kill-within, know-within, untake-within, linger-within, next-within, previous-within, release-within, request-within, revoke-within, shut-some, shut-within, take_seat-within, tick-within}
 
 -- ---- one more of what the need counts
@@ -147,37 +146,38 @@ but-made c s h o x f = record {
 
 -- ---- what an event makes by itself
 
--- the most marks
-abbrev most_itself : Trail → ℕ
-most_itself t = 6 * taken_count t + 8 * length (sessions t) + 4 * length (users t) + 16
+-- the marks of an event by itself, beside those of what it goes over
+abbrev marks_itself : ℕ
+marks_itself = 8
 
 -- what the need is made of, but for a switch
 abbrev gross : Trail → ℕ
 gross t = base t + 3 * length (locks t)
 
--- so many marks at most, one more device taken at most, and what is counted grows by no more than one device does;
--- where nothing is brought there is no more than before
-pub record Steps (brings : Bool) (t u : Trail) : Type 0 where
+-- so many marks at most, so many more devices that one session has taken, one more device taken at most, and what is
+-- counted grows by no more than one device does; where nothing is brought there is no more than before
+pub record Steps (brings : Bool) (marks_most more : ℕ) (t u : Trail) : Type 0 where
   pub falls : brings ≡ false → Falls (value t) (value u)
-  marks : length u ≤ length t + most_itself t
+  marks : length u ≤ length t + marks_most
+  pub of_each : (s : SessId) → taken_length u s ≤ taken_length t s + more
   pub taken : taken_count u ≤ taken_count t + 1
   rises : gross u + 8 * taken_count u ≤ gross t + 8 * taken_count t + 12
 
-step-within : {b : Bool} (n : ℕ) (t u : Trail) → n ≤ most_itself t → Within n t u → Steps b t u
+step-within : {b : Bool} {m k : ℕ} (n : ℕ) (t u : Trail) → n ≤ m → Within n t u → Steps b m k t u
 step-within n t u l w =
-    let m = w.marks in
+    let a = w.marks in
     let c = counted t u w.falls in
     let c1 = c.connected in let c2 = c.controlled in let c3 = c.opened in let c4 = c.taken in let c5 = c.locked in
-    record { falls = λ e. w.falls; marks = omega arith; taken = omega arith; rises = omega arith }
+    record { falls = λ e. w.falls; marks = omega arith; of_each = λ s. (let d = length-taken-less t u s (w.falls.taken s) in omega arith); taken = omega arith; rises = omega arith }
 
-step-refl : {b : Bool} (t : Trail) → Steps b t t
+step-refl : {b : Bool} {m k : ℕ} (t : Trail) → Steps b m k t t
 step-refl t = step-within 0 t t (omega arith) (within-refl 0 t)
 
-step-if : {a : Bool} (b : Bool) (t u v : Trail) → Steps a t u → Steps a t v → Steps a t (cond b u v)
+step-if : {a : Bool} {m k : ℕ} (b : Bool) (t u v : Trail) → Steps a m k t u → Steps a m k t v → Steps a m k t (cond b u v)
 step-if true t u v p q = p
 step-if false t u v p q = q
 
-step-some : {b : Bool} {A : Type 0} (f : A → Trail → Trail) (o : Option A) (t : Trail) → ((x : A) → Steps b t (f x t)) → Steps b t (if_some f o t)
+step-some : {b : Bool} {m k : ℕ} {A : Type 0} (f : A → Trail → Trail) (o : Option A) (t : Trail) → ((x : A) → Steps b m k t (f x t)) → Steps b m k t (if_some f o t)
 step-some f None t step = step-refl t
 step-some f (Some x) t step = step x
 
@@ -190,15 +190,15 @@ ruled-but c s t u f r e =
     ]
 
 -- where a session that was not there has taken nothing
-step-but : (c : ConnId) (s : SessId) (n : ℕ) (t u : Trail) → n ≤ most_itself t → length u ≤ length t + n → FallsBut c s (value t) (value u)
-    → ((r : SessId) → is_session u r ≡ true → (taken_length u r ≡ 0) ⊎ (is_session t r ≡ true)) → Steps true t u
-step-but c s n t u l m f z =
+step-but : {m k : ℕ} (c : ConnId) (s : SessId) (n : ℕ) (t u : Trail) → n ≤ m → length u ≤ length t + n → FallsBut c s (value t) (value u)
+    → ((r : SessId) → is_session u r ≡ true → (taken_length u r ≡ 0) ⊎ (is_session t r ≡ true)) → Steps true m k t u
+step-but c s n t u l a f z =
     let c1 = count-more conn_lt (is_connected u) (is_connected t) (connections u) (connections t) (connections-list u) (connections-list t) c f.connected in
     let c2 = count-more session_lt (is_ruled u) (is_ruled t) (controlled_sessions u) (controlled_sessions t) (ruled-list u) (ruled-list t) s (ruled-but c s t u f) in
     let c3 = taken-among t u (sessions u) (sessions t) (sessions-ascending u) (sessions-ascending t) (λ r i. length-taken-less t u r (f.taken r)) (λ r i. or-was (z r (of-sessions u r i)) (in-sessions t r)) in
     let c4 = count-more session_lt (is_open u) (is_open t) (open_sessions u) (open_sessions t) (open-list u (open-session u)) (open-list t (open-session t)) s f.opened in
     let c5 = count-less lock_lt (is_lock u) (is_lock t) (locks u) (locks t) (locks-list u) (locks-list t) f.locked in
-    record { falls = λ e. cc; marks = omega arith; taken = omega arith; rises = omega arith }
+    record { falls = λ e. cc; marks = omega arith; of_each = λ r. (let d = length-taken-less t u r (f.taken r) in omega arith); taken = omega arith; rises = omega arith }
 
 -- ---- a lock, and a device that is taken
 
@@ -206,7 +206,7 @@ pub lock-one : (l r : LockNo) → key.Lock l ≡ key.Lock r → l ≡ r
 lock-one l r e = cc
 
 -- what is as before but for locks
-lock-counts : (l : LockNo) (x : Fact) (t : Trail) → Steps true t (put (key.Lock l) x t) × (length (locks (put (key.Lock l) x t)) ≤ length (locks t) + 1)
+lock-counts : {k : ℕ} (l : LockNo) (x : Fact) (t : Trail) → Steps true 1 k t (put (key.Lock l) x t) × (length (locks (put (key.Lock l) x t)) ≤ length (locks t) + 1)
 lock-counts l x t =
     let u = put (key.Lock l) x t in
     let same = λ (k : Key) (n : same_key (key.Lock l) k ≡ false). (let z : value u k ≡ value t k = value-put (key.Lock l) k x t ∙ upd-other (key.Lock l) k x (value t) n in z) in
@@ -217,23 +217,40 @@ lock-counts l x t =
     let c4 = count-less session_lt (is_open u) (is_open t) (open_sessions u) (open_sessions t) (open-list u (open-session u)) (open-list t (open-session t)) (λ s e. ap is_open_fact (sym (same (key.Sess s) refl)) ∙ e) in
     let c5 = count-more lock_lt (is_lock u) (is_lock t) (locks u) (locks t) (locks-list u) (locks-list t) l
     (λ r e. elim (was is_lock_fact (key.Lock l) (key.Lock r) x (value t) (ap is_lock_fact (sym (value-put (key.Lock l) (key.Lock r) x t)) ∙ e)) [ inl q ↦ inl (sym (lock-one l r q.0)) | inr q ↦ inr q.1 ]) in
-    let m = put-length (key.Lock l) x t in
-    (record { falls = λ e. cc; marks = omega arith; taken = omega arith; rises = omega arith }, c5)
+    let m = put-length (key.Lock l) x t in (
+      record {
+        falls = λ e. cc;
+        marks = omega arith;
+        of_each = λ s. (let d = length-taken-less t u s (λ y e. ap is_handle_fact (sym (same (key.Taken s y) refl)) ∙ e) in omega arith);
+        taken = omega arith;
+        rises = omega arith;
+      },
+      c5,
+    )
 
 -- one more, after what is as before
-step-then : (t u v : Trail) (n : ℕ) → Steps true t u → length u ≤ length t + 2 → n ≤ 2 → Within n u v → Steps true t v
-step-then t u v n p l m w =
-    let a = p.rises in let b = p.taken in let k = w.marks in
+step-then : {k : ℕ} (m n : ℕ) (t u v : Trail) → Steps true m k t u → Within n u v → Steps true (m + n) k t v
+step-then m n t u v p w =
+    let a = p.rises in let b = p.taken in let d = p.marks in let e = w.marks in
     let c = counted u v w.falls in
     let c1 = c.connected in let c2 = c.controlled in let c3 = c.opened in let c4 = c.taken in let c5 = c.locked in
-    record { falls = λ e. cc; marks = omega arith; taken = omega arith; rises = omega arith }
+    record {
+      falls = λ e. cc;
+      marks = omega arith;
+      of_each = λ s. (let f = p.of_each s in let g = length-taken-less u v s (w.falls.taken s) in omega arith);
+      taken = omega arith;
+      rises = omega arith;
+    }
 
-step-inhibit : (x : Lock) (l : LockNo) (h : HandleNo) (t : Trail) → Steps true t (inhibit x l h t)
+step-more : {b : Bool} {k : ℕ} (m n : ℕ) (t u : Trail) → m ≤ n → Steps b m k t u → Steps b n k t u
+step-more m n t u l p = (let a = p.marks in record { falls = p.falls; marks = omega arith; of_each = p.of_each; taken = p.taken; rises = p.rises })
+
+step-inhibit : {k : ℕ} (x : Lock) (l : LockNo) (h : HandleNo) (t : Trail) → Steps true marks_itself k t (inhibit x l h t)
 step-inhibit x l h t =
     let u = put (key.Lock l) (fact.Lock x) t in
     let o = fact.Owned (owner.Lock x.holder l) in
-    let m = put-length (key.Lock l) (fact.Lock x) t in
-    step-then t u (put (key.Owner h) o u) 1 (lock-counts l (fact.Lock x) t).0 (omega arith) (omega arith) (owner-within h o u (λ b r z. cc))
+    let v = put (key.Owner h) o u in
+    step-more 2 marks_itself t v (omega arith) (step-then 1 1 t u v (lock-counts l (fact.Lock x) t).0 (owner-within h o u (λ b r z. cc)))
 
 -- where one device is taken, other sessions have no more
 pub taken-others : (s : SessId) (d : DevNo) (x : Fact) (t : Trail) (r : SessId) → (s ≡ r → ⊥) → taken_length (put (key.Taken s d) x t) r ≤ taken_length t r
@@ -242,14 +259,14 @@ taken-others s d x t r n =
     let u = put k x t in
     length-taken-less t u r (λ y i. ap is_handle_fact (sym (value-put k (key.Taken r y) x t ∙ upd-other k (key.Taken r y) x (value t) (apart k (key.Taken r y) (λ z. n (pair-one s r d y z).0)))) ∙ i)
 
--- and the session one more
-pub taken-itself : (s : SessId) (d : DevNo) (x : Fact) (t : Trail) → taken_length (put (key.Taken s d) x t) s ≤ taken_length t s + 1
-taken-itself s d x t =
+-- and any session one more at most
+pub taken-itself : (s : SessId) (d : DevNo) (x : Fact) (t : Trail) (r : SessId) → taken_length (put (key.Taken s d) x t) r ≤ taken_length t r + 1
+taken-itself s d x t r =
     let u = put (key.Taken s d) x t in
-    count-more device_lt (is_taken u s) (is_taken t s) (taken_devices u s) (taken_devices t s) (taken-list u s) (taken-list t s) d
-    (λ y i. elim (was is_handle_fact (key.Taken s d) (key.Taken s y) x (value t) (ap is_handle_fact (sym (value-put (key.Taken s d) (key.Taken s y) x t)) ∙ i)) [ inl q ↦ inl (sym (pair-one s s d y q.0).1) | inr q ↦ inr q.1 ])
+    count-more device_lt (is_taken u r) (is_taken t r) (taken_devices u r) (taken_devices t r) (taken-list u r) (taken-list t r) d
+    (λ y i. elim (was is_handle_fact (key.Taken s d) (key.Taken r y) x (value t) (ap is_handle_fact (sym (value-put (key.Taken s d) (key.Taken r y) x t)) ∙ i)) [ inl q ↦ inl (sym (pair-one s r d y q.0).1) | inr q ↦ inr q.1 ])
 
-taken-counts : (s : SessId) (d : DevNo) (x : Fact) (t : Trail) → Steps true t (put (key.Taken s d) x t)
+taken-counts : (s : SessId) (d : DevNo) (x : Fact) (t : Trail) → Steps true 1 1 t (put (key.Taken s d) x t)
 taken-counts s d x t =
     let u = put (key.Taken s d) x t in
     let same = λ (k : Key) (n : same_key (key.Taken s d) k ≡ false). (let z : value u k ≡ value t k = value-put (key.Taken s d) k x t ∙ upd-other (key.Taken s d) k x (value t) n in z) in
@@ -257,36 +274,42 @@ taken-counts s d x t =
     let c2 = count-less session_lt (is_ruled u) (is_ruled t) (controlled_sessions u) (controlled_sessions t) (ruled-list u) (ruled-list t)
     (λ r e. (let p = both (is_session u r) (is_controlled u r) e in both-true (is_session t r) (is_controlled t r) (ap is_session_fact (sym (same (key.Sess r) refl)) ∙ p.0) (ap is_controlled_fact (sym (same (key.Ctl r) refl)) ∙ p.1))) in
     let e = count-same session_lt (is_session u) (is_session t) (sessions u) (sessions t) (sessions-list u) (sessions-list t) (λ r. ap is_session_fact (same (key.Sess r) refl)) in
-    let b = taken-by-more t u (sessions t) s (sessions-ascending t) (taken-others s d x t) (taken-itself s d x t) in
+    let b = taken-by-more t u (sessions t) s (sessions-ascending t) (taken-others s d x t) (taken-itself s d x t s) in
     let P : List SessId → Type 0 = λ ss. taken_by u ss ≤ taken_by t (sessions t) + 1 in
     let c3 = subst P (sym e) b in
     let c4 = count-less session_lt (is_open u) (is_open t) (open_sessions u) (open_sessions t) (open-list u (open-session u)) (open-list t (open-session t)) (λ r i. ap is_open_fact (sym (same (key.Sess r) refl)) ∙ i) in
     let c5 = count-less lock_lt (is_lock u) (is_lock t) (locks u) (locks t) (locks-list u) (locks-list t) (λ l i. ap is_lock_fact (sym (same (key.Lock l) refl)) ∙ i) in
     let m = put-length (key.Taken s d) x t in
-    record { falls = λ e. cc; marks = omega arith; taken = omega arith; rises = omega arith }
+    record { falls = λ e. cc; marks = omega arith; of_each = taken-itself s d x t; taken = omega arith; rises = omega arith }
 
 pub enliven-within : (h : HandleNo) (b : Bool) (t : Trail) → Within 1 t (enliven h b t)
 enliven-within h true t = plain-within (key.Live h) yes t refl
 enliven-within h false t = within-refl 1 t
 
 -- after no more than before
-step-after : (t u v : Trail) → Within 1 t u → length v ≤ length u + 1 → Steps true u v → Steps true t v
-step-after t u v w l p =
-    let a = p.rises in let b = p.taken in let m = w.marks in
+step-after : {k : ℕ} (n m : ℕ) (t u v : Trail) → Within n t u → Steps true m k u v → Steps true (n + m) k t v
+step-after n m t u v w p =
+    let a = p.rises in let b = p.taken in let d = p.marks in let e = w.marks in
     let c = counted t u w.falls in
     let c1 = c.connected in let c2 = c.controlled in let c3 = c.opened in let c4 = c.taken in let c5 = c.locked in
-    record { falls = λ e. cc; marks = omega arith; taken = omega arith; rises = omega arith }
+    record {
+      falls = λ e. cc;
+      marks = omega arith;
+      of_each = λ s. (let f = p.of_each s in let g = length-taken-less t u s (w.falls.taken s) in omega arith);
+      taken = omega arith;
+      rises = omega arith;
+    }
 
-step-take : (c : ConnId) (s : SessId) (d : DevNo) (h : HandleNo) (t : Trail) → Steps true t (take_device c s d h t)
+step-take : (c : ConnId) (s : SessId) (d : DevNo) (h : HandleNo) (t : Trail) → Steps true marks_itself 1 t (take_device c s d h t)
 unfolding take_device
 step-take c s d h t =
     let o = fact.Owned (owner.Device c s d) in
     let x = fact.Handle h in
     let a = put (key.Owner h) o t in
     let b = put (key.Taken s d) x a in
-    let m = put-length (key.Owner h) o t in
-    let n = put-length (key.Taken s d) x a in
-    step-then t b (enliven h (is_active t s) b) 1 (step-after t a b (owner-within h o t (λ b r z. cc)) n (taken-counts s d x a)) (omega arith) (omega arith) (enliven-within h (is_active t s) b)
+    let v = enliven h (is_active t s) b in
+    step-more 3 marks_itself t v (omega arith)
+    (step-then 2 1 t b v (step-after 1 1 t a b (owner-within h o t (λ b r z. cc)) (taken-counts s d x a)) (enliven-within h (is_active t s) b))
 
 acknowledge-within : (s : SessId) (d : DevNo) (t : Trail) → Within 2 t (acknowledge s d t)
 unfolding acknowledge
@@ -370,44 +393,47 @@ done-within t = end-within (value t key.Op) t
 
 -- ---- connecting and controlling
 
-step-connect : (c : ConnId) (x : Fact) (t : Trail) → Steps true t (put (key.Conn c) x t)
-step-connect c x t =
+step-connect : {m k : ℕ} (c : ConnId) (x : Fact) (t : Trail) → 1 ≤ m → Steps true m k t (put (key.Conn c) x t)
+step-connect c x t l =
     let s : SessId = record { 0 = 0 } in
-    step-but c s 1 t (put (key.Conn c) x t) (omega arith) (put-length (key.Conn c) x t) (but-put c s (key.Conn c) x t (but-connected c s x (value t)))
+    step-but c s 1 t (put (key.Conn c) x t) l (put-length (key.Conn c) x t) (but-put c s (key.Conn c) x t (but-connected c s x (value t)))
     (λ r e. inr (ap is_session_fact (sym (value-put (key.Conn c) (key.Sess r) x t)) ∙ e))
 
-step-controlled : (c : ConnId) (s : SessId) (n : ℕ) (t u : Trail) → n + 1 ≤ most_itself t → Within n t u → Steps true t (put (key.Ctl s) (fact.Controller c) u)
+step-controlled : {m k : ℕ} (c : ConnId) (s : SessId) (n : ℕ) (t u : Trail) → n + 1 ≤ m → Within n t u → Steps true m k t (put (key.Ctl s) (fact.Controller c) u)
 step-controlled c s n t u l w =
     let x = fact.Controller c in
     let v = put (key.Ctl s) x u in
-    let m = w.marks in let k = put-length (key.Ctl s) x u in
+    let a = w.marks in let b = put-length (key.Ctl s) x u in
     step-but c s (n + 1) t v l (omega arith)
     (falls-but c s (value t) (value u) (value v) w.falls (but-put c s (key.Ctl s) x u (but-controlled c s x (value u))))
     (λ r e. inr (w.falls.there r (ap is_session_fact (sym (value-put (key.Ctl s) (key.Sess r) x u)) ∙ e)))
 
-step-oust : (s : SessId) (c : ConnId) (t : Trail) → TakenWithin t → Steps true t (oust s c t)
+step-oust : {k : ℕ} (s : SessId) (c : ConnId) (n : ℕ) (t : Trail) → TakeAtMost n t → Steps true (4 * n + 1) k t (oust s c t)
 unfolding oust
-step-oust s c t l =
+step-oust s c n t l =
     let a = l s in
     step-controlled c s (4 * taken_length t s) t (each (revoke s) (taken_devices t s) t) (omega arith) (within-each 4 (revoke s) (revoke-within s) (taken_devices t s) t)
 
-step-from : (x : Fact) (c : ConnId) (s : SessId) (t : Trail) → TakenWithin t → Steps true t (control_from x c s t)
-step-from (fact.Controller b) c s t l = step-if (b.0 == c.0) t t (oust s c t) (step-refl t) (step-oust s c t l)
-step-from _ c s t l = step-controlled c s 0 t t (omega arith) (within-refl 0 t)
+step-from : {k : ℕ} (x : Fact) (c : ConnId) (s : SessId) (n : ℕ) (t : Trail) → TakeAtMost n t → Steps true (4 * n + 1) k t (control_from x c s t)
+step-from (fact.Controller b) c s n t l = step-if (b.0 == c.0) t t (oust s c t) (step-refl t) (step-oust s c n t l)
+step-from _ c s n t l = step-controlled c s 0 t t (omega arith) (within-refl 0 t)
 
-step-control : (c : ConnId) (s : SessId) (t : Trail) → TakenWithin t → Steps true t (control c s t)
+step-control : {k : ℕ} (c : ConnId) (s : SessId) (n : ℕ) (t : Trail) → TakeAtMost n t → Steps true (4 * n + 1) k t (control c s t)
 unfolding control
-step-control c s t l = step-from (value t (key.Ctl s)) c s t l
+step-control c s n t l = step-from (value t (key.Ctl s)) c s n t l
 
 -- ---- creating
 
-pub appear-within : (o : Option (List ℕ)) (s : SessId) (n : ℕ) (t : Trail) → ((r : SessId) → is_session t r ≡ true → taken_length t r ≤ n) → Within (2 * n + 2) t (appear_on o s t)
-appear-within None s n t l = within-refl (2 * n + 2) t
+seat0-or : (b : Bool) (n : ℕ) (t u v : Trail) → Within 1 t u → Within (2 * n + 2) t v → Within (cond b 0 (6 * n) + 2) t (cond b u v)
+seat0-or true n t u v p q = within-more 1 2 t u (omega arith) p
+seat0-or false n t u v p q = within-more (2 * n + 2) (6 * n + 2) t v (omega arith) q
+
+pub appear-within : (o : Option (List ℕ)) (s : SessId) (n : ℕ) (t : Trail) → ((r : SessId) → is_session t r ≡ true → taken_length t r ≤ n) → Within (seat_marks n o + 2) t (appear_on o s t)
+appear-within None s n t l = within-refl 2 t
 appear-within (Some seat) s n t l =
-    (let m = 2 * n + 2 in
-    let x = notice.Active seat0 None (Some s) in
-    within-if (bytes_eq seat seat0) m t (cond (is_active t s) (tell_all x t) t) (take_seat seat s (active_on t seat) t)
-    (within-if (is_active t s) m t (tell_all x t) t (within-more 1 m t (tell_all x t) (omega arith) (say-within All x t)) (within-refl m t))
+    (let x = notice.Active seat0 None (Some s) in
+    seat0-or (bytes_eq seat seat0) n t (cond (is_active t s) (tell_all x t) t) (take_seat seat s (active_on t seat) t)
+    (within-if (is_active t s) 1 t (tell_all x t) t (say-within All x t) (within-refl 1 t))
     (take_seat-within seat s (active_on t seat) n t (λ r e. l r (active-there t seat r e))))
 
 pub length-none : {A : Type 0} (xs : List A) → ((x : A) → IsIn x xs → ⊥) → length xs ≡ 0
@@ -422,14 +448,13 @@ new-none t u =
     (let e : value t (key.Taken s d) ≡ fact.Absent = u.sessions (key.Taken s d) s refl (omega arith) in
     true-false (is_taken t s d) ((taken-list t s).gives d i) (ap is_handle_fact e)))
 
-step-create : (c : ConnId) (x : Creation) (t : Trail) → Unused t → TakenWithin t → Steps true t (create c x (next_session t) (next_handle t) t)
+step-create : {k : ℕ} (c : ConnId) (x : Creation) (n : ℕ) (t : Trail) → Unused t → TakeAtMost n t → Steps true (seat_marks n (seat_of x.seat) + 7) k t (create c x (next_session t) (next_handle t) t)
 unfolding create
-step-create c x t w l =
+step-create c x n t w l =
     let s = next_session t in
     let h = next_handle t in
     let o = fact.Owned (owner.Fifo c s) in
     let y = fact.Session (created_session c x h) in
-    let n = taken_count t in
     let t1 = know x.uid t in
     let t2 = put (key.Owner h) o t1 in
     let t3 = put (key.Sess s) y t2 in
@@ -449,7 +474,7 @@ step-create c x t w l =
     let f = but-falls c s (value t) (value t4) (value u) f4 d.falls in
     let none : taken_length u s ≡ 0 = (let p = length-taken-less t u s (f.taken s) in let q = new-none t w in omega arith) in
     let P : SessId → Type 0 = λ r. taken_length u r ≡ 0 in
-    step-but c s (2 * n + 7) t u (omega arith) (omega arith) f (λ r e. elim (f.there r e) [ inl q ↦ inl (subst P (sym q) none) | inr j ↦ inr j ])
+    step-but c s (seat_marks n (seat_of x.seat) + 7) t u (omega arith) (omega arith) f (λ r e. elim (f.there r e) [ inl q ↦ inl (subst P (sym q) none) | inr j ↦ inr j ])
 
 -- ---- calls
 
@@ -476,11 +501,11 @@ signal-within : (who : KillWhom) (n : ℤ) (s : SessId) (t : Trail) → Within 1
 signal-within who n s t = plain-within (key.Sig s) (fact.Signal who n) t refl
 
 -- one mark
-step-one : {b : Bool} (t u : Trail) → Within 1 t u → Steps b t u
-step-one t u w = step-within 1 t u (omega arith) w
+step-one : {b : Bool} {m k : ℕ} (t u : Trail) → 1 ≤ m → Within 1 t u → Steps b m k t u
+step-one t u l w = step-within 1 t u l w
 
-step-activate : {b : Bool} (o : Option SessId) (t : Trail) → TakenWithin t → Steps b t (if_some activate o t)
-step-activate o t l = step-some activate o t (λ s. step-within (6 * taken_count t + 2) t (activate s t) (omega arith) (activate-within s t l))
+step-activate : {b : Bool} {k : ℕ} (o : Option SessId) (n : ℕ) (t : Trail) → TakeAtMost n t → Steps b (marks_over_devices n + marks_itself) k t (if_some activate o t)
+step-activate o n t l = step-some activate o t (λ s. step-within (6 * n + 2) t (activate s t) (omega arith) (activate-within s n t l))
 
 -- whether a call brings a session, control, a device or a lock
 abbrev pub brings_call : Call → Bool
@@ -490,19 +515,25 @@ brings_call (call.TakeDevice id d) = true
 brings_call (call.Inhibit x) = true
 brings_call _ = false
 
-pub step-call : (U : Setup) (c : ConnId) (x : Call) (t : Trail) → Unused t → TakenWithin t → Steps (brings_call x) t (direct_call U c x t)
-step-call U c (call.Create x) t w l = step-create c x t w l
-step-call U c (call.Activate id) t w l = step-activate (session_of id) t l
-step-call U c (call.ActivateOnSeat id seat) t w l = step-activate (session_of id) t l
-step-call U c (call.Lock id) t w l = step-some lock_session (session_of id) t (λ s. step-one t (lock_session s t) (say-within All (notice.Lock s) t))
-step-call U c (call.Unlock id) t w l = step-some unlock_session (session_of id) t (λ s. step-one t (unlock_session s t) (say-within All (notice.Unlock s) t))
+-- how many devices a call takes
+abbrev pub call_takes : Call → ℕ
+call_takes (call.TakeDevice id d) = 1
+call_takes _ = 0
+
+pub step-call : {n : ℕ} (U : Setup) (c : ConnId) (x : Call) (t : Trail) → Unused t → TakeAtMost n t → Steps (brings_call x) (call_marks n t x + marks_itself) (call_takes x) t (direct_call U c x t)
+step-call {n} U c (call.Create x) t w l =
+    step-more (seat_marks n (seat_of x.seat) + 7) (seat_marks n (seat_of x.seat) + marks_itself) t (direct_call U c (call.Create x) t) (omega arith) (step-create c x n t w l)
+step-call {n} U c (call.Activate id) t w l = step-activate (session_of id) n t l
+step-call {n} U c (call.ActivateOnSeat id seat) t w l = step-activate (session_of id) n t l
+step-call U c (call.Lock id) t w l = step-some lock_session (session_of id) t (λ s. step-one t (lock_session s t) (omega arith) (say-within All (notice.Lock s) t))
+step-call U c (call.Unlock id) t w l = step-some unlock_session (session_of id) t (λ s. step-one t (unlock_session s t) (omega arith) (say-within All (notice.Unlock s) t))
 step-call U c call.LockAll t w l =
     step-within (length (sessions t)) t (each lock_session (open_sessions t) t) (omega arith) (open-within lock_session (λ s u. say-within All (notice.Lock s) u) t)
 step-call U c call.UnlockAll t w l =
     step-within (length (sessions t)) t (each unlock_session (open_sessions t) t) (omega arith) (open-within unlock_session (λ s u. say-within All (notice.Unlock s) u) t)
 step-call U c (call.Kill id who signal) t w l =
     (let f = λ (s : SessId) (u : Trail). put (key.Sig s) (fact.Signal (whom_of who) signal) u in
-    step-some f (session_of id) t (λ s. step-one t (f s t) (signal-within (whom_of who) signal s t)))
+    step-some f (session_of id) t (λ s. step-one t (f s t) (omega arith) (signal-within (whom_of who) signal s t)))
 step-call U c (call.Terminate id) t w l =
     step-some shut (session_of id) t (λ s. (let a = l s in step-within (3 * taken_length t s + 4) t (shut s t) (omega arith) (shut-within s t)))
 step-call U c (call.TerminateUser u) t w l = step-within (3 * taken_count t + 4 * length (sessions t)) t (each shut (sessions_of t u.0) t) (omega arith) (shut-of u.0 t)
@@ -511,46 +542,47 @@ step-call U c (call.SetLinger u on) t w l =
     (let v = direct_call U c (call.SetLinger u on) t in step-within 3 t v (omega arith) (linger-within U (record { 0 = meant_user t c u.0 }) on t))
 step-call U c (call.SetIdle id on) t w l =
     (let f = λ (s : SessId) (u : Trail). put (key.Idle s) (fact.Flag on) u in
-    step-some f (session_of id) t (λ s. step-one t (f s t) (plain-within (key.Idle s) (fact.Flag on) t refl)))
+    step-some f (session_of id) t (λ s. step-one t (f s t) (omega arith) (plain-within (key.Idle s) (fact.Flag on) t refl)))
 step-call U c (call.SetLocked id on) t w l =
     (let f = λ (s : SessId) (u : Trail). put (key.Locked s) (fact.Flag on) u in
-    step-some f (session_of id) t (λ s. step-one t (f s t) (plain-within (key.Locked s) (fact.Flag on) t refl)))
-step-call U c (call.Control id force) t w l = step-some (control c) (session_of id) t (λ s. step-control c s t l)
+    step-some f (session_of id) t (λ s. step-one t (f s t) (omega arith) (plain-within (key.Locked s) (fact.Flag on) t refl)))
+step-call {n} U c (call.Control id force) t w l =
+    step-some (control c) (session_of id) t (λ s. step-more (4 * n + 1) (marks_over_devices n + marks_itself) t (control c s t) (omega arith) (step-control c s n t l))
 step-call U c (call.Uncontrol id) t w l =
     step-some release (session_of id) t (λ s. (let a = l s in step-within (3 * taken_length t s + 1) t (release s t) (omega arith) (release-within s t)))
-step-call U c (call.SwitchTo seat vt) t w l = step-within (5 * taken_count t + 1) t (direct_call U c (call.SwitchTo seat vt) t) (omega arith) (request-within vt t)
-step-call U c (call.SwitchToNext seat) t w l = step-within (6 * taken_count t + 2) t (direct_call U c (call.SwitchToNext seat) t) (omega arith) (next-within seat t l)
-step-call U c (call.SwitchToPrevious seat) t w l = step-within (6 * taken_count t + 2) t (direct_call U c (call.SwitchToPrevious seat) t) (omega arith) (previous-within seat t l)
+step-call {n} U c (call.SwitchTo seat vt) t w l = step-within (5 * n + 1) t (direct_call U c (call.SwitchTo seat vt) t) (omega arith) (request-within vt n t l)
+step-call {n} U c (call.SwitchToNext seat) t w l = step-within (6 * n + 2) t (direct_call U c (call.SwitchToNext seat) t) (omega arith) (next-within seat n t l)
+step-call {n} U c (call.SwitchToPrevious seat) t w l = step-within (6 * n + 2) t (direct_call U c (call.SwitchToPrevious seat) t) (omega arith) (previous-within seat n t l)
 step-call U c (call.KillUser u signal) t w l =
     (let f = λ (s : SessId) (v : Trail). put (key.Sig s) (fact.Signal whom.All signal) v in
     step-within (length (sessions t)) t (each f (sessions_of t u.0) t) (omega arith) (of-within f (signal-within whom.All signal) u.0 t))
 step-call U c (call.TakeDevice id d) t w l = step-some (λ s u. take_device c s d (next_handle u) u) (session_of id) t (λ s. step-take c s d (next_handle t) t)
 step-call U c (call.ReleaseDevice id d) t w l = step-some (λ s u. untake s d u) (session_of id) t (λ s. step-within 3 t (untake s d t) (omega arith) (untake-within s d t))
 step-call U c (call.PauseComplete id d) t w l = step-some (λ s u. acknowledge s d u) (session_of id) t (λ s. step-within 2 t (acknowledge s d t) (omega arith) (acknowledge-within s d t))
-step-call U c (call.SetMode h mode) t w l = step-one t (set_mode (value t (key.Owner h)) mode t) (mode-within (value t (key.Owner h)) mode t)
+step-call U c (call.SetMode h mode) t w l = step-one t (set_mode (value t (key.Owner h)) mode t) (omega arith) (mode-within (value t (key.Owner h)) mode t)
 step-call U c (call.Power k) t w l = step-within 2 t (ask_operation k (is_blocked t k) t) (omega arith) (ask-within k (is_blocked t k) t)
 step-call U c (call.Inhibit x) t w l = step-inhibit (asked_lock c (record { 0 = uid_of t c }) x) (next_lock t) (next_handle t) t
-step-call U c (call.Close h) t w l = step-within (3 * taken_count t + 5) t (direct_call U c (call.Close h) t) (omega arith) (close-within h t l)
+step-call {n} U c (call.Close h) t w l = step-within (3 * n + 5) t (direct_call U c (call.Close h) t) (omega arith) (close-within h n t l)
 step-call U c _ t w l = step-refl t
 
 -- ---- events
 
-step-press : (x : KeyAction) (t : Trail) → Steps false t (press x t)
+step-press : {k : ℕ} (x : KeyAction) (t : Trail) → Steps false (length (sessions t) + marks_itself) k t (press x t)
 step-press does.Ignore t = step-refl t
 step-press does.Lock t =
     step-within (length (sessions t)) t (each lock_session (open_sessions t) t) (omega arith) (open-within lock_session (λ s u. say-within All (notice.Lock s) u) t)
 step-press (does.Operation k) t = step-within 2 t (ask_operation k (is_blocked t k) t) (omega arith) (ask-within k (is_blocked t k) t)
 
-step-happen : (U : Setup) (x : Hardware) (t : Trail) → TakenWithin t → Steps false t (happen U x t)
-step-happen U (VtKey vt) t l = step-within (5 * taken_count t + 1) t (happen U (VtKey vt) t) (omega arith) (request-within vt t)
-step-happen U (Exit id) t l =
-    step-some (exit U) (session_of id) t (λ s. step-within (3 * taken_count t + 8) t (exit U s t) (omega arith) (exit-within U s t l))
-step-happen U (Add d kind seat) t l = step-within 3 t (add_device d kind seat t) (omega arith) (add-within d kind seat t)
-step-happen U (Remove d) t l = step-within (3 * taken_count t + 8 * length (sessions t) + 4) t (remove_device d t) (omega arith) (remove-within d t)
-step-happen U (HardKeyPressed k) t l = step-press (key_action U t k) t
-step-happen U (Dock on) t l = step-one t (put key.Docked (fact.Flag on) t) (plain-within key.Docked (fact.Flag on) t refl)
-step-happen U JobDone t l = step-within 2 t (job_done t) (omega arith) (done-within t)
-step-happen U _ t l = step-refl t
+step-happen : {k : ℕ} (U : Setup) (x : Hardware) (n : ℕ) (t : Trail) → TakeAtMost n t → Steps false (hardware_marks n t x + marks_itself) k t (happen U x t)
+step-happen U (VtKey vt) n t l = step-within (5 * n + 1) t (happen U (VtKey vt) t) (omega arith) (request-within vt n t l)
+step-happen U (Exit id) n t l =
+    step-some (exit U) (session_of id) t (λ s. step-within (3 * n + 8) t (exit U s t) (omega arith) (exit-within U s n t l))
+step-happen U (Add d kind seat) n t l = step-within 3 t (add_device d kind seat t) (omega arith) (add-within d kind seat t)
+step-happen U (Remove d) n t l = step-within (3 * taken_count t + 8 * length (sessions t) + 4) t (remove_device d t) (omega arith) (remove-within d t)
+step-happen U (HardKeyPressed k) n t l = step-press (key_action U t k) t
+step-happen U (Dock on) n t l = step-one t (put key.Docked (fact.Flag on) t) (omega arith) (plain-within key.Docked (fact.Flag on) t refl)
+step-happen U JobDone n t l = step-within 2 t (job_done t) (omega arith) (done-within t)
+step-happen U _ n t l = step-refl t
 
 -- whether an event does, or a connection
 abbrev pub brings : Event → Bool
@@ -558,14 +590,19 @@ brings (Calls q) = brings_call q.call
 brings (Connect c u) = true
 brings _ = false
 
-pub step-direct : (U : Setup) (e : Event) (t : Trail) → (IsDisconnect e → ⊥) → Unused t → TakenWithin t → Steps (brings e) t (direct U e t)
+-- how many devices an event takes
+abbrev pub event_takes : Event → ℕ
+event_takes (Calls q) = call_takes q.call
+event_takes _ = 0
+
+pub step-direct : {n : ℕ} (U : Setup) (e : Event) (t : Trail) → (IsDisconnect e → ⊥) → Unused t → TakeAtMost n t → Steps (brings e) (marks_over n t e + marks_itself) (event_takes e) t (direct U e t)
 unfolding direct
-step-direct U (Connect c u) t n w l = step-connect c (fact.Connected u) t
-step-direct U (Disconnect c) t n w l = absurd (n tt)
-step-direct U (Calls r) t n w l = step-call U r.who r.call t w l
-step-direct U (Happens x) t n w l = step-happen U x t l
-step-direct U (Tick m) t n w l = step-within (2 * length (users t) + 1) t (direct U (Tick m) t) (omega arith) (tick-within U m t)
-step-direct U Stop t n w l = step-refl t
+step-direct U (Connect c u) t d w l = step-connect c (fact.Connected u) t (omega arith)
+step-direct U (Disconnect c) t d w l = absurd (d tt)
+step-direct U (Calls r) t d w l = step-call U r.who r.call t w l
+step-direct {n} U (Happens x) t d w l = step-happen U x n t l
+step-direct U (Tick m) t d w l = step-within (2 * length (users t) + 1) t (direct U (Tick m) t) (omega arith) (tick-within U m t)
+step-direct U Stop t d w l = step-refl t
 
 -- a session takes no more than all do
 taken-at : (b : Bool) (t : Trail) (s : SessId) → is_session t s ≡ b → Good none_out t → taken_length t s ≤ taken_count t
@@ -578,149 +615,44 @@ taken-at false t s e g =
 pub taken-within : (t : Trail) → Good none_out t → TakenWithin t
 taken-within t g s = taken-at (is_session t s) t s refl g
 
--- ---- events that make few marks
-
--- so many more at most
-abbrev Adds : ℕ → Trail → Trail → Type 0
-Adds n t u = length u ≤ length t + n
-
-adds : (n m : ℕ) (t u : Trail) → n ≤ m → Within n t u → Adds m t u
-adds n m t u l w = let k = w.marks in omega arith
-
-adds-some : {A : Type 0} (n : ℕ) (f : A → Trail → Trail) (o : Option A) (t : Trail) → ((x : A) → Adds n t (f x t)) → Adds n t (if_some f o t)
-adds-some n f None t step = omega arith
-adds-some n f (Some x) t step = step x
-
-take-adds : (c : ConnId) (s : SessId) (d : DevNo) (h : HandleNo) (t : Trail) → Adds 3 t (take_device c s d h t)
-unfolding take_device
-take-adds c s d h t =
-    let o = fact.Owned (owner.Device c s d) in
-    let x = fact.Handle h in
-    let a = put (key.Owner h) o t in
-    let b = put (key.Taken s d) x a in
-    let m = put-length (key.Owner h) o t in
-    let n = put-length (key.Taken s d) x a in
-    let k = (enliven-within h (is_active t s) b).marks in
-    omega arith
-
-inhibit-adds : (x : Lock) (l : LockNo) (h : HandleNo) (t : Trail) → Adds 3 t (inhibit x l h t)
-inhibit-adds x l h t =
-    let u = put (key.Lock l) (fact.Lock x) t in
-    let m = put-length (key.Lock l) (fact.Lock x) t in
-    let n = put-length (key.Owner h) (fact.Owned (owner.Lock x.holder l)) u in
-    omega arith
-
--- a call that goes over nothing
-call-adds : (U : Setup) (c : ConnId) (x : Call) (t : Trail) → call_goes_over x ≡ false → Adds 3 t (direct_call U c x t)
-call-adds U c (call.Create x) t e = cc
-call-adds U c (call.Activate id) t e = cc
-call-adds U c (call.ActivateOnSeat id seat) t e = cc
-call-adds U c call.LockAll t e = cc
-call-adds U c call.UnlockAll t e = cc
-call-adds U c (call.Terminate id) t e = cc
-call-adds U c (call.TerminateUser u) t e = cc
-call-adds U c (call.TerminateSeat seat) t e = cc
-call-adds U c (call.Control id force) t e = cc
-call-adds U c (call.Uncontrol id) t e = cc
-call-adds U c (call.SwitchTo seat vt) t e = cc
-call-adds U c (call.SwitchToNext seat) t e = cc
-call-adds U c (call.SwitchToPrevious seat) t e = cc
-call-adds U c (call.KillUser u signal) t e = cc
-call-adds U c (call.Close h) t e = cc
-call-adds U c (call.Lock id) t e = adds-some 3 lock_session (session_of id) t (λ s. adds 1 3 t (lock_session s t) (omega arith) (say-within All (notice.Lock s) t))
-call-adds U c (call.Unlock id) t e = adds-some 3 unlock_session (session_of id) t (λ s. adds 1 3 t (unlock_session s t) (omega arith) (say-within All (notice.Unlock s) t))
-call-adds U c (call.Kill id who signal) t e =
-    (let f = λ (s : SessId) (u : Trail). put (key.Sig s) (fact.Signal (whom_of who) signal) u in
-    adds-some 3 f (session_of id) t (λ s. adds 1 3 t (f s t) (omega arith) (signal-within (whom_of who) signal s t)))
-call-adds U c (call.SetLinger u on) t e =
-    (let v = direct_call U c (call.SetLinger u on) t in adds 3 3 t v (omega arith) (linger-within U (record { 0 = meant_user t c u.0 }) on t))
-call-adds U c (call.SetIdle id on) t e =
-    (let f = λ (s : SessId) (u : Trail). put (key.Idle s) (fact.Flag on) u in
-    adds-some 3 f (session_of id) t (λ s. adds 1 3 t (f s t) (omega arith) (plain-within (key.Idle s) (fact.Flag on) t refl)))
-call-adds U c (call.SetLocked id on) t e =
-    (let f = λ (s : SessId) (u : Trail). put (key.Locked s) (fact.Flag on) u in
-    adds-some 3 f (session_of id) t (λ s. adds 1 3 t (f s t) (omega arith) (plain-within (key.Locked s) (fact.Flag on) t refl)))
-call-adds U c (call.TakeDevice id d) t e = adds-some 3 (λ s u. take_device c s d (next_handle u) u) (session_of id) t (λ s. take-adds c s d (next_handle t) t)
-call-adds U c (call.ReleaseDevice id d) t e = adds-some 3 (λ s u. untake s d u) (session_of id) t (λ s. adds 3 3 t (untake s d t) (omega arith) (untake-within s d t))
-call-adds U c (call.PauseComplete id d) t e = adds-some 3 (λ s u. acknowledge s d u) (session_of id) t (λ s. adds 2 3 t (acknowledge s d t) (omega arith) (acknowledge-within s d t))
-call-adds U c (call.SetMode h mode) t e = (let x = value t (key.Owner h) in adds 1 3 t (set_mode x mode t) (omega arith) (mode-within x mode t))
-call-adds U c (call.Power k) t e = (let b = is_blocked t k in adds 2 3 t (ask_operation k b t) (omega arith) (ask-within k b t))
-call-adds U c (call.Inhibit x) t e = inhibit-adds (asked_lock c (record { 0 = uid_of t c }) x) (next_lock t) (next_handle t) t
-call-adds U c _ t e = omega arith
-
-happen-adds : (U : Setup) (x : Hardware) (t : Trail) → hardware_goes_over x ≡ false → Adds 3 t (happen U x t)
-happen-adds U (VtKey vt) t e = cc
-happen-adds U (Exit id) t e = cc
-happen-adds U (Remove d) t e = cc
-happen-adds U (HardKeyPressed k) t e = cc
-happen-adds U (Add d kind seat) t e = adds 3 3 t (add_device d kind seat t) (omega arith) (add-within d kind seat t)
-happen-adds U (Dock on) t e = adds 1 3 t (put key.Docked (fact.Flag on) t) (omega arith) (plain-within key.Docked (fact.Flag on) t refl)
-happen-adds U JobDone t e = adds 2 3 t (job_done t) (omega arith) (done-within t)
-happen-adds U _ t e = omega arith
-
-direct-adds : (U : Setup) (e : Event) (t : Trail) → (IsDisconnect e → ⊥) → goes_over e ≡ false → Adds (cond (goes_over_users e) (marks_over_users t) 0 + 3) t (direct U e t)
-unfolding direct
-direct-adds U (Connect c u) t n f = (let m = put-length (key.Conn c) (fact.Connected u) t in omega arith)
-direct-adds U (Disconnect c) t n f = absurd (n tt)
-direct-adds U (Calls r) t n f = (let m = call-adds U r.who r.call t f in omega arith)
-direct-adds U (Happens x) t n f = (let m = happen-adds U x t f in omega arith)
-direct-adds U (Tick m) t n f = adds (2 * length (users t) + 1) (marks_over_users t + 3) t (direct U (Tick m) t) (omega arith) (tick-within U m t)
-direct-adds U Stop t n f = omega arith
-
--- what asks for a terminal goes over what is taken
-call-over : (t : Trail) (x : Call) (v : ℕ) → call_vt t x ≡ Some v → call_goes_over x ≡ false → ⊥
-call-over t (call.Activate id) v e f = cc
-call-over t (call.ActivateOnSeat id seat) v e f = cc
-call-over t (call.SwitchTo seat vt) v e f = cc
-call-over t (call.SwitchToNext seat) v e f = cc
-call-over t (call.SwitchToPrevious seat) v e f = cc
-call-over t _ v e f = (let z : None ≡ Some v = e in cc)
-
-hardware-over : (t : Trail) (x : Hardware) (v : ℕ) → asked_vt t (Happens x) ≡ Some v → hardware_goes_over x ≡ false → ⊥
-unfolding asked_vt
-hardware-over t (VtKey vt) v e f = cc
-hardware-over t _ v e f = (let z : None ≡ Some v = e in cc)
-
-asks-over : (t : Trail) (e : Event) (v : ℕ) → asked_vt t e ≡ Some v → goes_over e ≡ false → ⊥
-unfolding asked_vt
-asks-over t (Calls r) v e f = call-over t r.call v e f
-asks-over t (Happens x) v e f = hardware-over t x v e f
-asks-over t _ v e f = (let z : None ≡ Some v = e in cc)
-
--- so no switch is pending behind an event that goes over nothing, where none was
-calm-over : (U : Setup) (e : Event) (t : Trail) → goes_over e ≡ false → is_number_fact (value t key.Pending) ≡ false → is_number_fact (value (direct U e t) key.Pending) ≡ false
-calm-over U e t f p = elim (direct-calm U e t) [
-  | inl k ↦ ap is_number_fact k.pending ∙ p
-  | inr q ↦ absurd (asks-over t e q.0 q.1 f)
-]
-
--- and nothing completes
-not-pending : (x : Fact) (conf : Conf) (t : Trail) → is_number_fact x ≡ false → complete conf x t ≡ t
-not-pending (fact.Number v) conf t e = absurd (let z : true ≡ false = e in cc)
-not-pending _ conf t e = refl
-
-none-completes : (conf : Conf) (t : Trail) → is_number_fact (value t key.Pending) ≡ false → settle_switch conf t ≡ t
-unfolding settle_switch
-none-completes conf t e = not-pending (value t key.Pending) conf t e
-
-operation-adds : (U : Setup) (t : Trail) → Adds 1 t (settle_operation U.conf t)
-unfolding settle_operation
-operation-adds U t = (start-within (value t key.Op) U t).marks
-
-neither : (a b : Bool) → (a || b) ≡ false → (a ≡ false) × (b ≡ false)
-neither true b e = cc
-neither false b e = (refl, e)
-
-few-marks : (U : Setup) (e : Event) (t : Trail) → (IsDisconnect e → ⊥) → is_wide t e ≡ false → length (settle U (direct U e t)) ≤ length t + (cond (goes_over_users e) (marks_over_users t) 0 + marks_beside)
-few-marks U e t n f =
-    let g = neither (goes_over e) (is_number_fact (value t key.Pending)) f in
-    let u = direct U e t in
-    let a = direct-adds U e t n g.0 in
-    let s = ap length (none-completes U.conf u (calm-over U e t g.0 g.1)) in
-    let o = operation-adds U (settle_switch U.conf u) in
-    omega arith
-
 -- ---- with what is settled
+
+-- what asks for a terminal turns
+call-over : (t : Trail) (x : Call) (v : ℕ) → call_vt t x ≡ Some v → call_turns x ≡ true
+call-over t (call.Activate id) v e = refl
+call-over t (call.ActivateOnSeat id seat) v e = refl
+call-over t (call.SwitchTo seat vt) v e = refl
+call-over t (call.SwitchToNext seat) v e = refl
+call-over t (call.SwitchToPrevious seat) v e = refl
+call-over t _ v e = (let z : None ≡ Some v = e in cc)
+
+hardware-over : (t : Trail) (x : Hardware) (v : ℕ) → asked_vt t (Happens x) ≡ Some v → hardware_turns x ≡ true
+unfolding asked_vt
+hardware-over t (VtKey vt) v e = refl
+hardware-over t _ v e = (let z : None ≡ Some v = e in cc)
+
+pub asks-over : (t : Trail) (e : Event) (v : ℕ) → asked_vt t e ≡ Some v → asks_to_turn e ≡ true
+unfolding asked_vt
+asks-over t (Calls r) v e = call-over t r.call v e
+asks-over t (Happens x) v e = hardware-over t x v e
+asks-over t _ v e = (let z : None ≡ Some v = e in cc)
+
+or-second : (a b : Bool) → b ≡ true → (a || b) ≡ true
+or-second true b e = refl
+or-second false b e = e
+
+or-first : (a b : Bool) → a ≡ true → (a || b) ≡ true
+or-first true b e = refl
+or-first false b e = absurd (let z : false ≡ true = e in cc)
+
+-- so a switch is pending behind an event only where one may be
+pending-may : (U : Setup) (e : Event) (t : Trail) → is_number_fact (value (direct U e t) key.Pending) ≡ true → may_switch t e ≡ true
+pending-may U e t p =
+    let b = is_number_fact (value t key.Pending) in
+    elim (direct-calm U e t) [
+      | inl k ↦ or-first b (asks_to_turn e) (ap is_number_fact (sym k.pending) ∙ p)
+      | inr q ↦ or-second b (asks_to_turn e) (asks-over t e q.0 q.1)
+    ]
 
 switch-at : (b : Bool) (n : ℕ) → cond b (8 * n + 8) 0 ≤ 8 * n + 8
 switch-at true n = omega arith
@@ -729,37 +661,46 @@ switch-at false n = omega arith
 switch-most : (t : Trail) → switch_need t ≤ 8 * taken_count t + 8
 switch-most t = switch-at (is_number_fact (value t key.Pending)) (taken_count t)
 
--- where an event may make many marks, and where it makes few
-most-at : (w : Bool) (n k m : ℕ) (t u : Trail) → (w ≡ true → length u ≤ length t + (n + m)) → (w ≡ false → length u ≤ length t + (k + m)) → length u ≤ length t + (cond w n k + m)
-most-at true n k m t u f g = f refl
-most-at false n k m t u f g = g refl
+pub one-more : (e : Event) → event_takes e ≤ 1
+one-more (Calls q) = of-call q.call
+  where
+    of-call : (x : Call) → call_takes x ≤ 1
+    of-call (call.TakeDevice id d) = omega arith
+    of-call _ = omega arith
+one-more _ = omega arith
 
-settle-step : {b : Bool} (U : Setup) (e : Event) (t u : Trail) → (is_wide t e ≡ false → length (settle U u) ≤ length t + (cond (goes_over_users e) (marks_over_users t) 0 + marks_beside)) → Steps b t u → IsWithin e t (settle U u)
-settle-step U e t u few p =
+-- the marks of a switch, where one session has taken one device more than before at most
+marks-at : (p m : Bool) (n a b c : ℕ) → (p ≡ true → m ≡ true) → c ≤ b + (cond p (6 * (n + 1) + 4) 0 + 1) → b ≤ a + marks_itself → c ≤ a + cond m (6 * n) 0 + marks_beside
+marks-at true true n a b c f l k = omega arith
+marks-at true false n a b c f l k = (let z = f refl in cc)
+marks-at false true n a b c f l k = omega arith
+marks-at false false n a b c f l k = omega arith
+
+settle-step : {b : Bool} (U : Setup) (n k : ℕ) (e : Event) (t u : Trail) → k ≤ 1 → TakeAtMost n t → (is_number_fact (value u key.Pending) ≡ true → may_switch t e ≡ true)
+    → Steps b (marks_over n t e + marks_itself) k t u → IsWithin n e t (settle U u)
+settle-step U n k e t u o l may p =
     let v = settle U u in
-    let w = settle-within U u in
+    let there : ThereAtMost (n + 1) u = λ s z. (let i = p.of_each s in let j = l s in omega arith) in
+    let w = settle-within U (n + 1) u there in
     let c = counted u v w.falls in
-    let m1 = p.marks in let m2 = w.marks in
+    let m1 = p.marks in let m2 = settle-adds U (n + 1) u there in
     let a1 = p.taken in let a2 = p.rises in
     let b1 = c.connected in let b2 = c.controlled in let b3 = c.taken in let b4 = c.opened in let b5 = c.locked in
     let s = switch-most v in
-    let n = need-is t in let k = need-is v in
-    record {
-      marks = most-at (is_wide t e) (marks_over_all t) (cond (goes_over_users e) (marks_over_users t) 0) marks_beside t v (λ y. omega arith) few;
-      need_rises = omega arith;
-      takes = omega arith;
-    }
+    let i = need-is t in let j = need-is v in
+    let m = marks-at (is_number_fact (value u key.Pending)) (may_switch t e) n (length t + marks_over n t e) (length u) (length v) may m2 (omega arith) in
+    record { marks = omega arith; need_rises = omega arith; takes = omega arith }
 
 none-more : (n : ℕ) (t : Trail) → length t ≤ length t + n
 none-more n t = omega arith
 
-other-by : (v : Verdict) (U : Setup) (e : Event) (t : Trail) → IsSound U t → (IsDisconnect e → ⊥) → IsWithin e t (stepped U v e t)
-other-by Granted U e t s n = (let g = good-sound t s.between in settle-step U e t (direct U e t) (few-marks U e t n) (step-direct U e t n g.unused (taken-within t g)))
-other-by (Denied r) U e t s n = record { marks = none-more (most_marks t e) t; need_rises = omega arith; takes = omega arith }
+other-by : (v : Verdict) (U : Setup) (n : ℕ) (e : Event) (t : Trail) → IsSound U t → TakeAtMost n t → (IsDisconnect e → ⊥) → IsWithin n e t (stepped U v e t)
+other-by Granted U n e t s l d = (let g = good-sound t s.between in settle-step U n (event_takes e) e t (direct U e t) (one-more e) l (pending-may U e t) (step-direct U e t d g.unused l))
+other-by (Denied r) U n e t s l d = record { marks = none-more (most_marks n t e) t; need_rises = omega arith; takes = omega arith }
 
 -- another event stays within both sums
-pub other : (U : Setup) (t : Trail) (e : Event) → IsSound U t → (IsDisconnect e → ⊥) → IsWithin e t (stepped U (verdict U t e) e t)
-other U t e s n = other-by (verdict U t e) U e t s n
+pub other : (U : Setup) (n : ℕ) (t : Trail) (e : Event) → IsSound U t → TakeAtMost n t → (IsDisconnect e → ⊥) → IsWithin n e t (stepped U (verdict U t e) e t)
+other U n t e s l d = other-by (verdict U t e) U n e t s l d
 
 -- a disconnect takes no device
 ends-take : (U : Setup) (t : Trail) (c : ConnId) → IsSound U t → is_connected t c ≡ true → taken_count (stepped U Granted (Disconnect c) t) ≤ taken_count t
@@ -768,8 +709,15 @@ ends-take U t c s e =
     let g = good-sound t s.between in
     let u = disconnect c t in
     let a = (counted t u (pays-disconnect c t g (good-disconnect c t g)).falls).taken in
-    let b = (counted u (settle U u) (settle-within U u).falls).taken in
+    let b = (counted u (settle U u) (settle-within U (taken_count u) u (taken-there u)).falls).taken in
+    omega arith
+
+any : (U : Setup) (t : Trail) (e : Event) → IsSound U t → (IsDisconnect e → ⊥) → length (stepped U (verdict U t e) e t) ≤ length t + most_of_any t
+any U t e s d =
+    let n = taken_count t in
+    let w = (other U n t e s (taken-within t (good-sound t s.between)) d).marks in
+    let l = most-less n t e (omega arith) in
     omega arith
 
 pub room-is-kept : (U : Setup) → RoomIsKept U
-room-is-kept U = record { other = other U; ends = ends U; ends_take = ends-take U; stop = stop-stays U; room = room }
+room-is-kept U = record { other = other U; any = any U; ends = ends U; ends_take = ends-take U; stop = stop-stays U; room = room }

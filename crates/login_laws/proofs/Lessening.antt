@@ -51,7 +51,7 @@ use Rattle.login_laws.proofs.ProcedureMarks.{release-within, shut-within}
 use Rattle.login_laws.proofs.SessionSteps.{on-terminal-open}
 use Rattle.login_laws.proofs.Settling.{moved}
 use Rattle.login_laws.proofs.SoundLaws.{controller-is}
-use Rattle.login_laws.proofs.WithinLaws.{falls-put}
+use Rattle.login_laws.proofs.WithinLaws.{falls-put, taken-there}
 
 -- no more than before, and so with the front of seat0 while a switch is pending
 pub record Lessens (t u : Trail) : Type 0 where
@@ -134,7 +134,7 @@ complete-by false conf v t e p g =
     (let m = moved conf v none_out t (g.holds.terminals.3 v p).0 (λ s d z. awaiting-none t s d e z) g in
     record {
       good = m.good;
-      falls = (move-within conf v t).falls;
+      falls = (move-within conf v (taken_count t) t (taken-there t)).falls;
       front = λ z. absurd (let y : is_number_fact fact.Absent ≡ true = ap is_number_fact (sym m.pending) ∙ z in cc);
     })
 

@@ -53,6 +53,7 @@ pub mod PayingMoves
 pub mod NeedLaws
 pub mod ProcedureMarks
 pub mod EventMarks
+pub mod FewTaken
 pub mod Keying
 pub mod KeyEnds
 pub mod KeyMoves

@@ -32,7 +32,7 @@ use Rattle.login_model.proofs.Keys.{test}
 use Rattle.login_laws.proofs.Operations.{held-lock, held-some, some-held}
 use Rattle.login_laws.proofs.Stays.{LocksFall, disconnect-stays, stays-trans, still-stays, switch-still}
 use Rattle.login_model.proofs.Values.{value-put}
-use Rattle.login_laws.proofs.WithinLaws.{Within, plain-within}
+use Rattle.login_laws.proofs.WithinLaws.{Within, plain-within, taken-there}
 use Rattle.login_laws.proofs.Holds.{none_out}
 use Rattle.login_laws.proofs.Loops.{awaiting-none}
 use Rattle.login_laws.proofs.Giving.{Good}
@@ -80,7 +80,7 @@ complete-by false conf v t e p g =
     (let u = move_to conf v (active_on t seat0) t in
     let q = (g.holds.terminals.3 v p).0 in
     let n : NoneAwaited t = λ s d z. awaiting-none t s d e z in
-    let w = move-within conf v t in
+    let w = move-within conf v (taken_count t) t (taken-there t) in
     let m = moved conf v none_out t q n g in
     let a = need-is u in let b = need-is t in
     let c = switch-on t (ap is_number_fact p) in

@@ -31,13 +31,14 @@ use Rattle.login_model.specs.declared.fact.Fact.TheVariants as fact
 use Rattle.login_model.specs.declared.fact.Owner.TheVariants as owner
 use Rattle.login_model.proofs.InOrder.{filter-ascending, filter-in}
 use Rattle.login_model.proofs.Values.{Facts, given, true-false, upd, value-put, was}
+use Rattle.login_laws.specs.Few.{TakeAtMost}
 use Rattle.login_laws.proofs.SessionSteps.{open-there}
 use Rattle.login_laws.proofs.Loops.{each-keeps}
 use Rattle.login_laws.proofs.Counts.{length-taken-less, sessions-ascending, taken-among, taken-by-less, taken_length}
 use Rattle.login_laws.proofs.Paying.{Falls}
 use Rattle.login_laws.proofs.PayingEnds.{falls-control, falls-lock}
 use Rattle.login_laws.proofs.PayingMoves.{force-within, resume-within}
-use Rattle.login_laws.proofs.WithinLaws.{Within, active-taken, filter-length, falls-within, owner-within, plain-within, say-within, tell-within, within-each, within-if, within-later, within-more, within-refl, within-some, within-trans}
+use Rattle.login_laws.proofs.WithinLaws.{Within, filter-length, falls-within, owner-within, plain-within, say-within, tell-within, within-each, within-if, within-later, within-more, within-refl, within-some, within-trans}
 
 -- ---- giving back
 
@@ -197,13 +198,12 @@ take_seat-within seat s o n t l =
     let c = within-trans (2 * n + 1) 1 t v (tell_all x v) b (say-within All x v) in
     within-more (2 * n + 1 + 1) (2 * n + 2) t (tell_all x v) (omega arith) c
 
-pub front-within : (seat : List ℕ) (s : SessId) (t : Trail) → taken_length t s ≤ taken_count t → Within (6 * taken_count t + 2) t (front seat s t)
+pub front-within : (seat : List ℕ) (s : SessId) (n : ℕ) (t : Trail) → TakeAtMost n t → Within (6 * n + 2) t (front seat s t)
 unfolding front
-front-within seat s t l =
-    let n = taken_count t in
+front-within seat s n t l =
     let o = active_on t seat in
     let u = take_seat seat s o t in
-    let a = within-later 4 resume resume-within s t u (2 * n + 2) n l (take_seat-within seat s o n t (active-taken t seat)) in
+    let a = within-later 4 resume resume-within s t u (2 * n + 2) n (l s) (take_seat-within seat s o n t (λ r e. l r)) in
     within-if (is_active t s) (6 * n + 2) t t (resume s u) (within-refl (6 * n + 2) t) (within-more (2 * n + 2 + 4 * n) (6 * n + 2) t (resume s u) (omega arith) a)
 
 -- ---- users
@@ -277,94 +277,90 @@ pub some-later : (k : ℕ) (f : SessId → Trail → Trail) → ((s : SessId) (t
 some-later k f step None t u m n l w = within-more m (m + k * n) t u (omega arith) w
 some-later k f step (Some s) t u m n l w = within-later k f step s t u m n (l s refl) w
 
-ask-within : (v : ℕ) (b : Bool) (t : Trail) → Within (5 * taken_count t + 1) t (ask_switch v b t)
-ask-within v true t = within-more 1 (5 * taken_count t + 1) t (put key.Pending (fact.Number v) t) (omega arith) (plain-within key.Pending (fact.Number v) t refl)
-ask-within v false t =
-    (let n = taken_count t in
-    let o = active_on t seat0 in
+ask-within : (v : ℕ) (b : Bool) (n : ℕ) (t : Trail) → TakeAtMost n t → Within (5 * n + 1) t (ask_switch v b t)
+ask-within v true n t l = within-more 1 (5 * n + 1) t (put key.Pending (fact.Number v) t) (omega arith) (plain-within key.Pending (fact.Number v) t refl)
+ask-within v false n t l =
+    (let o = active_on t seat0 in
     let u = put key.Pending (fact.Number v) t in
-    let a = some-later 2 await_devices await-within o t u 1 n (active-taken t seat0) (plain-within key.Pending (fact.Number v) t refl) in
+    let a = some-later 2 await_devices await-within o t u 1 n (λ s e. l s) (plain-within key.Pending (fact.Number v) t refl) in
     within-more (1 + 2 * n) (5 * n + 1) t (if_some await_devices o u) (omega arith) a)
 
-withdraw-within : (t : Trail) → Within (5 * taken_count t + 1) t (withdraw_switch t)
-withdraw-within t =
-    let n = taken_count t in
+withdraw-within : (n : ℕ) (t : Trail) → TakeAtMost n t → Within (5 * n + 1) t (withdraw_switch t)
+withdraw-within n t l =
     let o = active_on t seat0 in
     let u = put key.Pending fact.Absent t in
     let v = if_some unawait_devices o u in
-    let a = some-later 1 unawait_devices unawait-within o t u 1 n (active-taken t seat0) (plain-within key.Pending fact.Absent t refl) in
-    let b = some-later 4 resume resume-within o t v (1 + 1 * n) n (active-taken t seat0) a in
+    let a = some-later 1 unawait_devices unawait-within o t u 1 n (λ s e. l s) (plain-within key.Pending fact.Absent t refl) in
+    let b = some-later 4 resume resume-within o t v (1 + 1 * n) n (λ s e. l s) a in
     within-more (1 + 1 * n + 4 * n) (5 * n + 1) t (if_some resume o v) (omega arith) b
 
-pub request-within : (v : ℕ) (t : Trail) → Within (5 * taken_count t + 1) t (request v t)
+pub request-within : (v n : ℕ) (t : Trail) → TakeAtMost n t → Within (5 * n + 1) t (request v t)
 unfolding request
-request-within v t =
-    let n = 5 * taken_count t + 1 in
+request-within v n t l =
+    let m = 5 * n + 1 in
     let b = is_number_fact (value t key.Pending) in
-    within-if (v == current_vt t) n t (cond b (withdraw_switch t) t) (ask_switch v b t)
-    (within-if b n t (withdraw_switch t) t (withdraw-within t) (within-refl n t)) (ask-within v b t)
+    within-if (v == current_vt t) m t (cond b (withdraw_switch t) t) (ask_switch v b t)
+    (within-if b m t (withdraw_switch t) t (withdraw-within n t l) (within-refl m t)) (ask-within v b n t l)
 
 -- ---- bringing to a seat
 
 abbrev pub TakenWithin : Trail → Type 0
-TakenWithin t = (s : SessId) → taken_length t s ≤ taken_count t
+TakenWithin t = TakeAtMost (taken_count t) t
 
-request-front : (v : ℕ) (t : Trail) → Within (6 * taken_count t + 2) t (request v t)
-request-front v t = within-more (5 * taken_count t + 1) (6 * taken_count t + 2) t (request v t) (omega arith) (request-within v t)
+request-front : (v n : ℕ) (t : Trail) → TakeAtMost n t → Within (6 * n + 2) t (request v t)
+request-front v n t l = within-more (5 * n + 1) (6 * n + 2) t (request v t) (omega arith) (request-within v n t l)
 
-activate-by : (o : Option (List ℕ)) (s : SessId) (t : Trail) → TakenWithin t → Within (6 * taken_count t + 2) t (activate_on o s t)
-activate-by None s t l = within-refl (6 * taken_count t + 2) t
-activate-by (Some seat) s t l =
+activate-by : (o : Option (List ℕ)) (s : SessId) (n : ℕ) (t : Trail) → TakeAtMost n t → Within (6 * n + 2) t (activate_on o s t)
+activate-by None s n t l = within-refl (6 * n + 2) t
+activate-by (Some seat) s n t l =
     (let v = vt_in (value t (key.Sess s)) in
-    within-if (bytes_eq seat seat0) (6 * taken_count t + 2) t (request v t) (front seat s t) (request-front v t) (front-within seat s t (l s)))
+    within-if (bytes_eq seat seat0) (6 * n + 2) t (request v t) (front seat s t) (request-front v n t l) (front-within seat s n t l))
 
-pub activate-within : (s : SessId) (t : Trail) → TakenWithin t → Within (6 * taken_count t + 2) t (activate s t)
+pub activate-within : (s : SessId) (n : ℕ) (t : Trail) → TakeAtMost n t → Within (6 * n + 2) t (activate s t)
 unfolding activate
-activate-within s t l = activate-by (seat_of_session t s) s t l
+activate-within s n t l = activate-by (seat_of_session t s) s n t l
 
-turn-within : (terminal : Option ℕ → List ℕ → Option ℕ) (session : Option SessId → List SessId → Option SessId) (seat : List ℕ) (t : Trail) → TakenWithin t
-    → Within (6 * taken_count t + 2) t (turn terminal session seat t)
-turn-within terminal session seat t l =
-    let n = 6 * taken_count t + 2 in
+turn-within : (terminal : Option ℕ → List ℕ → Option ℕ) (session : Option SessId → List SessId → Option SessId) (seat : List ℕ) (n : ℕ) (t : Trail) → TakeAtMost n t
+    → Within (6 * n + 2) t (turn terminal session seat t)
+turn-within terminal session seat n t l =
+    let m = 6 * n + 2 in
     let o = terminal (Some (current_vt t)) (open_terminals t) in
     let r = session (active_on t seat) (open_on t seat) in
-    within-if (bytes_eq seat seat0) n t (if_some request o t) (if_some (front seat) r t)
-    (within-some n request o t (λ v e. request-front v t)) (within-some n (front seat) r t (λ s e. front-within seat s t (l s)))
+    within-if (bytes_eq seat seat0) m t (if_some request o t) (if_some (front seat) r t)
+    (within-some m request o t (λ v e. request-front v n t l)) (within-some m (front seat) r t (λ s e. front-within seat s n t l))
 
-pub next-within : (seat : List ℕ) (t : Trail) → TakenWithin t → Within (6 * taken_count t + 2) t (turn_to_next seat t)
+pub next-within : (seat : List ℕ) (n : ℕ) (t : Trail) → TakeAtMost n t → Within (6 * n + 2) t (turn_to_next seat t)
 unfolding turn_to_next
-next-within seat t l = turn-within (next_around nat_lt) (next_around session_lt) seat t l
+next-within seat n t l = turn-within (next_around nat_lt) (next_around session_lt) seat n t l
 
-pub previous-within : (seat : List ℕ) (t : Trail) → TakenWithin t → Within (6 * taken_count t + 2) t (turn_to_previous seat t)
+pub previous-within : (seat : List ℕ) (n : ℕ) (t : Trail) → TakeAtMost n t → Within (6 * n + 2) t (turn_to_previous seat t)
 unfolding turn_to_previous
-previous-within seat t l = turn-within (previous_around nat_lt) (previous_around session_lt) seat t l
+previous-within seat n t l = turn-within (previous_around nat_lt) (previous_around session_lt) seat n t l
 
 -- ---- handles and exits
 
-close-by : (h : HandleNo) (x : Fact) (t : Trail) → TakenWithin t → Within (3 * taken_count t + 5) t (close_owned h x t)
-close-by h (fact.Owned (owner.Fifo c s)) t l =
-    (let n = taken_count t in
-    let u = close_handle h t in
+close-by : (h : HandleNo) (x : Fact) (n : ℕ) (t : Trail) → TakeAtMost n t → Within (3 * n + 5) t (close_owned h x t)
+close-by h (fact.Owned (owner.Fifo c s)) n t l =
+    (let u = close_handle h t in
     within-more (1 + (3 * n + 4)) (3 * n + 5) t (shut s u) (omega arith) (shut-later s t u 1 n (l s) (owner-within h (fact.Owned owner.Closed) t (λ b r z. cc))))
-close-by h (fact.Owned (owner.Lock c n)) t l =
-    (let u = put (key.Lock n) fact.Absent t in
-    within-more 2 (3 * taken_count t + 5) t (close_handle h u) (omega arith)
-    (within-trans 1 1 t u (close_handle h u) (falls-within (key.Lock n) fact.Absent t (falls-lock n (value t))) (owner-within h (fact.Owned owner.Closed) u (λ b r z. cc))))
-close-by h (fact.Owned (owner.Device c s d)) t l =
+close-by h (fact.Owned (owner.Lock c k)) n t l =
+    (let u = put (key.Lock k) fact.Absent t in
+    within-more 2 (3 * n + 5) t (close_handle h u) (omega arith)
+    (within-trans 1 1 t u (close_handle h u) (falls-within (key.Lock k) fact.Absent t (falls-lock k (value t))) (owner-within h (fact.Owned owner.Closed) u (λ b r z. cc))))
+close-by h (fact.Owned (owner.Device c s d)) n t l =
     (let b = is_this_handle h (value t (key.Taken s d)) in
     let u = cond b (untake s d t) t in
-    within-more 4 (3 * taken_count t + 5) t (close_handle h u) (omega arith)
+    within-more 4 (3 * n + 5) t (close_handle h u) (omega arith)
     (within-trans 3 1 t u (close_handle h u) (within-if b 3 t (untake s d t) t (untake-within s d t) (within-refl 3 t)) (owner-within h (fact.Owned owner.Closed) u (λ b r z. cc))))
-close-by h _ t l = within-refl (3 * taken_count t + 5) t
+close-by h _ n t l = within-refl (3 * n + 5) t
 
-pub close-within : (h : HandleNo) (t : Trail) → TakenWithin t → Within (3 * taken_count t + 5) t (close h t)
+pub close-within : (h : HandleNo) (n : ℕ) (t : Trail) → TakeAtMost n t → Within (3 * n + 5) t (close h t)
 unfolding close
-close-within h t l = close-by h (value t (key.Owner h)) t l
+close-within h n t l = close-by h (value t (key.Owner h)) n t l
 
-pub exit-within : (U : Setup) (s : SessId) (t : Trail) → TakenWithin t → Within (3 * taken_count t + 8) t (exit U s t)
+pub exit-within : (U : Setup) (s : SessId) (n : ℕ) (t : Trail) → TakeAtMost n t → Within (3 * n + 8) t (exit U s t)
 unfolding exit
-exit-within U s t l =
-    let n = taken_count t in
+exit-within U s n t l =
     let m = l s in
     let who = user_or_root (value t (key.Sess s)) in
     let u = shut s t in

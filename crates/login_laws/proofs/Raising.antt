@@ -186,7 +186,7 @@ moves-taken c s d x t n =
     let v = kept-same c t u a.sess a.owners in
     let held : HoldsLocks c t u = λ l p e. other k (key.Lock l) x t refl in
     let less = taken-others s d x t in
-    let one = taken-itself s d x t in
+    let one = taken-itself s d x t s in
     let p1 = controlled-less c t u w in let p2 = kept-less c t u v in let p3 = locks-less c t u held in
     let a4 = taken-by-more t u (controlled_by u c) s (controlled-ascending u c) less one in
     let b4 = taken-among t t (controlled_by u c) (controlled_by t c) (controlled-ascending u c) (controlled-ascending t c) (λ r i. omega arith) (λ r i. inr (controlled-in c t u w r i)) in

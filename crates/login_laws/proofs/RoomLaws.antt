@@ -1,10 +1,12 @@
 -- The stop makes no mark, and where a journal is not full there is room.
-use Rattle.std.proofs.Common.{◌≡◌, ◌≤◌, ◌+◌, ◌*◌, ◌&&◌, not, ℕ, Bool, true, false, cond, length, refl, ap, ◌∙◌, arith}
+use Rattle.std.proofs.Common.{◌≡◌, ◌≤◌, ◌+◌, ◌*◌, ◌&&◌, not, ℕ, Bool, true, false, cond, Option, Some, None, List, length, refl, ap, ◌∙◌, arith}
+use Rattle.std.specs.Str.{bytes_eq}
+use Rattle.login_model.specs.Creating.{seat_of}
 use Rattle.login_model.specs.Devices.{is_awaiting}
 use Rattle.login_model.specs.Direct.{direct}
 use Rattle.login_model.specs.Full.{controlled_sessions, marks_needed, taken_count}
 use Rattle.login_model.specs.Legal.{stepped}
-use Rattle.login_laws.specs.Need.{goes_over_users, is_wide, marks_over_all, marks_over_users, most_marks, most_of_any, most_rise, need}
+use Rattle.login_laws.specs.Need.{call_marks, hardware_marks, marks_over, marks_over_holders, marks_over_users, may_switch, most_marks, most_of_any, most_rise, need, seat_marks}
 use Rattle.login_model.specs.Settle.{settle}
 use Rattle.login_laws.specs.Sound.{IsHeld, IsSound}
 use Rattle.login_model.specs.Facts.{is_number_fact}
@@ -14,7 +16,11 @@ use Rattle.login_model.specs.Where.{active_on, connections, locks, open_sessions
 use Rattle.login_model.specs.Start.{seat0}
 use Rattle.login_model.specs.declared.conf.Conf.{Conf}
 use Rattle.login_model.specs.declared.event.Event.{Event}
-use Rattle.login_model.specs.declared.event.Event.TheVariants.{Stop}
+use Rattle.login_model.specs.declared.event.Event.TheVariants.{Call as Calls, Hardware as Happens, Stop}
+use Rattle.login_model.specs.declared.call.Call.{Call}
+use Rattle.login_model.specs.declared.call.Call.TheVariants as call
+use Rattle.login_model.specs.declared.hardware.Hardware.{Hardware}
+use Rattle.login_model.specs.declared.hardware.Hardware.TheVariants.{Exit, Key, Remove, VtKey}
 use Rattle.login_model.specs.declared.fact.Fact.{Fact}
 use Rattle.login_model.specs.declared.fact.Fact.TheVariants.{Number, Operation}
 use Rattle.login_base.specs.declared.ids.Millis.{Millis}
@@ -65,11 +71,34 @@ unfolding need
 room t marks =
     room-at (is_number_fact (value t key.Pending)) marks (length (connections t)) (length (controlled_sessions t)) (taken_count t) (length (open_sessions t)) (length (locks t)) (length (sessions t)) (length (users t))
 
-less-at : (w u : Bool) (m n : ℕ) → n ≤ m → cond w m (cond u n 0) ≤ m
-less-at true u m n l = omega arith
-less-at false true m n l = l
-less-at false false m n l = omega arith
+seat-less : (n : ℕ) (o : Option (List ℕ)) → seat_marks n o ≤ 6 * n
+seat-less n None = omega arith
+seat-less n (Some seat) = seat0-less (bytes_eq seat seat0) n
+  where
+    seat0-less : (b : Bool) (n : ℕ) → cond b 0 (6 * n) ≤ 6 * n
+    seat0-less true n = omega arith
+    seat0-less false n = omega arith
+
+call-less : (n : ℕ) (t : Trail) (x : Call) → n ≤ taken_count t → call_marks n t x ≤ marks_over_holders t + 3 * taken_count t
+call-less n t (call.Create x) l = (let a = seat-less n (seat_of x.seat) in omega arith)
+call-less n t _ l = omega arith
+
+hardware-less : (n : ℕ) (t : Trail) (x : Hardware) → n ≤ taken_count t → hardware_marks n t x ≤ marks_over_holders t + 3 * taken_count t
+hardware-less n t (VtKey vt) l = omega arith
+hardware-less n t (Exit id) l = omega arith
+hardware-less n t (Remove d) l = omega arith
+hardware-less n t (Key k) l = omega arith
+hardware-less n t _ l = omega arith
+
+over-less : (n : ℕ) (t : Trail) (e : Event) → n ≤ taken_count t → marks_over n t e ≤ marks_over_holders t + 3 * taken_count t + marks_over_users t
+over-less n t (Calls q) l = (let a = call-less n t q.call l in omega arith)
+over-less n t (Happens x) l = (let a = hardware-less n t x l in omega arith)
+over-less n t _ l = omega arith
+
+switch-less : (b : Bool) (n : ℕ) → cond b (6 * n) 0 ≤ 6 * n
+switch-less true n = omega arith
+switch-less false n = omega arith
 
 -- no event makes more than any does
-pub most-less : (t : Trail) (e : Event) → most_marks t e ≤ most_of_any t
-most-less t e = let l = less-at (is_wide t e) (goes_over_users e) (marks_over_all t) (marks_over_users t) (omega arith) in omega arith
+pub most-less : (n : ℕ) (t : Trail) (e : Event) → n ≤ taken_count t → most_marks n t e ≤ most_of_any t
+most-less n t e l = let a = over-less n t e l in let b = switch-less (may_switch t e) n in omega arith

@@ -242,7 +242,7 @@ sound-after U before (e ∷ es) l s =
     let P : Trail → Type 0 = λ t. IsSound U (after_all t es) in
     subst P (after-more [] before e) (sound-after U (before ++ e ∷ []) es l.1 (sound-entry U before e l.0 s))
 
-sound-start : (U : Setup) → IsSound U []
+pub sound-start : (U : Setup) → IsSound U []
 unfolding value
 sound-start U = record { between = start-sound; settled = λ e. cc; held = λ k since skip e. cc }
 

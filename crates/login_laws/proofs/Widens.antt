@@ -1,11 +1,11 @@
 -- Each procedure only adds: no fewer marks than before, and no fewer keys that were set.
-use Rattle.std.proofs.Common.{◌≡◌, ◌≤◌, ◌+◌, ℕ, Bool, true, false, cond, Option, Some, None, List, [], ◌∷◌, length, arith}
+use Rattle.std.proofs.Common.{◌≡◌, ◌≤◌, ℕ, Bool, true, false, cond, Option, Some, None, List, [], ◌∷◌, length, arith}
 use Rattle.login_base.specs.declared.ids.SessId.{SessId}
 use Rattle.login_base.specs.declared.ids.Uid.{Uid}
 use Rattle.login_base.specs.declared.ids.DevNo.{DevNo}
 use Rattle.login_base.specs.declared.ids.HandleNo.{HandleNo}
 use Rattle.login_model.specs.Same.{same_fact}
-use Rattle.login_model.specs.Trail.{Trail, key_count, put, tell_all, value, was_set}
+use Rattle.login_model.specs.Trail.{Trail, put, tell_all, value}
 use Rattle.login_model.specs.Procedure.{each, force, forget, if_some, in_phase, kill, know, leave, leave_seat, release, resume, revoke, set_phase, shut, take_seat, tell_controller, untake, vacate, yes}
 use Rattle.login_model.specs.Creating.{appear_on}
 use Rattle.login_model.specs.Taking.{appear_seat, enliven, lose_seat}
@@ -21,7 +21,7 @@ use Rattle.login_model.specs.declared.fact.Key.{Key}
 use Rattle.login_model.specs.declared.fact.Key.TheVariants as key
 use Rattle.login_model.specs.declared.fact.Fact.{Fact}
 use Rattle.login_model.specs.declared.fact.Fact.TheVariants as fact
-use Rattle.login_laws.specs.Amounts.{Keys, Marks, Resource, amount}
+use Rattle.login_laws.specs.Amounts.{Keys, Marks, Resource, amount, keys_in}
 use Rattle.login_laws.proofs.Carried.{Carried, Operated, Switched, appear_on-carried, appear_seat-carried, each-carried, enliven-carried, force-carried, forget-carried, if_some-carried, kill-carried, know-carried, leave-carried, leave_seat-carried, lose_seat-carried, release-carried, resume-carried, revoke-carried, shut-carried, take_seat-carried, tell_controller-carried, untake-carried, vacate-carried}
 
 -- no less of each resource than before
@@ -36,20 +36,16 @@ widens-trans t u v p q = λ r. (let a = p r in let b = q r in omega arith)
 
 -- ---- marks
 
-counted : (b : Bool) (n : ℕ) → n ≤ cond b n (n + 1)
-counted true n = omega arith
-counted false n = omega arith
-
 -- one more mark, and one more key or none
 pub set-widens : (k : Key) (x : Fact) (t : Trail) (r : Resource) → amount r t ≤ amount r (Set k x ∷ t)
-unfolding key_count
+unfolding keys_in
 set-widens k x t Marks = omega arith
-set-widens k x t Keys = counted (was_set t k) (key_count t)
+set-widens k x t (Keys p) = omega arith
 
 pub say-widens : (w : Whom) (n : Notice) (t : Trail) (r : Resource) → amount r t ≤ amount r (Say w n ∷ t)
-unfolding key_count
+unfolding keys_in
 say-widens w n t Marks = omega arith
-say-widens w n t Keys = omega arith
+say-widens w n t (Keys p) = omega arith
 
 cond-widens : (b : Bool) (t u v : Trail) → Widens t u → Widens t v → Widens t (cond b u v)
 cond-widens true t u v p q = p

@@ -40,7 +40,7 @@ awaited-own : (s : SessId) (k : Key) (a : DevNo) → awaited_in s k ≡ Some a �
 awaited-own s (key.Awaited r d) a e = awaited-by (r.0 == s.0) s r d a refl e
 awaited-own s _ a e = cc
 
-same-self : (n : ℕ) → (n == n) ≡ true
+pub same-self : (n : ℕ) → (n == n) ≡ true
 same-self n = grind (arith, nat_tests)
 
 awaited-keys : (s : SessId) → AreKeys (awaited_in s) (key.Awaited s) is_set None

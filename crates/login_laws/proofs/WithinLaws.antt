@@ -162,6 +162,14 @@ active-there t seat s e = open-there (value t (key.Sess s)) (active-open t seat 
 pub active-taken : (t : Trail) (seat : List ℕ) (s : SessId) → active_on t seat ≡ Some s → taken_length t s ≤ taken_count t
 active-taken t seat s e = taken-there t s (active-there t seat s e)
 
+-- no session that is there has taken more devices than this
+abbrev pub ThereAtMost : ℕ → Trail → Type 0
+ThereAtMost n t = (s : SessId) → is_session t s ≡ true → taken_length t s ≤ n
+
+-- nor where there is no more than before
+pub there-later : (n : ℕ) (t u : Trail) → ThereAtMost n t → Falls (value t) (value u) → ThereAtMost n u
+there-later n t u l f s e = at-most (taken_length u s) (taken_length t s) n (length-taken-less t u s (f.taken s)) (l s (f.there s e))
+
 -- what is done to a session that had taken so many devices at most
 pub within-later : (k : ℕ) (f : SessId → Trail → Trail) → ((s : SessId) (t : Trail) → Within (k * taken_length t s) t (f s t))
     → (s : SessId) (t u : Trail) (m n : ℕ) → taken_length t s ≤ n → Within m t u → Within (m + k * n) t (f s u)

@@ -1,10 +1,14 @@
 -- The room that the ends of connections need, and how many marks an event makes.
-use Rattle.std.specs.Prelude.{ℕ, ◌≡◌, ◌≤◌, ◌+◌, ◌*◌, ◌||◌, Bool, true, false, if◌then◌else◌, List, length}
+use Rattle.std.specs.Prelude.{ℕ, ◌≡◌, ◌≤◌, ◌+◌, ◌*◌, ◌||◌, Bool, true, false, if◌then◌else◌, Option, Some, None, List, length}
 use Rattle.std.specs.List.{AllByRecursion}
+use Rattle.std.specs.Str.{bytes_eq}
 use Rattle.login_base.specs.declared.ids.ConnId.{ConnId}
+use Rattle.login_model.specs.Creating.{seat_of}
 use Rattle.login_model.specs.Full.{controlled_sessions, mark_count, marks_needed, taken_count}
 use Rattle.login_model.specs.Legal.{IsLegal, IsLegalAfter, stepped, trail_of}
 use Rattle.login_model.specs.Policy.{verdict}
+use Rattle.login_model.specs.Start.{seat0}
+use Rattle.login_laws.specs.Few.{TakeAtMost}
 use Rattle.login_laws.specs.Sound.{IsSound}
 use Rattle.login_model.specs.Facts.{is_number_fact}
 use Rattle.login_model.specs.Trail.{Trail, value}
@@ -34,47 +38,29 @@ need t =
 abbrev pub marks_beside : ℕ
 marks_beside = 32
 
--- whether a call may make marks for each session, or for each device that a session has taken
-abbrev pub call_goes_over : Call → Bool
-call_goes_over (call.Create x) = true
-call_goes_over (call.Activate id) = true
-call_goes_over (call.ActivateOnSeat id seat) = true
-call_goes_over call.LockAll = true
-call_goes_over call.UnlockAll = true
-call_goes_over (call.Terminate id) = true
-call_goes_over (call.TerminateUser u) = true
-call_goes_over (call.TerminateSeat seat) = true
-call_goes_over (call.Control id force) = true
-call_goes_over (call.Uncontrol id) = true
-call_goes_over (call.SwitchTo seat vt) = true
-call_goes_over (call.SwitchToNext seat) = true
-call_goes_over (call.SwitchToPrevious seat) = true
-call_goes_over (call.KillUser u signal) = true
-call_goes_over (call.Close h) = true
-call_goes_over _ = false
+-- whether a call asks for another active session of a seat, of seat0 by its terminal
+abbrev pub call_turns : Call → Bool
+call_turns (call.Activate id) = true
+call_turns (call.ActivateOnSeat id seat) = true
+call_turns (call.SwitchTo seat vt) = true
+call_turns (call.SwitchToNext seat) = true
+call_turns (call.SwitchToPrevious seat) = true
+call_turns _ = false
 
--- whether what happens to the machine may
-abbrev pub hardware_goes_over : Hardware → Bool
-hardware_goes_over (VtKey vt) = true
-hardware_goes_over (Exit id) = true
-hardware_goes_over (Remove d) = true
-hardware_goes_over (Key k) = true
-hardware_goes_over _ = false
+-- whether the hardware does
+abbrev pub hardware_turns : Hardware → Bool
+hardware_turns (VtKey vt) = true
+hardware_turns _ = false
 
--- whether an event that is no disconnect may
-abbrev pub goes_over : Event → Bool
-goes_over (Calls q) = call_goes_over q.call
-goes_over (Happens x) = hardware_goes_over x
-goes_over _ = false
+-- whether an event asks for another active session of a seat
+abbrev pub asks_to_turn : Event → Bool
+asks_to_turn (Calls q) = call_turns q.call
+asks_to_turn (Happens x) = hardware_turns x
+asks_to_turn _ = false
 
--- whether it may make marks for each user, and for nothing else that grows
-abbrev pub goes_over_users : Event → Bool
-goes_over_users (Tick m) = true
-goes_over_users _ = false
-
--- whether such an event may, or a switch that completes behind it
-abbrev pub is_wide : Trail → Event → Bool
-is_wide t e = goes_over e || is_number_fact (value t key.Pending)
+-- whether a switch may complete behind an event: one is pending, or the event may ask for one
+abbrev pub may_switch : Trail → Event → Bool
+may_switch t e = is_number_fact (value t key.Pending) || asks_to_turn e
 
 -- the most marks of going over all users
 abbrev pub marks_over_users : Trail → ℕ
@@ -84,13 +70,57 @@ marks_over_users t = 4 * length (users t)
 abbrev pub marks_over_all : Trail → ℕ
 marks_over_all t = 12 * taken_count t + 8 * length (sessions t) + marks_over_users t
 
--- the most marks of what such an event goes over
-abbrev pub marks_over : Trail → Event → ℕ
-marks_over t e = if is_wide t e then marks_over_all t else (if goes_over_users e then marks_over_users t else 0)
+-- the most marks of what one or two sessions have taken, where each has taken so many devices at most
+abbrev pub marks_over_devices : ℕ → ℕ
+marks_over_devices n = 6 * n
 
--- the most marks that an event makes which is no disconnect
-abbrev pub most_marks : Trail → Event → ℕ
-most_marks t e = marks_over t e + marks_beside
+-- of closing each of some sessions, or of taking a device from all of them
+abbrev pub marks_over_holders : Trail → ℕ
+marks_over_holders t = 3 * taken_count t + 8 * length (sessions t)
+
+-- of coming to a seat, where another session than seat0's may have been active
+abbrev pub seat_marks : ℕ → Option (List ℕ) → ℕ
+seat_marks n None = 0
+seat_marks n (Some seat) = if bytes_eq seat seat0 then 0 else marks_over_devices n
+
+-- of what a call goes over by itself
+abbrev pub call_marks : ℕ → Trail → Call → ℕ
+call_marks n t (call.Create x) = seat_marks n (seat_of x.seat)
+call_marks n t (call.Activate id) = marks_over_devices n
+call_marks n t (call.ActivateOnSeat id seat) = marks_over_devices n
+call_marks n t (call.SwitchTo seat vt) = marks_over_devices n
+call_marks n t (call.SwitchToNext seat) = marks_over_devices n
+call_marks n t (call.SwitchToPrevious seat) = marks_over_devices n
+call_marks n t (call.Terminate id) = marks_over_devices n
+call_marks n t (call.Control id force) = marks_over_devices n
+call_marks n t (call.Uncontrol id) = marks_over_devices n
+call_marks n t (call.Close h) = marks_over_devices n
+call_marks n t call.LockAll = length (sessions t)
+call_marks n t call.UnlockAll = length (sessions t)
+call_marks n t (call.KillUser u signal) = length (sessions t)
+call_marks n t (call.TerminateUser u) = marks_over_holders t
+call_marks n t (call.TerminateSeat seat) = marks_over_holders t
+call_marks n t _ = 0
+
+-- of what the hardware does
+abbrev pub hardware_marks : ℕ → Trail → Hardware → ℕ
+hardware_marks n t (VtKey vt) = marks_over_devices n
+hardware_marks n t (Exit id) = marks_over_devices n
+hardware_marks n t (Key k) = length (sessions t)
+hardware_marks n t (Remove d) = marks_over_holders t
+hardware_marks n t _ = 0
+
+-- of what an event that is no disconnect goes over by itself
+abbrev pub marks_over : ℕ → Trail → Event → ℕ
+marks_over n t (Calls q) = call_marks n t q.call
+marks_over n t (Happens x) = hardware_marks n t x
+marks_over n t (Tick m) = marks_over_users t
+marks_over n t _ = 0
+
+-- the most marks that an event makes which is no disconnect, with those of a switch that may complete behind it, where
+-- each session has taken so many devices at most
+abbrev pub most_marks : ℕ → Trail → Event → ℕ
+most_marks n t e = marks_over n t e + (if may_switch t e then marks_over_devices n else 0) + marks_beside
 
 -- and that any of them makes
 abbrev pub most_of_any : Trail → ℕ
@@ -108,16 +138,20 @@ abbrev pub IsDisconnect : Event → Type 0
 IsDisconnect (Disconnect c) = Unit {0}
 IsDisconnect _ = ⊥
 
--- an event makes at most so many marks, raises the need by at most so much, and takes one device at most
-pub record IsWithin (e : Event) (before after : Trail) : Type 0 where
-  pub marks : length after ≤ length before + most_marks before e
+-- an event makes at most so many marks, raises the need by at most so much, and takes one device at most, where each
+-- session has taken so many devices at most
+pub record IsWithin (n : ℕ) (e : Event) (before after : Trail) : Type 0 where
+  pub marks : length after ≤ length before + most_marks n before e
   pub need_rises : need after ≤ need before + most_rise before
   pub takes : taken_count after ≤ taken_count before + 1
 
 -- The facts that keep room for every end, and the sum that `full` looks at.
 pub record RoomIsKept (U : Setup) : Type 0 where
   -- another event stays within both sums
-  pub other : (t : Trail) (e : Event) → IsSound U t → (IsDisconnect e → ⊥) → IsWithin e t (stepped U (verdict U t e) e t)
+  pub other : (n : ℕ) (t : Trail) (e : Event) → IsSound U t → TakeAtMost n t → (IsDisconnect e → ⊥)
+      → IsWithin n e t (stepped U (verdict U t e) e t)
+  -- and, whatever it is and has been taken, no more marks than any may make
+  pub any : (t : Trail) (e : Event) → IsSound U t → (IsDisconnect e → ⊥) → length (stepped U (verdict U t e) e t) ≤ length t + most_of_any t
   -- a disconnect makes at most as many marks as the need falls by
   pub ends : (t : Trail) (c : ConnId) → IsSound U t → is_connected t c ≡ true
       → length (stepped U Granted (Disconnect c) t) + need (stepped U Granted (Disconnect c) t) ≤ length t + need t

@@ -1,6 +1,7 @@
 // What holds of every legal journal, as functions that do nothing and ensure it.
 
-ghost use Rattle.login_laws.specs.Few.{LivesAreFew};
+ghost use Rattle.login_laws.specs.Amounts.{Part};
+ghost use Rattle.login_laws.specs.Few.{EachTakesFew, LivesAreFew};
 ghost use Rattle.login_laws.specs.Handles.{NextHandleIsLeastFree};
 ghost use Rattle.login_laws.specs.Hearing.{HearingGoesOn, ReadsAreHeard};
 ghost use Rattle.login_laws.specs.Keys.{KeysAreKept};
@@ -52,6 +53,11 @@ pub fn lives_are_few()
     ensures { LivesAreFew }
 {}
 
+/// In every legal journal no session has taken more devices than one may.
+pub fn each_takes_few()
+    ensures { EachTakesFew }
+{}
+
 /// The handles that were given out and the devices that sessions have taken are together at most as many as
 /// the marks: while these are few, a handle is left for each device that is taken.
 pub fn handles_are_left()
@@ -65,12 +71,13 @@ pub fn room_is_kept()
     ensures { (U : Setup) → RoomIsKept U }
 {}
 
-/// How many keys an event sets for the first time, with those that the switch which it leaves pending may set:
-/// a few, three for each device that is taken where it turns a seat and as many where a switch completes, and
-/// one for each session where it sends a signal to all of a user. A disconnect sets none but those of the
-/// switch that was pending.
+/// How many keys of each part an event sets for the first time, with those that the switch which it leaves pending may
+/// set, where no session has taken more devices than it may: a few; of what sessions have taken, two for each device
+/// that one session may have taken, where it turns a seat, and as many where a switch completes; of the others, one for
+/// each session where it sends a signal to all of a user. A disconnect sets none but those of the switch that was
+/// pending.
 pub fn keys_are_kept()
-    ensures { (U : Setup) → KeysAreKept U }
+    ensures { (U : Setup) (p : Part) → KeysAreKept U p }
 {}
 
 /// Whichever connections end behind a legal journal, in whatever order, one after the other: all their ends
