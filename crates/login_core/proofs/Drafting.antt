@@ -1,8 +1,8 @@
 -- A draft with one mark more.
-use Rattle.std.proofs.Common.{◌≡◌, ℕ, ◌+◌, ◌<◌, ◌≤◌, ◌∙◌, [], ◌∷◌, ◌++◌, List, Bool, true, false, cond, refl, sym, ap, subst, length, add-one, arith}
+use Rattle.std.proofs.Common.{◌≡◌, ℕ, ◌+◌, ◌<◌, ◌≤◌, ◌∙◌, [], ◌∷◌, ◌++◌, List, Bool, false, cond, refl, sym, ap, subst, length, add-one, arith}
 use Rattle.login_base.specs.Room.{Room}
 use Rattle.login_model.specs.Same.{same_fact}
-use Rattle.login_model.specs.Trail.{Trail, value, put, after, key_count, was_set}
+use Rattle.login_model.specs.Trail.{Trail, value, put, after, was_set}
 use Rattle.login_model.specs.Legal.{trail_of}
 use Rattle.login_model.specs.declared.fact.Key.{Key}
 use Rattle.login_model.specs.declared.fact.Fact.{Fact}
@@ -14,29 +14,40 @@ use Rattle.login_model.specs.declared.mark.Entry.{Entry}
 use Rattle.device_model.specs.declared.ears.Ear.{Ear}
 use Rattle.login_core.specs.declared.board.Reach.{Reach}
 use Rattle.login_core.specs.declared.board.seating.Seating.{Seating}
-use Rattle.login_laws.specs.Amounts.{Keys, Marks}
-use Rattle.login_core.specs.inner.Facts.{Tables, StandFor, new_keys, table}
+use Rattle.login_laws.specs.Amounts.{Keys, Marks, OfOthers, OfTaken, Part, cost, keys_in, new_in, part}
+use Rattle.login_core.specs.State.{keys_of}
+use Rattle.login_core.specs.declared.board.keys.KeyRoom.{KeyRoom}
+use Rattle.login_core.specs.inner.Facts.{Tables, StandFor, table}
 use Rattle.login_table.specs.Home.{home}
 use Rattle.login_core.specs.inner.Seating.{AreSeated}
 use Rattle.login_core.specs.inner.UnderWay.{so_far}
-use Rattle.login_core.specs.inner.Draft.{DraftState, Fits, IsDraft, tell, with_ears, with_keys, with_trail}
+use Rattle.login_core.specs.inner.Draft.{DraftState, Fits, IsDraft, all_keys, tell, with_ears, with_keys, with_trail}
 use Rattle.login_laws.proofs.JournalLaws.{length-after}
 use Rattle.login_table.proofs.Appending.{put-made}
 use Rattle.login_core.proofs.Standing.{opened, so_far-more, so_far-start, so_far-closed}
 
 -- what a draft of these parts is seen as
 abbrev pub seen : List Entry → List Mark → Tables → Reach → DraftState
-seen es ms f reach = record { before = trail_of es; trail = so_far es ms; reach = reach.entry; far = reach.all; keys = key_count (so_far es ms) + f.fresh; ears = f.ears; rings = f.rings }
+seen es ms f reach = record { before = trail_of es; trail = so_far es ms; reach = reach.entry; far = reach.all; keys = all_keys (so_far es ms) f.fresh; ears = f.ears; rings = f.rings }
 
 pub more : (es : List Entry) (ms ns : List Mark) (x : Mark) → ns ≡ ms ++ x ∷ [] → so_far es ns ≡ x ∷ so_far es ms
 more es ms ns x e = ap (so_far es) e ∙ so_far-more es ms x
 
+-- where each part has as many keys, all have
+pub same-keys : (t u : Trail) (new old : KeyRoom) → ((p : Part) → keys_in p t + keys_of p new ≡ keys_in p u + keys_of p old) → all_keys t new ≡ all_keys u old
+same-keys t u new old e = λ i. record { taken = e OfTaken i; others = e OfOthers i }
+
+-- the keys for which there is room are those of each part
+pub part-keys : (p : Part) (t : Trail) (fresh : KeyRoom) → keys_of p (all_keys t fresh) ≡ keys_in p t + keys_of p fresh
+part-keys OfTaken t fresh = refl
+part-keys OfOthers t fresh = refl
+
 pub seen-more : (es : List Entry) (ms ns : List Mark) (f g : Tables) (reach : Reach) (x : Mark) (d : DraftState) → seen es ms f reach ≡ d → ns ≡ ms ++ x ∷ [] → g.ears ≡ f.ears → g.rings ≡ f.rings
-    → key_count (x ∷ so_far es ms) + g.fresh ≡ key_count (so_far es ms) + f.fresh → seen es ns g reach ≡ with_trail d (x ∷ d.trail)
+    → ((p : Part) → keys_in p (x ∷ so_far es ms) + keys_of p g.fresh ≡ keys_in p (so_far es ms) + keys_of p f.fresh) → seen es ns g reach ≡ with_trail d (x ∷ d.trail)
 seen-more es ms ns f g reach x d v e p q k =
     let s = seen es ms f reach in
-    ap (λ (t : Trail). with_ears g.ears g.rings (with_keys (key_count t + g.fresh) (with_trail s t))) (more es ms ns x e)
-    ∙ ap (λ (n : ℕ). with_ears g.ears g.rings (with_keys n (with_trail s (x ∷ s.trail)))) k
+    ap (λ (t : Trail). with_ears g.ears g.rings (with_keys (all_keys t g.fresh) (with_trail s t))) (more es ms ns x e)
+    ∙ ap (λ (n : KeyRoom). with_ears g.ears g.rings (with_keys n (with_trail s (x ∷ s.trail)))) (same-keys (x ∷ so_far es ms) (so_far es ms) g.fresh f.fresh k)
     ∙ ap (λ (ears : List Ear). with_ears ears g.rings (with_trail s (x ∷ s.trail))) p
     ∙ ap (λ (n : ℕ). with_ears f.ears n (with_trail s (x ∷ s.trail))) q
     ∙ ap (λ (w : DraftState). with_trail w (x ∷ w.trail)) v
@@ -49,33 +60,43 @@ one-more k x d other room = let e = ap length (put-made k x d.trail other) in le
 pub said-room : (w : Whom) (n : Notice) (d : DraftState) → Fits (tell w n) d → length d.trail + 1 ≤ d.reach
 said-room w n d room = let f : length (Say w n ∷ d.trail) ≡ length d.trail + 1 = sym (add-one (length d.trail)) in let m : length (tell w n d.trail) ≤ d.reach = room Marks in omega arith
 
--- a setting of a new key counts as one key more, another as none
-pub keys-set : (k : Key) (x : Fact) (t : Trail) → key_count (Set k x ∷ t) ≡ key_count t + new_keys t k
-unfolding key_count
-keys-set k x t = by (was_set t k) (key_count t)
-  where
-    by : (b : Bool) (n : ℕ) → cond b n (n + 1) ≡ n + cond b 0 1
-    by true n = omega arith
-    by false n = omega arith
+-- a setting of a new key counts as one key more in its part, another as none
+pub keys-set : (p : Part) (k : Key) (x : Fact) (t : Trail) → keys_in p (Set k x ∷ t) ≡ keys_in p t + new_in p t k
+unfolding keys_in
+keys-set p k x t = refl
 
-pub keys-say : (w : Whom) (n : Notice) (t : Trail) → key_count (Say w n ∷ t) ≡ key_count t
-unfolding key_count
-keys-say w n t = refl
+pub keys-say : (p : Part) (w : Whom) (n : Notice) (t : Trail) → keys_in p (Say w n ∷ t) ≡ keys_in p t
+unfolding keys_in
+keys-say p w n t = refl
+
+own-cost : (p : Part) → cost p p ≡ 1
+own-cost OfTaken = refl
+own-cost OfOthers = refl
+
+-- in its own part it counts
+new-own : (t : Trail) (k : Key) → was_set t k ≡ false → new_in (part k) t k ≡ 1
+new-own t k e = ap (λ (b : Bool). cond b 0 (cost (part k) (part k))) e ∙ own-cost (part k)
 
 -- a table has the keys that were set, so what is new to it is new
-pub new-here : (f : Tables) (t : Trail) (k : Key) → StandFor f t → new_keys (table f (home k)) k ≡ new_keys t k
-new-here f t k s = ap (λ (b : Bool). cond b 0 1) ((opened f t s).keys k)
+pub new-here : (p : Part) (f : Tables) (t : Trail) (k : Key) → StandFor f t → new_in p (table f (home k)) k ≡ new_in p t k
+new-here p f t k s = ap (λ (b : Bool). cond b 0 (cost p (part k))) ((opened f t s).keys k)
 
--- a new key that is set has room in its table
-pub fresh-room : (f : Tables) (k : Key) (x : Fact) (t : Trail) (d : DraftState) → StandFor f t → t ≡ d.trail → key_count t + f.fresh ≡ d.keys → same_fact (value d.trail k) x ≡ false → Fits (put k x) d
-    → was_set (table f (home k)) k ≡ false → 0 < f.fresh
-fresh-room f k x t d s e keys other room new =
-    let n : new_keys t k ≡ 1 = ap (λ (b : Bool). cond b 0 1) (sym ((opened f t s).keys k) ∙ new) in
-    let c = keys-set k x t in
-    let m : key_count (put k x d.trail) ≤ d.keys = room Keys in
-    let p = ap key_count (put-made k x d.trail other) in
-    let q = ap (λ (u : Trail). key_count (Set k x ∷ u)) e in
+-- a new key that is set has room in its table, where there is room for so many
+pub new-room : (f : Tables) (k : Key) (x : Fact) (t : Trail) (n : ℕ) → StandFor f t → keys_in (part k) (Set k x ∷ t) ≤ n → n ≡ keys_in (part k) t + keys_of (part k) f.fresh → was_set (table f (home k)) k ≡ false → 0 < keys_of (part k) f.fresh
+new-room f k x t n s l e new =
+    let one = new-own t k (sym ((opened f t s).keys k) ∙ new) in
+    let c = keys-set (part k) k x t in
     omega arith
+
+pub fresh-room : (f : Tables) (k : Key) (x : Fact) (t : Trail) (d : DraftState) → StandFor f t → t ≡ d.trail → all_keys t f.fresh ≡ d.keys → same_fact (value d.trail k) x ≡ false → Fits (put k x) d
+    → was_set (table f (home k)) k ≡ false → 0 < keys_of (part k) f.fresh
+fresh-room f k x t d s e keys other room new =
+    let p = part k in
+    let m : keys_in p (put k x d.trail) ≤ keys_of p d.keys = room (Keys p) in
+    let made = ap (keys_in p) (put-made k x d.trail other) in
+    let here = ap (λ (u : Trail). keys_in p (Set k x ∷ u)) e in
+    let all = sym (part-keys p t f.fresh) ∙ ap (keys_of p) keys in
+    new-room f k x t (keys_of p d.keys) s (omega arith) (sym all) new
 
 -- there is room for one mark more
 pub room-inside : (es : List Entry) (ms : List Mark) (f : Tables) (reach : Reach) (d : DraftState) → seen es ms f reach ≡ d → length d.trail + 1 ≤ d.reach → length (so_far es ms) + 1 ≤ reach.entry

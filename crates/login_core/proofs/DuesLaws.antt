@@ -2,6 +2,7 @@
 use Rattle.std.proofs.Common.{◌≡◌, ◌+◌, ◌*◌, ◌∙◌, ℕ, Bool, true, cond, Option, List, [], ◌∷◌, length, ap, refl, sym}
 use Rattle.login_base.specs.declared.ids.ConnId.{ConnId}
 use Rattle.login_base.specs.declared.ids.SessId.{SessId}
+use Rattle.login_model.specs.declared.fact.Key.{Key}
 use Rattle.login_model.specs.declared.fact.Key.TheVariants as key
 use Rattle.login_model.specs.declared.fact.Fact.{Fact}
 use Rattle.login_model.specs.declared.mark.Mark.TheVariants.{Say}
@@ -32,20 +33,21 @@ charge-is t c s x y there e f k h =
 
 -- ---- what is owed
 
-none-set : (c : ConnId) → was_set [] (key.Conn c) ≡ true → ⊥
+none-set : (k : Key) → was_set [] k ≡ true → ⊥
 unfolding was_set
-none-set c e = cc
+none-set k e = cc
 
-said : (c : ConnId) (w : Whom) (n : Notice) (t : Trail) → was_set t (key.Conn c) ≡ was_set (Say w n ∷ t) (key.Conn c)
+said : (k : Key) (w : Whom) (n : Notice) (t : Trail) → was_set t k ≡ was_set (Say w n ∷ t) k
 unfolding was_set
-said c w n t = refl
+said k w n t = refl
 
 pub owing-none : (owing : Owing) → owing.marks.items ≡ [] → owing.taken.items ≡ [] → AreOwed owing []
 owing-none owing e f = record {
   marks = λ c. ap (λ (xs : List (ℕ × ℕ)). sum_in xs c.0) e ∙ sym (owed-none c);
   taken = λ s. ap (λ (xs : List (ℕ × ℕ)). sum_in xs s.0) f ∙ sym (taken-none s);
   known = known-none;
-  rows = λ c e. absurd (none-set c e);
+  rows = λ c e. absurd (none-set (key.Conn c) e);
+  takers = λ s d e. absurd (none-set (key.Taken s d) e);
 }
 
 pub owing-say : (owing : Owing) (w : Whom) (n : Notice) (t : Trail) → AreOwed owing t → AreOwed owing (Say w n ∷ t)
@@ -53,7 +55,8 @@ owing-say owing w n t o = record {
   marks = λ c. o.marks c ∙ sym (owed-say w n t c);
   taken = λ s. o.taken s ∙ sym (taken-say w n t s);
   known = known-say w n t o.known;
-  rows = λ c e. o.rows c (said c w n t ∙ e);
+  rows = λ c e. o.rows c (said (key.Conn c) w n t ∙ e);
+  takers = λ s d e. o.takers s d (said (key.Taken s d) w n t ∙ e);
 }
 
 pub owing-same : (old new : Owing) (t : Trail) → new.marks.items ≡ old.marks.items → new.taken.items ≡ old.taken.items → AreOwed old t → AreOwed new t
@@ -62,4 +65,5 @@ owing-same old new t e f o = record {
   taken = λ s. ap (λ (xs : List (ℕ × ℕ)). sum_in xs s.0) f ∙ o.taken s;
   known = o.known;
   rows = λ c w. ap (λ (xs : List (ℕ × ℕ)). has_row xs c.0) e ∙ o.rows c w;
+  takers = λ s d w. ap (λ (xs : List (ℕ × ℕ)). has_row xs s.0) f ∙ o.takers s d w;
 }

@@ -87,9 +87,9 @@ taken-small t s a e few = let most = taken-bound t s in omega arith
 -- ---- the sums beside the facts, step by step
 
 -- what was taken stays as it is where only what is due is lost, and a connection comes
-pub kept-taken : (old lost put welcomed : Owing) (t : Trail) → AreOwed old t → lost.taken ≡ old.taken → put ≡ lost → welcomed.taken ≡ put.taken → AreTaken welcomed t
+pub kept-taken : (old lost put welcomed : Owing) (t : Trail) → AreOwed old t → lost.taken ≡ old.taken → put ≡ lost → ((n : ℕ) → sum_in welcomed.taken.items n ≡ sum_in put.taken.items n) → AreTaken welcomed t
 kept-taken old lost put welcomed t o e f g = λ s.
-    ap (λ (r : Room (ℕ × ℕ)). sum_in r.items s.0) g ∙ ap (λ (w : Owing). sum_in w.taken.items s.0) f ∙ ap (λ (r : Room (ℕ × ℕ)). sum_in r.items s.0) e ∙ o.taken s
+    g s.0 ∙ ap (λ (w : Owing). sum_in w.taken.items s.0) f ∙ ap (λ (r : Room (ℕ × ℕ)). sum_in r.items s.0) e ∙ o.taken s
 
 pub behind-taken : (k : Key) (x y : Fact) (t : Trail) (lost gained : Option SessId) (put shifted : Owing) → lost ≡ taker_in k x → x ≡ value t k → gained ≡ taker_in k y → AreTaken put t
     → ((s : SessId) → sum_in shifted.taken.items s.0 + taker_at lost s ≡ sum_in put.taken.items s.0 + taker_at gained s) → AreTaken shifted (Set k y ∷ t)

@@ -2,7 +2,7 @@
 use Rattle.std.proofs.Common.{◌≡◌, ◌≤◌, ◌+◌, ◌⊎◌, ℕ, Bool, true, false, cond, nat_lt, inl, inr, Option, Some, None, List, length, refl, ap, sym, subst, ◌∙◌, arith}
 use Rattle.login_base.specs.declared.ids.ConnId.{ConnId}
 use Rattle.login_model.specs.Direct.{direct, direct_call}
-use Rattle.login_model.specs.Full.{connected_after, entries_needed, full, is_granted, mark_count, marks_needed, over}
+use Rattle.login_model.specs.Full.{connected_after, entries_needed, full, is_granted, mark_count, marks_needed, over, taken_count}
 use Rattle.login_model.specs.Legal.{stepped, trail_of}
 use Rattle.login_laws.specs.Need.{IsDisconnect, most_of_any, most_rise, need}
 use Rattle.login_model.specs.Policy.{verdict}
@@ -25,7 +25,8 @@ use Rattle.login_model.specs.declared.setup.Setup.{Setup}
 use Rattle.login_model.specs.Fresh.{next_session, next_handle}
 use Rattle.login_model.specs.Creating.{create, created_session}
 use Rattle.login_laws.proofs.Comings.{IsCreation, IsTame, comes-connections, connect-connections, disconnect-connections, event-comes, event-tame, tame-connections}
-use Rattle.login_laws.proofs.EventMarks.{other}
+use Rattle.login_laws.proofs.Accords.{good-sound}
+use Rattle.login_laws.proofs.EventMarks.{other, taken-within}
 use Rattle.login_laws.proofs.NeedLaws.{ends}
 use Rattle.login_laws.proofs.RoomLaws.{most-less, stop-stays}
 use Rattle.login_core.specs.Fullness.{always_fits}
@@ -78,10 +79,10 @@ Within limit t = length t + need t ≤ limit
 
 pub other-within : (U : Setup) (e : Event) (t : Trail) (limit : ℕ) → IsSound U t → (IsDisconnect e → ⊥) → length t + need t + most_of_any t + most_rise t ≤ limit → Within limit (stepped U (verdict U t e) e t)
 other-within U e t limit s n h =
-    let w = other U t e s n in
+    let w = other U (taken_count t) t e s (taken-within t (good-sound t s.between)) n in
     let a = w.marks in
     let b = w.need_rises in
-    let l = most-less t e in
+    let l = most-less (taken_count t) t e (omega arith) in
     omega arith
 
 pub disconnect-within : (U : Setup) (c : ConnId) (t : Trail) (limit : ℕ) → IsSound U t → is_connected t c ≡ true → Within limit t → Within limit (stepped U Granted (Disconnect c) t)

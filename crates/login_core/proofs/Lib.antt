@@ -18,8 +18,10 @@ pub mod HeldRows
 pub mod HeldNext
 pub mod HomeLaws
 pub mod Welcomed
+pub mod TakerRows
 pub mod Standing
 pub mod Placed
+pub mod KeyRooms
 pub mod HandedOn
 pub mod Going
 pub mod Growing

@@ -16,6 +16,7 @@ use Rattle.login_core.specs.declared.board.holding.Holding.{Holding}
 use Rattle.login_core.specs.declared.room.counts.Counts.{Counts}
 use Rattle.login_core.specs.inner.Counts.{AreCounted}
 use Rattle.login_core.specs.inner.Holding.{AreHeld}
+use Rattle.login_core.specs.declared.board.keys.KeyRoom.{KeyRoom}
 use Rattle.login_core.specs.declared.board.owing.Owing.{Owing}
 use Rattle.login_core.specs.inner.Dues.{AreOwed}
 use Rattle.login_core.specs.inner.Facts.{Tables, TablesStand, StandFor, table}
@@ -46,7 +47,7 @@ unfolding StandFor
 closed f t s o = (s, o)
 
 -- beside what connections owe, and how many more settings go in, of keys that were set or not
-pub tables-same : (f : Tables) (owing : Owing) (spare fresh : ℕ) (t : Trail) → TablesStand f t → TablesStand (record f { owing = owing; spare = spare; fresh = fresh }) t
+pub tables-same : (f : Tables) (owing : Owing) (spare : ℕ) (fresh : KeyRoom) (t : Trail) → TablesStand f t → TablesStand (record f { owing = owing; spare = spare; fresh = fresh }) t
 tables-same f owing spare fresh t s = record { facts = s.facts; keys = s.keys; counts = s.counts; session = s.session; handle = s.handle; lock = s.lock; held = s.held }
 
 table-same : (f g : Tables) → g.users ≡ f.users → g.sessions ≡ f.sessions → g.seats ≡ f.seats → g.devices ≡ f.devices → g.controls ≡ f.controls → g.takes ≡ f.takes → g.locks ≡ f.locks → g.power ≡ f.power

@@ -9,8 +9,9 @@ use Rattle.login_laws.specs.Need.{need}
 use Rattle.login_model.specs.Names.{names}
 use Rattle.login_model.specs.Setups.{IsSetup}
 use Rattle.login_model.specs.Stopping.{stop_from}
+use Rattle.login_laws.specs.Amounts.{Part, keys_in}
 use Rattle.login_laws.specs.Keys.{switch_keys}
-use Rattle.login_model.specs.Trail.{Trail, key_count, value}
+use Rattle.login_model.specs.Trail.{Trail, value}
 use Rattle.login_model.specs.Where.{connections, locks, open_sessions, sessions}
 use Rattle.login_model.specs.declared.mark.Entry.{Entry}
 use Rattle.login_model.specs.declared.setup.Setup.{Setup}
@@ -30,9 +31,9 @@ no-need : need [] ≡ 0
 unfolding need connections sessions open_sessions locks taken_by names value
 no-need = refl
 
-no-keys-yet : key_count [] + switch_keys [] ≡ 0
-unfolding key_count value
-no-keys-yet = refl
+no-keys-yet : (p : Part) → keys_in p [] + switch_keys p [] ≡ 0
+unfolding keys_in value
+no-keys-yet p = refl
 
 false-true : false ≡ true → ⊥
 false-true e = cc
@@ -65,8 +66,6 @@ core-new U m x u j k q g n =
     let c = ap (λ (u : Trail). length (connections u)) t ∙ no-connections in
     let d = ap (λ (u : Trail). length u + need u) t in
     let e = no-need in
-    let keys = ap (λ (u : Trail). key_count u + switch_keys u) t in
-    let none = no-keys-yet in
     let l = ap length j in
     let Q : Trail → Type 0 = HaveTexts x in
     let E : Trail → Type 0 = HaveEnds (end_room m.journal) in
@@ -78,7 +77,7 @@ core-new U m x u j k q g n =
       stop_is = ap (stop_from 1) (sym j);
       entries = omega arith;
       reach = omega arith;
-      keys = omega arith;
+      keys = λ p. (let keys = ap (λ (u : Trail). keys_in p u + switch_keys p u) t in let none = no-keys-yet p in omega arith);
       within = omega arith;
       ends = subst E (sym t) (no-ends (end_room m.journal));
       ears = no-ears m.journal.items m.draft.ears m.draft.rings j q;

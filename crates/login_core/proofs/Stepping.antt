@@ -1,17 +1,19 @@
 -- What a step keeps.
 use Rattle.std.proofs.Common.{◌≡◌, ◌≤◌, ◌<◌, ◌+◌, ◌-◌, ℕ, Bool, false, cond, Option, Some, None, List, [], ◌∷◌, ◌++◌, length, refl, ap, sym, subst, ◌∙◌, arith}
+use Rattle.std.proofs.Math.Nat.{le-min}
 use Rattle.login_base.specs.declared.ids.ConnId.{ConnId}
 use Rattle.login_base.specs.declared.ids.HandleNo.{HandleNo}
 use Rattle.device_model.specs.Ears.{heard_of}
 use Rattle.login_model.specs.Full.{mark_count, taken_count}
 use Rattle.login_model.specs.Legal.{IsLegal, IsPlaced, answered, stepped, trail_of}
-use Rattle.login_laws.specs.Amounts.{Keys, Marks}
+use Rattle.login_laws.specs.Amounts.{Keys, Marks, Part, keys_in}
 use Rattle.login_laws.specs.Keys.{most_keys, switch_keys}
-use Rattle.login_laws.specs.Need.{IsDisconnect, need}
+use Rattle.login_laws.specs.Few.{TakeAtMost, most_of_one}
+use Rattle.login_laws.specs.Need.{IsDisconnect, most_marks, need}
 use Rattle.login_model.specs.Policy.{verdict}
 use Rattle.login_laws.specs.Sound.{IsSound}
 use Rattle.login_model.specs.Stopping.{is_stop, stop_from, stopped}
-use Rattle.login_model.specs.Trail.{Trail, key_count}
+use Rattle.login_model.specs.Trail.{Trail}
 use Rattle.login_model.specs.Where.{connections}
 use Rattle.login_model.specs.Answers.{answer}
 use Rattle.login_model.specs.declared.answer.Answer.{Answer}
@@ -24,10 +26,13 @@ use Rattle.login_model.specs.declared.mark.Mark.{Mark}
 use Rattle.login_model.specs.declared.rule.Verdict.{Verdict}
 use Rattle.login_model.specs.declared.setup.Setup.{Setup}
 use Rattle.login_laws.proofs.Comings.{disconnect-connections}
-use Rattle.login_laws.proofs.EventMarks.{other}
+use Rattle.login_laws.proofs.Accords.{good-sound}
+use Rattle.login_laws.proofs.EventMarks.{other, taken-within}
+use Rattle.login_laws.proofs.FewTaken.{each-takes-few}
 use Rattle.login_laws.proofs.KeyEvents.{keys-are-kept}
 use Rattle.login_laws.proofs.RoomLaws.{room, stop-stays}
 use Rattle.login_laws.proofs.SharesLaws.{ends-have-shares}
+use Rattle.login_laws.proofs.SoundLaws.{sound-journal}
 use Rattle.login_core.specs.Fullness.{always_fits}
 use Rattle.login_core.specs.inner.Board.{IsBegun}
 use Rattle.login_core.specs.inner.Ears.{AreEars, heard_evdev, settled}
@@ -39,7 +44,7 @@ use Rattle.login_core.specs.inner.Ledger.{end_room, next_room}
 use Rattle.login_core.specs.Ready.{AreReady}
 use Rattle.login_core.specs.inner.Spares.{HaveTexts}
 use Rattle.login_core.specs.inner.UnderWay.{entry_of}
-use Rattle.login_core.specs.State.{CoreState, IsReady, IsRoomFor, NextIsWide}
+use Rattle.login_core.specs.State.{CoreState, IsReady, IsRoomFor, NextIsWide, keys_of}
 use Rattle.login_core.specs.inner.State.{answer_next, stop_next}
 use Rattle.login_core.specs.declared.board.Board.{Board}
 use Rattle.login_core.specs.declared.room.ready.Ready.{Ready}
@@ -157,15 +162,22 @@ ready-texts c Stop r = tt
 
 -- ---- the marks stay within the reach
 
+-- no session has taken more than all have, nor more than may be
+take-few : (U : Setup) (es : List Entry) → IsLegal U es → TakeAtMost (most_of_one (trail_of es)) (trail_of es)
+take-few U es l s =
+    let t = trail_of es in
+    le-min (taken-within t (good-sound t (sound-journal U es l).between) s) (each-takes-few U es l s)
+
 other-within : (U : Setup) (m : Board) (x : Texts) (a : Ready) (stop : Option ℕ) (e : Event) (v : Verdict) (reach : ℕ) → (IsDisconnect e → ⊥) → IsRoomFor (seen U m x a) e → reach ≡ m.draft.reach → Stepping U m x a stop e v
     → length (stepped U v e (trail_of m.journal.items)) ≤ reach
-other-within U m x a stop e v reach n r h s =
+other-within U m x a stop e Granted reach n r h s =
     let t = trail_of m.journal.items in
-    let P : Verdict → Type 0 = λ w. length (stepped U w e t) ≤ reach in
-    let w = other U t e s.sound n in
-    let marks = w.marks in
-    let room = r.reach in
-    subst P (sym s.verdict_is) (omega arith)
+    let k = most_of_one t in
+    let P : Verdict → Type 0 = λ w. length (stepped U w e t) ≤ length t + most_marks k t e in
+    let marks = subst P (sym s.verdict_is) (other U k t e s.sound (take-few U m.journal.items s.core.legal) n).marks in
+    let room = r.reach (sym s.verdict_is) in
+    omega arith
+other-within U m x a stop e (Denied broken) reach n r h s = (let within = s.core.within in omega arith)
 
 -- a connection's end has room in the list that was kept for it, and tables have room for it
 end-within : (U : Setup) (m : Board) (x : Texts) (a : Ready) (stop : Option ℕ) (c : ConnId) (v : Verdict) (reach : ℕ) → BeginsReach (Disconnect c) m reach → Stepping U m x a stop (Disconnect c) v
@@ -205,34 +217,34 @@ stays-within U m x a stop Stop v reach h s = stop-within U m x a stop v reach h 
 
 -- with those of a switch that may complete still
 KeysFit : Board → Setup → Event → Verdict → Type 0
-KeysFit m U e v = key_count (stepped U v e (trail_of m.journal.items)) + switch_keys (stepped U v e (trail_of m.journal.items)) ≤ m.draft.keys
+KeysFit m U e v = (p : Part) → keys_in p (stepped U v e (trail_of m.journal.items)) + switch_keys p (stepped U v e (trail_of m.journal.items)) ≤ keys_of p m.draft.keys
 
 other-keys : (U : Setup) (m : Board) (x : Texts) (a : Ready) (stop : Option ℕ) (e : Event) (v : Verdict) → (IsDisconnect e → ⊥) → IsRoomFor (seen U m x a) e → Stepping U m x a stop e v → KeysFit m U e v
 unfolding KeysFit
-other-keys U m x a stop e Granted n r s =
+other-keys U m x a stop e Granted n r s = λ p.
     let t = trail_of m.journal.items in
-    let P : Verdict → Type 0 = λ w. key_count (stepped U w e t) + switch_keys (stepped U w e t) ≤ key_count t + most_keys t e in
-    let law = subst P (sym s.verdict_is) ((keys-are-kept U).other t e s.sound n) in
-    let room = r.keys (sym s.verdict_is) in
+    let P : Verdict → Type 0 = λ w. keys_in p (stepped U w e t) + switch_keys p (stepped U w e t) ≤ keys_in p t + most_keys p t e in
+    let law = subst P (sym s.verdict_is) ((keys-are-kept U p).other t e s.sound (each-takes-few U m.journal.items s.core.legal) n) in
+    let room = r.keys (sym s.verdict_is) p in
     omega arith
 other-keys U m x a stop e (Denied broken) n r s = s.core.keys
 
 end-keys : (U : Setup) (m : Board) (x : Texts) (a : Ready) (stop : Option ℕ) (c : ConnId) (v : Verdict) → Stepping U m x a stop (Disconnect c) v → KeysFit m U (Disconnect c) v
 unfolding KeysFit
-end-keys U m x a stop c v s =
+end-keys U m x a stop c v s = λ p.
     let t = trail_of m.journal.items in
-    let P : Verdict → Type 0 = λ w. key_count (stepped U w (Disconnect c) t) + switch_keys (stepped U w (Disconnect c) t) ≤ m.draft.keys in
-    let law = (keys-are-kept U).ends t c s.sound s.placed.0 in
-    let room = s.core.keys in
+    let P : Verdict → Type 0 = λ w. keys_in p (stepped U w (Disconnect c) t) + switch_keys p (stepped U w (Disconnect c) t) ≤ keys_of p m.draft.keys in
+    let law = (keys-are-kept U p).ends t c s.sound (each-takes-few U m.journal.items s.core.legal) s.placed.0 in
+    let room = s.core.keys p in
     subst P (sym (s.verdict_is ∙ disconnect-granted U t c)) (omega arith)
 
 stop-keys : (U : Setup) (m : Board) (x : Texts) (a : Ready) (stop : Option ℕ) (v : Verdict) → Stepping U m x a stop Stop v → KeysFit m U Stop v
 unfolding KeysFit
-stop-keys U m x a stop v s =
+stop-keys U m x a stop v s = λ p.
     let t = trail_of m.journal.items in
-    let P : Verdict → Type 0 = λ w. key_count (stepped U w Stop t) + switch_keys (stepped U w Stop t) ≤ m.draft.keys in
-    let same = ap (λ (u : Trail). key_count u + switch_keys u) (stop-stays U t s.sound) in
-    let room = s.core.keys in
+    let P : Verdict → Type 0 = λ w. keys_in p (stepped U w Stop t) + switch_keys p (stepped U w Stop t) ≤ keys_of p m.draft.keys in
+    let same = ap (λ (u : Trail). keys_in p u + switch_keys p u) (stop-stays U t s.sound) in
+    let room = s.core.keys p in
     subst P (sym (s.verdict_is ∙ stop-granted U t)) (omega arith)
 
 keys-fit : (U : Setup) (m : Board) (x : Texts) (a : Ready) (stop : Option ℕ) (e : Event) (v : Verdict) → Stepping U m x a stop e v → KeysFit m U e v
@@ -244,14 +256,14 @@ keys-fit U m x a stop (Disconnect c) v s = end-keys U m x a stop c v s
 keys-fit U m x a stop Stop v s = stop-keys U m x a stop v s
 
 pub keys-step : (U : Setup) (m : Board) (x : Texts) (a : Ready) (stop : Option ℕ) (e : Event) (v : Verdict) → Stepping U m x a stop e v
-    → key_count (stepped U v e (trail_of m.journal.items)) + switch_keys (stepped U v e (trail_of m.journal.items)) ≤ m.draft.keys
+    → (p : Part) → keys_in p (stepped U v e (trail_of m.journal.items)) + switch_keys p (stepped U v e (trail_of m.journal.items)) ≤ keys_of p m.draft.keys
 unfolding KeysFit
 keys-step U m x a stop e v s = keys-fit U m x a stop e v s
 
 -- there is room for marks, and for keys
-pub fits-both : (f : Trail → Trail) (d : DraftState) → length (f d.trail) ≤ d.reach → key_count (f d.trail) ≤ d.keys → Fits f d
+pub fits-both : (f : Trail → Trail) (d : DraftState) → length (f d.trail) ≤ d.reach → ((p : Part) → keys_in p (f d.trail) ≤ keys_of p d.keys) → Fits f d
 fits-both f d marks keys Marks = marks
-fits-both f d marks keys Keys = keys
+fits-both f d marks keys (Keys p) = keys p
 
 -- ---- each connection's end keeps its room
 
@@ -361,7 +373,6 @@ core-closed U m n x y a b stop next e v ms s w j k g l r same_keys within follow
     let c = ap (λ (u : Trail). length (connections u)) trail in
     let f = ap (λ (u : Trail). length u + need u) trail in
     let i = ap stop_need o in
-    let u = ap (λ (u : Trail). key_count u + switch_keys u) trail in
     let keys_kept = keys-step U m x a stop e v s in
     let A = kept.entries_kept in
     let B = kept.reach_kept in
@@ -375,7 +386,12 @@ core-closed U m n x y a b stop next e v ms s w j k g l r same_keys within follow
       stop_is = o ∙ ap (λ (p : Option ℕ). stop_next p e (length es + 1)) s.core.stop_is ∙ sym (stop-closed es d) ∙ ap (stop_from 1) (sym j);
       entries = omega arith;
       reach = omega arith;
-      keys = omega arith;
+      keys = λ p. (
+          let same = ap (λ (u : Trail). keys_in p u + switch_keys p u) trail in
+          let room = ap (keys_of p) same_keys in
+          let step = keys_kept p in
+          omega arith
+          );
       within = (let same = ap length k in omega arith);
       ends = subst E (sym trail) (ends-step U m x a stop e v (end_room n.journal) follows s);
       ears = ears-closed U m n x a b stop e v ms s w j q;

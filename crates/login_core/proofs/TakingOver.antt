@@ -1,5 +1,5 @@
 -- Marks are put into the facts, one after the other, and the draft goes on behind them.
-use Rattle.std.proofs.Common.{◌≡◌, ℕ, zero, suc, ◌+◌, ◌<◌, ◌≤◌, ◌^◌, ◌∙◌, Bool, false, cond, List, [], ◌∷◌, ◌++◌, length, take, drop, get_or, refl, sym, ap, subst, arith}
+use Rattle.std.proofs.Common.{◌≡◌, ℕ, zero, suc, ◌+◌, ◌<◌, ◌≤◌, ◌^◌, ◌∙◌, false, List, [], ◌∷◌, ◌++◌, length, take, drop, get_or, refl, sym, ap, subst, arith}
 use Rattle.std.proofs.lemmas.List.{take_more, length-append}
 use Rattle.std.specs.List.{AllByRecursion}
 use Rattle.login_base.specs.Room.{Room}
@@ -7,7 +7,7 @@ use Rattle.login_laws.proofs.JournalLaws.{length-after}
 use Rattle.login_laws.proofs.LeftHandles.{handles-are-left}
 use Rattle.login_laws.specs.Sound.{Awaits}
 use Rattle.login_model.specs.Legal.{trail_of}
-use Rattle.login_model.specs.Trail.{Trail, after, key_count, value, was_set}
+use Rattle.login_model.specs.Trail.{Trail, after, value, was_set}
 use Rattle.login_model.specs.declared.fact.Fact.{Fact}
 use Rattle.login_model.specs.declared.fact.Key.{Key}
 use Rattle.login_model.specs.declared.mark.Entry.{Entry}
@@ -20,17 +20,19 @@ use Rattle.switch_core.specs.Handles.{HandlesLeft, IsNumbered}
 use Rattle.device_model.specs.declared.ears.Ear.{Ear}
 use Rattle.login_core.specs.declared.board.Reach.{Reach}
 use Rattle.login_core.specs.declared.board.seating.Seating.{Seating}
-use Rattle.login_core.specs.inner.Draft.{DraftState, Fits, IsDraft, marked_by, with_ears, with_keys, with_trail}
-use Rattle.login_laws.specs.Amounts.{Keys, Marks}
+use Rattle.login_core.specs.inner.Draft.{DraftState, Fits, IsDraft, all_keys, marked_by, with_ears, with_keys, with_trail}
+use Rattle.login_laws.specs.Amounts.{Keys, Marks, Part, keys_in, new_in, part}
 use Rattle.login_laws.proofs.Widens.{Widens, say-widens, set-widens, widens-refl, widens-trans}
 use Rattle.login_table.specs.Home.{home}
-use Rattle.login_core.specs.inner.Facts.{Tables, StandFor, StandsForFew, new_keys, table}
+use Rattle.login_core.specs.State.{keys_of}
+use Rattle.login_core.specs.declared.board.keys.KeyRoom.{KeyRoom}
+use Rattle.login_core.specs.inner.Facts.{Tables, StandFor, StandsForFew, table}
 use Rattle.login_core.specs.inner.Seating.{AreSeated, CanSeat, Seats}
 use Rattle.login_core.specs.inner.TakingOver.{CanTakeOver, TakesOver}
 use Rattle.login_core.specs.inner.UnderWay.{so_far}
 use Rattle.login_core.proofs.Counting.{handles-bound}
-use Rattle.login_core.proofs.Drafting.{keys-say, keys-set, new-here, seen}
-use Rattle.login_core.proofs.Standing.{opened, stand-say}
+use Rattle.login_core.proofs.Drafting.{keys-say, keys-set, new-here, new-room, part-keys, same-keys, seen}
+use Rattle.login_core.proofs.Standing.{stand-say}
 use Rattle.login_core.proofs.TallyLaws.{seated-noted, seated-room, seated-say}
 
 -- ---- one mark
@@ -44,26 +46,24 @@ can-note f s m k x y c e = let few = c.few in seated-room s k x y c.trail c.seat
 pub can-few : (f : Tables) (s : Seating) (m : Mark) → CanTakeOver f s (m ∷ []) → StandsForFew StandFor f
 can-few f s m c = let few = c.few in record { marks = c.trail; stand = c.stands; few = omega arith }
 
-pub can-fresh : (f : Tables) (s : Seating) (m : Mark) (k : Key) (x : Fact) → m ≡ Set k x → CanTakeOver f s (m ∷ []) → was_set (table f (home k)) k ≡ false → 0 < f.fresh
+pub can-fresh : (f : Tables) (s : Seating) (m : Mark) (k : Key) (x : Fact) → m ≡ Set k x → CanTakeOver f s (m ∷ []) → was_set (table f (home k)) k ≡ false → 0 < keys_of (part k) f.fresh
 can-fresh f s m k x e c new =
     let d = can-set f s m k x e c in
-    let n : new_keys d.trail k ≡ 1 = ap (λ (b : Bool). cond b 0 1) (sym ((opened f d.trail d.stands).keys k) ∙ new) in
-    let i = keys-set k x d.trail in
-    let j = d.keys in
-    omega arith
+    new-room f k x d.trail (keys_in (part k) d.trail + keys_of (part k) f.fresh) d.stands (d.keys (part k)) refl new
 
 -- the setting of a fact, which was read before and put in as a copy
 pub takes-set : (f g : Tables) (s u : Seating) (m : Mark) (k : Key) (x y z : Fact) → m ≡ Set k x → z ≡ x → ((t : Trail) → StandFor f t → y ≡ value t k) → ((t : Trail) → StandFor f t → StandFor g (Set k z ∷ t)) → Seats s k y z u
-    → f.spare ≡ g.spare + 1 → f.fresh ≡ g.fresh + new_keys (table f (home k)) k → g.ears ≡ f.ears → g.rings ≡ f.rings → TakesOver f s (m ∷ []) g u
+    → f.spare ≡ g.spare + 1 → ((p : Part) → keys_of p f.fresh ≡ keys_of p g.fresh + new_in p (table f (home k)) k) → g.ears ≡ f.ears → g.rings ≡ f.rings → TakesOver f s (m ∷ []) g u
 takes-set f g s u m k x y z e copy read stands seats spare fresh ears rings =
     record {
       stands = λ t h. subst (λ (n : Mark). StandFor g (n ∷ t)) (ap (Set k) copy ∙ sym e) (stands t h);
       seated = λ t h a. subst (λ (n : Mark). AreSeated u (n ∷ t)) (sym e) (seated-noted s u k z y x t a (read t h) copy seats);
       spare = omega arith;
-      keys = λ t h. (
-          let n = new-here f t k h in
-          let c = keys-set k x t in
-          let q = ap (λ (i : Mark). key_count (i ∷ t)) e in
+      keys = λ t h p. (
+          let n = new-here p f t k h in
+          let c = keys-set p k x t in
+          let q = ap (λ (i : Mark). keys_in p (i ∷ t)) e in
+          let left = fresh p in
           omega arith
           );
       ears = ears;
@@ -75,7 +75,7 @@ takes-say f s m w n e = record {
   stands = λ t h. subst (λ (k : Mark). StandFor f (k ∷ t)) (sym e) (stand-say f t w n h);
   seated = λ t h a. subst (λ (k : Mark). AreSeated s (k ∷ t)) (sym e) (seated-say s w n t a);
   spare = omega arith;
-  keys = λ t h. (let c = keys-say w n t in let q = ap (λ (i : Mark). key_count (i ∷ t)) e in omega arith);
+  keys = λ t h p. (let c = keys-say p w n t in let q = ap (λ (i : Mark). keys_in p (i ∷ t)) e in omega arith);
   ears = refl;
   rings = refl;
 }
@@ -95,10 +95,10 @@ takes-both f g h s u v ms ns a b =
       stands = λ t w. subst (StandFor h) (sym (after-append t ms ns)) (b.stands (after t ms) (a.stands t w));
       seated = λ t w i. subst (AreSeated v) (sym (after-append t ms ns)) (b.seated (after t ms) (a.stands t w) (a.seated t w i));
       spare = omega arith;
-      keys = λ t w. (
-          let one = a.keys t w in
-          let two = b.keys (after t ms) (a.stands t w) in
-          let all = ap key_count (after-append t ms ns) in
+      keys = λ t w p. (
+          let one = a.keys t w p in
+          let two = b.keys (after t ms) (a.stands t w) p in
+          let all = ap (keys_in p) (after-append t ms ns) in
           omega arith
           );
       ears = b.ears ∙ a.ears;
@@ -131,10 +131,10 @@ after-widens t [] = widens-refl t
 after-widens t (m ∷ ms) = widens-trans t (m ∷ t) (after (m ∷ t) ms) (mark-widens m t) (after-widens (m ∷ t) ms)
 
 -- the next mark sets no more keys than all do
-keys-next : (t : Trail) (ms : List Mark) (i : ℕ) (m : Mark) → i < length ms → m ≡ get_or ms i m → key_count (after (after t (take i ms)) (m ∷ [])) ≤ key_count (after t ms)
-keys-next t [] i m l e = absurd (omega arith)
-keys-next t (x ∷ xs) zero m l e = (let q = ap (λ (n : Mark). key_count (n ∷ t)) e in let w : key_count (x ∷ t) ≤ key_count (after (x ∷ t) xs) = after-widens (x ∷ t) xs Keys in omega arith)
-keys-next t (x ∷ xs) (suc i) m l e = keys-next (x ∷ t) xs i m (omega arith) e
+keys-next : (p : Part) (t : Trail) (ms : List Mark) (i : ℕ) (m : Mark) → i < length ms → m ≡ get_or ms i m → keys_in p (after (after t (take i ms)) (m ∷ [])) ≤ keys_in p (after t ms)
+keys-next p t [] i m l e = absurd (omega arith)
+keys-next p t (x ∷ xs) zero m l e = (let q = ap (λ (n : Mark). keys_in p (n ∷ t)) e in let w : keys_in p (x ∷ t) ≤ keys_in p (after (x ∷ t) xs) = after-widens (x ∷ t) xs (Keys p) in omega arith)
+keys-next p t (x ∷ xs) (suc i) m l e = keys-next p (x ∷ t) xs i m (omega arith) e
 
 -- the next one can be put in
 pub can-next : (f g : Tables) (s u : Seating) (ms : List Mark) (i : ℕ) (m : Mark) → i < length ms → m ≡ get_or ms i m → CanTakeOver f s ms → TakesOver f s (take i ms) g u → CanTakeOver g u (m ∷ [])
@@ -150,7 +150,7 @@ can-next f g s u ms i m l e c a =
       seated = a.seated c.trail c.stands c.seated;
       few = omega arith;
       spare = omega arith;
-      keys = (let b = keys-next c.trail ms i m l e in let d = a.keys c.trail c.stands in let all = c.keys in omega arith);
+      keys = λ p. (let b = keys-next p c.trail ms i m l e in let d = a.keys c.trail c.stands p in let all = c.keys p in omega arith);
       plain = (plain-at ms i m l e c.plain, tt);
     }
 
@@ -183,11 +183,11 @@ has-room f es marks facts seating made reach d t draft v h e =
     omega arith
 
 -- and so is there for the keys that it sets
-keys-inside : (f : Trail → Trail) (es : List Entry) (ms : List Mark) (facts : Tables) (reach : Reach) (d : DraftState) → seen es ms facts reach ≡ d → Fits f d → key_count (f (so_far es ms)) ≤ key_count (so_far es ms) + facts.fresh
-keys-inside f es ms facts reach d v h =
-    let n = ap (λ (w : DraftState). key_count (f w.trail)) v in
-    let r = ap (λ (w : DraftState). w.keys) v in
-    let m : key_count (f d.trail) ≤ d.keys = h Keys in
+keys-inside : (p : Part) (f : Trail → Trail) (es : List Entry) (ms : List Mark) (facts : Tables) (reach : Reach) (d : DraftState) → seen es ms facts reach ≡ d → Fits f d → keys_in p (f (so_far es ms)) ≤ keys_in p (so_far es ms) + keys_of p facts.fresh
+keys-inside p f es ms facts reach d v h =
+    let n = ap (λ (w : DraftState). keys_in p (f w.trail)) v in
+    let r = sym (part-keys p (so_far es ms) facts.fresh) ∙ ap (λ (w : DraftState). keys_of p w.keys) v in
+    let m : keys_in p (f d.trail) ≤ keys_of p d.keys = h (Keys p) in
     omega arith
 
 -- the next handle can be numbered behind them
@@ -268,7 +268,7 @@ more-can f es marks new facts seating made reach d from h e =
       seated = draft.seated;
       few = omega arith;
       spare = omega arith;
-      keys = (let b = ap key_count (behind f t marks.items new.items from h.appends e) in let k = keys-inside f es marks.items facts reach d h.view h.room in omega arith);
+      keys = λ p. (let b = ap (keys_in p) (behind f t marks.items new.items from h.appends e) in let k = keys-inside p f es marks.items facts reach d h.view h.room in omega arith);
       plain = subst (AllByRecursion SetsPlain) (sym (more f t marks.items new.items from h.appends e)) h.appends.plain;
     }
 
@@ -322,9 +322,9 @@ pub more-seen : (f : Trail → Trail) (es : List Entry) (marks new : Room Mark) 
 more-seen f es marks new facts tables seating seats made reach d from h e o =
     let s = seen es marks.items facts reach in
     let t = so_far es marks.items in
-    let k : key_count (f t) + tables.fresh ≡ key_count t + facts.fresh = (let b = ap key_count (behind f t marks.items new.items from h.appends e) in let q = o.keys t h.draft.stands in omega arith) in
-    ap (λ (u : Trail). with_ears tables.ears tables.rings (with_keys (key_count u + tables.fresh) (with_trail s u))) (so_far-behind f es marks.items new.items h.appends)
-    ∙ ap (λ (n : ℕ). with_ears tables.ears tables.rings (with_keys n (with_trail s (f t)))) k
+    let k = same-keys (f t) t tables.fresh facts.fresh (λ p. (let b = ap (keys_in p) (behind f t marks.items new.items from h.appends e) in let q = o.keys t h.draft.stands p in omega arith)) in
+    ap (λ (u : Trail). with_ears tables.ears tables.rings (with_keys (all_keys u tables.fresh) (with_trail s u))) (so_far-behind f es marks.items new.items h.appends)
+    ∙ ap (λ (n : KeyRoom). with_ears tables.ears tables.rings (with_keys n (with_trail s (f t)))) k
     ∙ ap (λ (ears : List Ear). with_ears ears tables.rings (with_trail s (f t))) o.ears
     ∙ ap (λ (n : ℕ). with_ears facts.ears n (with_trail s (f t))) o.rings
     ∙ ap (λ (w : DraftState). marked_by f w) h.view

@@ -11,12 +11,13 @@ use Rattle.login_model.specs.Same.{same_key}
 use Rattle.login_model.specs.Trail.{Trail, was_set}
 use Rattle.login_model.proofs.Keys.{same_key-true, test}
 use Rattle.login_table.specs.Home.{home}
+use Rattle.login_laws.specs.Amounts.{OfOthers, new_in}
 use Rattle.login_core.specs.declared.board.owing.Dues.{Dues}
 use Rattle.login_core.specs.declared.board.owing.Dues.TheVariants as dues
 use Rattle.login_core.specs.declared.board.owing.Charge.{Charge}
 use Rattle.login_core.specs.declared.board.owing.Owing.{Owing}
 use Rattle.login_core.specs.inner.Dues.{EachCharged, EachDue, HasRow, HaveRows, connection_in, new_rows}
-use Rattle.login_core.specs.inner.Facts.{Tables, TablesStand, new_keys, table}
+use Rattle.login_core.specs.inner.Facts.{Tables, TablesStand, table}
 use Rattle.login_core.specs.inner.Sums.{KeepRows, has_row}
 use Rattle.login_core.proofs.Known.{some-weaker}
 
@@ -32,7 +33,7 @@ or-cond : (a b : Bool) → (a || b) ≡ cond a true b
 or-cond true b = refl
 or-cond false b = refl
 
-set-is : (j : Key) (x : Fact) (t : Trail) (k : Key) → was_set (Set j x ∷ t) k ≡ cond (same_key j k) true (was_set t k)
+pub set-is : (j : Key) (x : Fact) (t : Trail) (k : Key) → was_set (Set j x ∷ t) k ≡ cond (same_key j k) true (was_set t k)
 unfolding was_set
 set-is j x t k = or-cond (same_key j k) (was_set t k)
 
@@ -72,19 +73,19 @@ welcome-room f k t old lost put comer s rows keep same is room = subst P (sym is
 
 -- and it takes room only where its key is new
 pub rows-few : (f : Tables) (k : Key) (t : Trail) (old lost put : Owing) (comer : Option ConnId) → TablesStand f t → HaveRows old t → KeepRows old.marks.items lost.marks.items → put ≡ lost → comer ≡ connection_in k
-    → new_rows put comer ≤ new_keys (table f (home k)) k
+    → new_rows put comer ≤ new_in OfOthers (table f (home k)) k
 rows-few f k t old lost put comer s rows keep same is = subst P (sym is) (by k)
   where
     none : (n : ℕ) → 0 ≤ n
     none n = omega arith
 
     P : Option ConnId → Type 0
-    P o = new_rows put o ≤ new_keys (table f (home k)) k
+    P o = new_rows put o ≤ new_in OfOthers (table f (home k)) k
 
-    at : (c : ConnId) → (b : Bool) → has_row put.marks.items c.0 ≡ b → cond b 0 1 ≤ new_keys (table f (home (key.Conn c))) (key.Conn c)
-    at c true e = none (new_keys (table f (home (key.Conn c))) (key.Conn c))
-    at c false e = let n : new_keys (table f (home (key.Conn c))) (key.Conn c) ≡ 1 = ap (λ (b : Bool). cond b 0 1) (new-there f t c old lost put s rows keep same e) in omega arith
+    at : (c : ConnId) → (b : Bool) → has_row put.marks.items c.0 ≡ b → cond b 0 1 ≤ new_in OfOthers (table f (home (key.Conn c))) (key.Conn c)
+    at c true e = none (new_in OfOthers (table f (home (key.Conn c))) (key.Conn c))
+    at c false e = let n : new_in OfOthers (table f (home (key.Conn c))) (key.Conn c) ≡ 1 = ap (λ (b : Bool). cond b 0 1) (new-there f t c old lost put s rows keep same e) in omega arith
 
-    by : (j : Key) → new_rows put (connection_in j) ≤ new_keys (table f (home j)) j
+    by : (j : Key) → new_rows put (connection_in j) ≤ new_in OfOthers (table f (home j)) j
     by (key.Conn c) = at c (has_row put.marks.items c.0) refl
-    by j = none (new_keys (table f (home j)) j)
+    by j = none (new_in OfOthers (table f (home j)) j)

@@ -4,12 +4,14 @@ use Rattle.login_base.specs.Room.{Room}
 use Rattle.login_base.specs.declared.ids.ConnId.{ConnId}
 use Rattle.login_model.specs.Full.{connected_after, full, taken_count}
 use Rattle.login_model.specs.Legal.{answered, trail_of}
+use Rattle.login_laws.specs.Amounts.{OfOthers, OfTaken, Part, keys_in}
+use Rattle.login_laws.specs.Few.{most_of_one}
 use Rattle.login_laws.specs.Keys.{most_keys}
 use Rattle.login_laws.specs.Need.{most_marks, most_of_any, most_rise, need}
 use Rattle.login_laws.specs.Shares.{concerns, most_share_rise, share}
 use Rattle.login_model.specs.Policy.{verdict}
 use Rattle.login_model.specs.Stopping.{stopped}
-use Rattle.login_model.specs.Trail.{Trail, key_count}
+use Rattle.login_model.specs.Trail.{Trail}
 use Rattle.login_model.specs.Where.{is_connected}
 use Rattle.login_model.specs.declared.event.Event.{Event}
 use Rattle.login_model.specs.declared.event.Event.TheVariants.{Connect, Disconnect, Stop}
@@ -23,11 +25,17 @@ use Rattle.login_core.specs.Ends.{room_of}
 use Rattle.login_core.specs.Ready.{AreReady}
 use Rattle.login_core.specs.declared.state.Refused.{Refused}
 use Rattle.login_core.specs.declared.state.Refused.TheVariants.{NoMemory, Full, Stopped}
+use Rattle.login_core.specs.declared.board.keys.KeyRoom.{KeyRoom}
 use Rattle.login_core.specs.declared.room.ready.Ready.{Ready}
 use Rattle.login_core.specs.declared.room.texts.Texts.{Texts}
 
+-- how many keys of a part there are
+abbrev pub keys_of : Part → KeyRoom → ℕ
+keys_of OfTaken keys = keys.taken
+keys_of OfOthers keys = keys.others
+
 -- the setup, the journal, and what was made ready: room for so many more entries; beside the tables for so many marks
--- in all, and in the tables for so many keys in all; in the list of the next entry for marks up to so many; for the marks of
+-- in all, and in the tables for so many keys of each part in all; in the list of the next entry for marks up to so many; for the marks of
 -- each connection's end, and of the end of one that comes; and for the inputs of so many handles; the copies of texts;
 -- and the verdict and the answer of the next event
 pub record CoreState : Type 0 where
@@ -35,7 +43,7 @@ pub record CoreState : Type 0 where
   pub journal : List Entry
   pub entries : ℕ
   pub far : ℕ
-  pub keys : ℕ
+  pub keys : KeyRoom
   pub reach : ℕ
   pub ends : List (ℕ × Room Mark)
   pub next_end : ℕ
@@ -63,13 +71,13 @@ NextIsWide _ t _ next = Unit {0}
 
 -- room was made for the event's entry and marks, for one device more that is taken, and for all that connections and
 -- the stop need after it: in the tables for the keys of all of it, where the event is granted; beside them for the marks
--- of any event and of the ends; in the list of the entry for the marks of this event, and in that of each connection for
--- those of its own end
+-- of any event and of the ends; in the list of the entry for the marks of this event, where it is granted, and in that of
+-- each connection for those of its own end
 pub record IsRoomFor (c : CoreState) (e : Event) : Type 0 where
   pub entries : connected_after c.setup (trail_of c.journal) e + 2 ≤ c.entries
   pub far : length (trail_of c.journal) + need (trail_of c.journal) + most_of_any (trail_of c.journal) + most_rise (trail_of c.journal) ≤ c.far
-  pub keys : verdict c.setup (trail_of c.journal) e ≡ Granted → key_count (trail_of c.journal) + most_keys (trail_of c.journal) e ≤ c.keys
-  pub reach : length (trail_of c.journal) + most_marks (trail_of c.journal) e ≤ c.reach
+  pub keys : verdict c.setup (trail_of c.journal) e ≡ Granted → (p : Part) → keys_in p (trail_of c.journal) + most_keys p (trail_of c.journal) e ≤ keys_of p c.keys
+  pub reach : verdict c.setup (trail_of c.journal) e ≡ Granted → length (trail_of c.journal) + most_marks (most_of_one (trail_of c.journal)) (trail_of c.journal) e ≤ c.reach
   pub ends : (who : ConnId) → is_connected (trail_of c.journal) who ≡ true → end_marks (verdict c.setup (trail_of c.journal) e) (trail_of c.journal) e who ≤ room_of c.ends who
   pub next_end : NextIsWide (verdict c.setup (trail_of c.journal) e) (trail_of c.journal) e c.next_end
   pub rings : taken_count (trail_of c.journal) + 1 ≤ c.rings

@@ -23,7 +23,9 @@ ghost use Rattle.login_base.specs.declared.ids.DevNo.{DevNo as AnyDevice};
 ghost use Rattle.login_base.specs.declared.ids.HandleNo.{HandleNo as AnyHandle};
 ghost use Rattle.login_model.specs.declared.answer.Input.{Input as AnyInput};
 ghost use Rattle.login_model.specs.declared.mark.Mark.{Mark as AnyMark};
-ghost use Rattle.login_model.specs.Trail.{after, key_count, put};
+ghost use Rattle.login_model.specs.Trail.{after, put};
+ghost use Rattle.login_laws.specs.Amounts.{Part as AnyPart, keys_in};
+ghost use Rattle.login_core.specs.State.{keys_of};
 ghost use Rattle.login_model.specs.Fresh.{next_lock, next_session};
 ghost use Rattle.login_core.specs.inner.Counts.{AreCounted};
 ghost use Rattle.device_model.specs.Ears.{heard_of};
@@ -34,6 +36,7 @@ ghost use Rattle.login_core.specs.inner.Ledger.{end_room, next_room, with_trimme
 ghost use Rattle.login_core.specs.inner.Rings.{ring_count};
 
 use crate::board::facts::Facts;
+use crate::board::keys::KeyRoom;
 use crate::board::seating::Seating;
 use crate::board::so_far::SoFar;
 use crate::room::counts::Counts;
@@ -71,11 +74,10 @@ pub struct Draft {
 }
 
 impl Model for Draft {
-    ghost use Rattle.login_core.specs.inner.Draft.{DraftState, IsDraft};
+    ghost use Rattle.login_core.specs.inner.Draft.{DraftState, IsDraft, all_keys};
     ghost use Rattle.login_core.specs.inner.UnderWay.{so_far};
     ghost use Rattle.std.specs.Prelude.{◌+◌};
     ghost use Rattle.login_model.specs.Legal.{trail_of};
-    ghost use Rattle.login_model.specs.Trail.{key_count};
 
     ghost Value = { DraftState };
 
@@ -84,7 +86,7 @@ impl Model for Draft {
       trail = so_far d.journal.value.items d.marks.items;
       reach = d.reach.entry;
       far = d.reach.all;
-      keys = key_count (so_far d.journal.value.items d.marks.items) + d.facts.fresh;
+      keys = all_keys (so_far d.journal.value.items d.marks.items) d.facts.fresh;
       ears = d.facts.ears;
       rings = d.facts.rings;
     } };
@@ -120,8 +122,7 @@ impl Draft {
     }
 
     /// How far marks may go so that there is room for so many in all: an eighth further than is asked for, where it is
-    /// not made so far yet. What connections have, and how many devices each session has taken, are gone over when
-    /// they get room, so they get it for some entries to come.
+    /// not made so far yet. What connections have is gone over when it gets room, so it gets it for some entries to come.
     fn far_for(&self, far: u32) -> u32
         requires { far + 2 < 2 ^ 31 }
         ensures far { far ≤ result }
@@ -137,14 +138,14 @@ impl Draft {
     }
 
     /// Makes room for so many more marks of the entry under way, for so many in all, each of which may be a setting,
-    /// and for so many more keys that were not set before.
-    pub fn reserve(&mut self, next: u32, far: u32, keys: usize) -> Result<(), NoMemory>
+    /// and for so many more keys of each part that were not set before.
+    pub fn reserve(&mut self, next: u32, far: u32, keys: KeyRoom) -> Result<(), NoMemory>
         requires more { self.old.far ≤ far }
         requires within { length self.old.trail + next ≤ far }
         requires numbered { far + 2 < 2 ^ 32 }
         ensures made { OnOk result (self.new ≡ with_keys self.new.keys (reaching (length self.old.trail + next) far self.old)) }
-        ensures keys { OnOk result (key_count self.old.trail + keys ≤ self.new.keys) }
-        ensures keeps_keys { self.old.keys ≤ self.new.keys }
+        ensures keys { OnOk result ((p : AnyPart) → keys_in p self.old.trail + keys_of p keys ≤ keys_of p self.new.keys) }
+        ensures keeps_keys { (p : AnyPart) → keys_of p self.old.keys ≤ keys_of p self.new.keys }
         ensures refused { OnErr result (self.new ≡ self.old) }
     {
         self.marks.reserve(with_more(next as usize))?;
@@ -383,7 +384,7 @@ impl Board {
         ensures begun { IfOk result (λ board. IsBegun board) }
     {
         let mut board = Board::new(alloc);
-        match board.reserve(1, 0, 0, 0) {
+        match board.reserve(1, 0, 0, KeyRoom::NONE) {
             Ok(()) => Ok(board),
             Err(NoMemory) => {
                 drop(board);
@@ -393,14 +394,14 @@ impl Board {
     }
 
     /// Makes room for so many more entries, for so many marks of the next one, for so many marks in all, each of which
-    /// may be a setting, and for so many more keys that were not set before. The entries, the marks in all and the keys
-    /// for which there is room already stay.
+    /// may be a setting, and for so many more keys of each part that were not set before. The entries, the marks in all
+    /// and the keys for which there is room already stay.
     pub fn reserve(
         &mut self,
         entries: u32,
         next: u32,
         far: u32,
-        keys: usize,
+        keys: KeyRoom,
     ) -> Result<(), NoMemory>
         requires within { length self.old.draft.trail + next ≤ far }
         requires numbered { far + 2 < 2 ^ 31 }
@@ -409,8 +410,8 @@ impl Board {
         ensures entries { OnOk result (entries ≤ self.new.journal.entries) }
         ensures reach { OnOk result (length self.new.draft.trail + next ≤ self.new.draft.reach) }
         ensures far { OnOk result (far ≤ self.new.draft.far) }
-        ensures keys { OnOk result (key_count self.old.draft.trail + keys ≤ self.new.draft.keys) }
-        ensures keeps_keys { self.old.draft.keys ≤ self.new.draft.keys }
+        ensures keys { OnOk result ((p : AnyPart) → keys_in p self.old.draft.trail + keys_of p keys ≤ keys_of p self.new.draft.keys) }
+        ensures keeps_keys { (p : AnyPart) → keys_of p self.old.draft.keys ≤ keys_of p self.new.draft.keys }
         ensures keeps_entries { self.old.journal.entries ≤ self.new.journal.entries }
         ensures keeps_far { self.old.draft.far ≤ self.new.draft.far }
         ensures ends { (c : AnyConnection) → end_room self.new.journal c ≡ end_room self.old.journal c }

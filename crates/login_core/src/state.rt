@@ -282,11 +282,11 @@ impl Core {
         ensures same { IsSame self.old self.new }
     {
         let entries = self.entries_for(event, verdict);
-        let next = self.board.draft.most_marks(event);
+        let next = self.board.draft.entry_marks(event, verdict);
         let reach = self.reach_for();
         let keys = self.board.draft.keys_needed(event, verdict);
         self.board
-            .reserve(entries as u32, next as u32, reach as u32, keys as usize)?;
+            .reserve(entries as u32, next as u32, reach as u32, keys)?;
         self.board.make_ends(event, verdict)?;
         let taken = self.board.draft.counts().taken;
         self.board.draft.make_rings(taken as usize + 1)?;

@@ -2,24 +2,26 @@
 use Rattle.std.specs.Prelude.{ℕ, ◌≡◌, ◌+◌, ◌<◌, ◌≤◌, ◌^◌, List, length}
 use Rattle.login_base.specs.Room.{Room}
 use Rattle.login_model.specs.declared.mark.Mark.{Mark}
-use Rattle.login_laws.specs.Amounts.{Keys, Marks, Resource, amount}
+use Rattle.login_laws.specs.Amounts.{Keys, Marks, OfOthers, OfTaken, Resource, amount, keys_in}
 use Rattle.login_model.specs.Trail.{Trail}
 use Rattle.device_model.specs.declared.ears.Ear.{Ear}
 pub use Rattle.switch_core.specs.inner.Ahead.{tell}
+use Rattle.login_core.specs.State.{keys_of}
 use Rattle.login_core.specs.declared.board.Reach.{Reach}
+use Rattle.login_core.specs.declared.board.keys.KeyRoom.{KeyRoom}
 use Rattle.login_core.specs.declared.board.seating.Seating.{Seating}
 use Rattle.login_core.specs.inner.Facts.{Tables, StandFor}
 use Rattle.login_core.specs.inner.Seating.{AreSeated}
 
 -- the marks before the entry under way, and those so far, both the newest first; how many marks there may be in
--- all, with those of this entry and with those of later ones too; how many keys there may be settings of; the handles
+-- all, with those of this entry and with those of later ones too; how many keys of each part there may be settings of; the handles
 -- that listen to devices, and how many rings are spare
 pub record DraftState : Type 0 where
   pub before : Trail
   pub trail : Trail
   pub reach : ℕ
   pub far : ℕ
-  pub keys : ℕ
+  pub keys : KeyRoom
   pub ears : List Ear
   pub rings : ℕ
 
@@ -32,13 +34,17 @@ abbrev pub marked_by : (Trail → Trail) → DraftState → DraftState
 marked_by f d = with_trail d (f d.trail)
 
 -- the number that is a resource's
-abbrev pub of_resource : Resource → ℕ → ℕ → ℕ
+abbrev pub of_resource : Resource → ℕ → KeyRoom → ℕ
 of_resource Marks marks keys = marks
-of_resource Keys marks keys = keys
+of_resource (Keys p) marks keys = keys_of p keys
 
--- how many marks there may be, or keys with a setting
+-- how many marks there may be, or keys of a part with a setting
 abbrev pub limit : Resource → DraftState → ℕ
 limit r d = of_resource r d.reach d.keys
+
+-- the keys that were set, and those for which there is room
+abbrev pub all_keys : Trail → KeyRoom → KeyRoom
+all_keys t fresh = record { taken = keys_in OfTaken t + fresh.taken; others = keys_in OfOthers t + fresh.others }
 
 -- there is room for the marks of a procedure, and for the keys that they set
 abbrev pub Fits : (Trail → Trail) → DraftState → Type 0
@@ -49,7 +55,7 @@ abbrev pub reaching : ℕ → ℕ → DraftState → DraftState
 reaching n far d = record d { reach = n; far = far }
 
 -- there may be settings of so many keys
-abbrev pub with_keys : ℕ → DraftState → DraftState
+abbrev pub with_keys : KeyRoom → DraftState → DraftState
 with_keys n d = record d { keys = n }
 
 -- so many rings are spare

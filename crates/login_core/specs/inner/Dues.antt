@@ -1,6 +1,7 @@
 -- What is kept of what connections owe, and how a setting moves it.
 use Rattle.std.specs.Prelude.{ℕ, ◌≡◌, ◌+◌, ◌*◌, if◌then◌else◌, true, Option, Some, None, IfSome, length}
 use Rattle.login_base.specs.declared.ids.ConnId.{ConnId}
+use Rattle.login_base.specs.declared.ids.DevNo.{DevNo}
 use Rattle.login_base.specs.declared.ids.SessId.{SessId}
 use Rattle.login_model.specs.declared.fact.Key.{Key}
 use Rattle.login_model.specs.declared.fact.Key.TheVariants as key
@@ -69,12 +70,34 @@ abbrev pub new_rows : Owing → Option ConnId → ℕ
 new_rows owing None = 0
 new_rows owing (Some c) = if has_row owing.marks.items c.0 then 0 else 1
 
--- it has what the marks leave; each connection that a fact names was connected once, and each that was has a row
+-- ---- which sessions have a row
+
+-- the session that a key of what is taken is about
+abbrev pub taker_key : Key → Option SessId
+taker_key (key.Taken s d) = Some s
+taker_key _ = None
+
+-- a session has a row
+abbrev pub HasTaker : Owing → SessId → Type 0
+HasTaker owing s = has_row owing.taken.items s.0 ≡ true
+
+-- each that took a device once has one
+abbrev pub HaveTakers : Owing → Trail → Type 0
+HaveTakers owing t = (s : SessId) (d : DevNo) → was_set t (key.Taken s d) ≡ true → HasTaker owing s
+
+-- how many rows a session adds that takes its first device, if one does
+abbrev pub new_takers : Owing → Option SessId → ℕ
+new_takers owing None = 0
+new_takers owing (Some s) = if has_row owing.taken.items s.0 then 0 else 1
+
+-- it has what the marks leave; each connection that a fact names was connected once, and each that was has a row, as
+-- has each session that took a device once
 pub record AreOwed (owing : Owing) (t : Trail) : Type 0 where
   pub marks : (c : ConnId) → sum_in owing.marks.items c.0 ≡ owed t c
   pub taken : AreTaken owing t
   pub known : AllNamesKnown t
   pub rows : HaveRows owing t
+  pub takers : HaveTakers owing t
 
 -- ---- what is due
 

@@ -1,5 +1,5 @@
 -- The facts in their tables.
-use Rattle.std.specs.Prelude.{ℕ, ◌≡◌, ◌+◌, ◌<◌, ◌^◌, if◌then◌else◌, List, length}
+use Rattle.std.specs.Prelude.{ℕ, ◌≡◌, ◌+◌, ◌<◌, ◌^◌, List, length}
 use Rattle.login_model.specs.declared.fact.Key.{Key}
 use Rattle.login_model.specs.Trail.{Trail, value, was_set}
 use Rattle.login_model.specs.Fresh.{fresh_session, fresh_handle, fresh_lock}
@@ -9,6 +9,7 @@ use Rattle.login_table.specs.declared.home.Home.{Home}
 use Rattle.login_table.specs.declared.home.Home.TheVariants.{Users, Sessions, Seats, Devices, Controls, Takes, Locks, Power}
 use Rattle.login_core.specs.declared.room.counts.Counts.{Counts}
 use Rattle.login_core.specs.declared.board.holding.Holding.{Holding}
+use Rattle.login_core.specs.declared.board.keys.KeyRoom.{KeyRoom}
 use Rattle.login_core.specs.declared.board.owing.Owing.{Owing}
 use Rattle.login_core.specs.inner.Counts.{AreCounted}
 use Rattle.login_core.specs.inner.Dues.{AreOwed}
@@ -18,7 +19,7 @@ use Rattle.login_table.specs.Home.{home}
 -- what facts are seen as: what each table has, as settings; the handles that listen to devices, and how many rings
 -- are spare; how many there are of what needs room; the numbers of the next session, the next handle and the next
 -- lock; what connections have, and what they owe; how many more settings go in without memory, and under how many keys
--- that were not set before
+-- of each part that were not set before
 pub record Tables : Type 0 where
   pub users : Trail
   pub sessions : Trail
@@ -37,7 +38,7 @@ pub record Tables : Type 0 where
   pub held : List Holding
   pub owing : Owing
   pub spare : ℕ
-  pub fresh : ℕ
+  pub fresh : KeyRoom
 
 -- the settings of one table
 abbrev pub table : Tables → Home → Trail
@@ -49,10 +50,6 @@ table f Controls = f.controls
 table f Takes = f.takes
 table f Locks = f.locks
 table f Power = f.power
-
--- how many keys more are set with that one
-abbrev pub new_keys : Trail → Key → ℕ
-new_keys t k = if was_set t k then 0 else 1
 
 -- each fact is the one that the marks leave, in the table where it has its home, which has the keys that were set; the
 -- counts are those of what is there, the numbers are those that the marks leave, and connections have what they leave

@@ -2,14 +2,16 @@
 use Rattle.std.specs.Prelude.{ℕ, ◌≡◌, ◌+◌, ◌≤◌, true, length, Option, Some, None}
 use Rattle.login_base.specs.declared.ids.ConnId.{ConnId}
 use Rattle.login_model.specs.Legal.{IsLegal, trail_of}
+use Rattle.login_laws.specs.Amounts.{Part, keys_in}
 use Rattle.login_laws.specs.Keys.{switch_keys}
 use Rattle.login_laws.specs.Need.{need}
 use Rattle.login_laws.specs.Shares.{share}
 use Rattle.login_model.specs.Setups.{IsSetup}
 use Rattle.login_model.specs.Stopping.{stop_from}
-use Rattle.login_model.specs.Trail.{Trail, key_count}
+use Rattle.login_model.specs.Trail.{Trail}
 use Rattle.login_model.specs.Where.{connections, is_connected}
 use Rattle.login_model.specs.declared.setup.Setup.{Setup}
+use Rattle.login_core.specs.State.{keys_of}
 use Rattle.login_core.specs.inner.Spares.{HaveTexts}
 use Rattle.login_core.specs.inner.Board.{IsBegun}
 use Rattle.login_core.specs.inner.Ears.{AreEars}
@@ -29,8 +31,7 @@ HaveEnds ends t = (c : ConnId) → is_connected t c ≡ true → share c t ≤ e
 
 -- The setup is one, the journal is legal under it, and no entry is under way. There is room for the end of each
 -- connection and for the stop: their entries, their marks, the keys that they set, the texts of the sessions that close;
--- and with them the
--- journal stays within its limits. Handles have heard what they read.
+-- and with them the journal stays within its limits. Handles have heard what they read.
 pub record IsCore (U : Setup) (m : Board) (texts : Texts) (stop : Option ℕ) : Type 0 where
   pub set_up : IsSetup U
   pub legal : IsLegal U m.journal.items
@@ -39,7 +40,7 @@ pub record IsCore (U : Setup) (m : Board) (texts : Texts) (stop : Option ℕ) : 
   pub stop_is : stop ≡ stop_from 1 m.journal.items
   pub entries : length (connections (trail_of m.journal.items)) + stop_need stop ≤ m.journal.entries
   pub reach : length (trail_of m.journal.items) + need (trail_of m.journal.items) ≤ m.draft.far
-  pub keys : key_count (trail_of m.journal.items) + switch_keys (trail_of m.journal.items) ≤ m.draft.keys
+  pub keys : (p : Part) → keys_in p (trail_of m.journal.items) + switch_keys p (trail_of m.journal.items) ≤ keys_of p m.draft.keys
   pub within : length (trail_of m.journal.items) ≤ m.draft.reach
   pub ends : HaveEnds (end_room m.journal) (trail_of m.journal.items)
   pub ears : AreEars m.journal.items m.draft.ears m.draft.rings

@@ -1,6 +1,6 @@
 // The facts, in their tables.
 
-ghost use Rattle.std.specs.Prelude.{◌≡◌, ◌+◌, ◌<◌, ◌≤◌, ◌^◌, [], ◌∷◌, IsSome, List, OnErr, OnOk, Some, false, length, nat_lt};
+ghost use Rattle.std.specs.Prelude.{◌≡◌, ◌+◌, ◌<◌, ◌≤◌, ◌^◌, if◌then◌else◌, [], ◌∷◌, IsSome, List, OnErr, OnOk, Some, false, true, length, nat_lt};
 ghost use Rattle.login_model.specs.Trail.{Trail, value, was_set};
 ghost use Rattle.login_model.specs.Fresh.{next_session, next_handle, next_lock};
 ghost use Rattle.login_model.specs.Names.{IsNext, session_lt, user_lt, conn_lt, seat_lt, device_lt, lock_lt};
@@ -15,16 +15,18 @@ ghost use Rattle.login_model.specs.declared.answer.Input.{Input as AnyInput};
 ghost use Rattle.login_core.specs.inner.Ears.{AreEnough, ListenOn, settled};
 ghost use Rattle.login_core.specs.inner.Rings.{ring_count};
 ghost use Rattle.login_table.specs.Home.{home};
+ghost use Rattle.login_laws.specs.Amounts.{Part as AnyPart, new_in, part};
+ghost use Rattle.login_core.specs.State.{keys_of};
 ghost use Rattle.login_core.specs.inner.Dues.{NamesKnown};
-ghost use Rattle.login_core.specs.inner.Facts.{StandFor, StandsForFew, TablesStand, new_keys, table};
+ghost use Rattle.login_core.specs.inner.Facts.{StandFor, StandsForFew, TablesStand, table};
 ghost use Rattle.login_core.specs.inner.Owing.{owed};
 ghost use Rattle.login_core.specs.inner.Sums.{sum_in};
 ghost use Rattle.login_core.specs.inner.Holding.{AreSuch};
 
 use crate::board::hearing::settle;
 use crate::board::holding::{Holding, Holdings, holding_in};
-use crate::board::owing::{Dues, Owing, Touched, connection_in, taker_in};
-use crate::board::with_more;
+use crate::board::keys::KeyRoom;
+use crate::board::owing::{Dues, Owing, Touched, connection_in, taker_in, taker_key};
 use crate::room::counts::Counts;
 use controller::Controller;
 use device_model::DeviceModel;
@@ -40,9 +42,13 @@ use std::alloc::Global;
 use std::marker::Model;
 use users_linger::UsersLinger;
 
-/// For how many keys tables get rows beyond those that are asked for and an eighth, so that they are not gone over at
-/// each event.
-const KEYS_AHEAD: usize = 32;
+/// What is left of room for keys where one goes in, which takes some of it if it is new.
+fn left(room: usize, is_new: bool) -> usize
+    requires { is_new ≡ true → 0 < room }
+    ensures { room ≡ result + (if is_new then 1 else 0) }
+{
+    if is_new { room - 1 } else { room }
+}
 
 /// The facts, how many there are of what needs room, the numbers of the next session, the next handle and the next
 /// lock, what each connection has, and what its end makes. They stand for the marks whose settings were put in. With
@@ -65,9 +71,9 @@ pub struct Facts {
     owing: Owing,
     /// How many more settings can be put in beside the tables.
     spare: usize,
-    /// How many more keys can be set that were not set before: tables have rows for them, and so have the sums of what
-    /// connections' ends make.
-    fresh: usize,
+    /// How many more keys of each part can be set that were not set before: tables have rows for them, and so have the
+    /// sums of what connections' ends make.
+    fresh: KeyRoom,
 }
 
 impl Model for Facts {
@@ -97,7 +103,7 @@ impl Model for Facts {
       fresh = f.fresh;
     } };
 
-    ghost invariant = { λ f. (f.fresh ≤ f.users.spare) × (f.fresh ≤ f.sessions.spare) × (f.fresh ≤ f.seats.spare) × (f.fresh ≤ f.devices.spare) × (f.fresh ≤ f.controls.spare) × (f.fresh ≤ f.takes.spare) × (f.fresh ≤ f.locks.spare) × (f.fresh ≤ f.power.spare) × (f.fresh ≤ f.owing.marks.spare) × (f.spare ≤ f.holdings.spare) × (f.spare ≤ f.owing.taken.spare) };
+    ghost invariant = { λ f. (f.fresh.others ≤ f.users.spare) × (f.fresh.others ≤ f.sessions.spare) × (f.fresh.others ≤ f.seats.spare) × (f.fresh.others ≤ f.devices.spare) × (f.fresh.others ≤ f.controls.spare) × (f.fresh.taken ≤ f.takes.spare) × (f.fresh.others ≤ f.locks.spare) × (f.fresh.others ≤ f.power.spare) × (f.fresh.others ≤ f.owing.marks.spare) × (f.fresh.taken ≤ f.owing.taken.spare) × (f.spare ≤ f.holdings.spare) };
 }
 
 #[tactic(auto, unfolding(crate::specs::inner::Facts::StandFor))]
@@ -123,7 +129,7 @@ impl Facts {
             holdings: Holdings::new(alloc),
             owing: Owing::new(alloc),
             spare: 0,
-            fresh: 0,
+            fresh: KeyRoom::NONE,
         }
     }
 
@@ -140,36 +146,35 @@ impl Facts {
             return Ok(());
         }
         self.holdings.reserve(more)?;
-        self.owing.reserve(more)?;
         self.spare = more;
         Ok(())
     }
 
-    /// Makes room in the tables for so many more keys that were not set before, each of which may be of a connection
-    /// that comes.
-    pub fn reserve_keys(&mut self, keys: usize) -> Result<(), NoMemory>
-        ensures ok { OnOk result (keys ≤ self.new.fresh) }
+    /// Makes room in the tables for so many more keys of each part that were not set before, where one of the others may
+    /// be of a connection that comes, and one of what is taken of a session that takes its first device.
+    pub fn reserve_keys(&mut self, keys: KeyRoom) -> Result<(), NoMemory>
+        ensures ok { OnOk result ((p : AnyPart) → keys_of p keys ≤ keys_of p self.new.fresh) }
         ensures refused { OnErr result (self.new.fresh ≡ self.old.fresh) }
         ensures stands { (t : Trail) → StandFor self.old t → StandFor self.new t }
         ensures spare { self.new.spare ≡ self.old.spare }
-        ensures fresh { self.old.fresh ≤ self.new.fresh }
+        ensures fresh { (p : AnyPart) → keys_of p self.old.fresh ≤ keys_of p self.new.fresh }
         ensures ears { self.new.ears ≡ self.old.ears }
         ensures rings { self.new.rings ≡ self.old.rings }
     {
-        if keys <= self.fresh {
+        if self.fresh.fits(keys) {
             return Ok(());
         }
-        let keys = with_more(keys).saturating_add(KEYS_AHEAD);
-        self.users.room(keys)?;
-        self.sessions.room(keys)?;
-        self.seats.room(keys)?;
-        self.devices.room(keys)?;
-        self.controls.room(keys)?;
-        self.takes.room(keys)?;
-        self.locks.room(keys)?;
-        self.power.room(keys)?;
-        self.owing.reserve_rows(keys)?;
-        self.fresh = keys;
+        let fresh = self.fresh.widened(keys);
+        self.users.room(fresh.others)?;
+        self.sessions.room(fresh.others)?;
+        self.seats.room(fresh.others)?;
+        self.devices.room(fresh.others)?;
+        self.controls.room(fresh.others)?;
+        self.takes.room(fresh.taken)?;
+        self.locks.room(fresh.others)?;
+        self.power.room(fresh.others)?;
+        self.owing.reserve(fresh)?;
+        self.fresh = fresh;
         Ok(())
     }
 
@@ -219,11 +224,11 @@ impl Facts {
     /// Puts a setting in the tables.
     fn put_in(&mut self, key: Key, fact: Fact)
         requires spare { 0 < self.old.spare }
-        requires fresh { was_set (table self.old (home key)) key ≡ false → 0 < self.old.fresh }
+        requires fresh { was_set (table self.old (home key)) key ≡ false → 0 < keys_of (part key) self.old.fresh }
         requires few { StandsForFew TablesStand self.old }
         ensures stands { (t : Trail) → TablesStand self.old t → TablesStand self.new (Set key fact ∷ t) }
         ensures spare { self.old.spare ≡ self.new.spare + 1 }
-        ensures fresh { self.old.fresh ≡ self.new.fresh + new_keys (table self.old (home key)) key }
+        ensures fresh { (p : AnyPart) → keys_of p self.old.fresh ≡ keys_of p self.new.fresh + new_in p (table self.old (home key)) key }
         ensures owing { self.new.owing ≡ self.old.owing }
         ensures ears { self.new.ears ≡ self.old.ears }
         ensures rings { self.new.rings ≡ self.old.rings }
@@ -239,14 +244,30 @@ impl Facts {
         self.lock += gained.locks;
         self.spare -= 1;
         match Home::of(&key) {
-            Home::Users => self.fresh -= usize::from(self.users.set(key, fact)),
-            Home::Sessions => self.fresh -= usize::from(self.sessions.set(key, fact)),
-            Home::Seats => self.fresh -= usize::from(self.seats.set(key, fact)),
-            Home::Devices => self.fresh -= usize::from(self.devices.set(key, fact)),
-            Home::Controls => self.fresh -= usize::from(self.controls.set(key, fact)),
-            Home::Takes => self.fresh -= usize::from(self.takes.set(key, fact)),
-            Home::Locks => self.fresh -= usize::from(self.locks.set(key, fact)),
-            Home::Power => self.fresh -= usize::from(self.power.set(key, fact)),
+            Home::Users => {
+                self.fresh.others = left(self.fresh.others, self.users.set(key, fact));
+            }
+            Home::Sessions => {
+                self.fresh.others = left(self.fresh.others, self.sessions.set(key, fact));
+            }
+            Home::Seats => {
+                self.fresh.others = left(self.fresh.others, self.seats.set(key, fact));
+            }
+            Home::Devices => {
+                self.fresh.others = left(self.fresh.others, self.devices.set(key, fact));
+            }
+            Home::Controls => {
+                self.fresh.others = left(self.fresh.others, self.controls.set(key, fact));
+            }
+            Home::Takes => {
+                self.fresh.taken = left(self.fresh.taken, self.takes.set(key, fact));
+            }
+            Home::Locks => {
+                self.fresh.others = left(self.fresh.others, self.locks.set(key, fact));
+            }
+            Home::Power => {
+                self.fresh.others = left(self.fresh.others, self.power.set(key, fact));
+            }
         }
     }
 
@@ -254,11 +275,11 @@ impl Facts {
     pub fn set(&mut self, key: Key, fact: Fact)
         requires known { NamesKnown fact self.old.controls }
         requires spare { 0 < self.old.spare }
-        requires fresh { was_set (table self.old (home key)) key ≡ false → 0 < self.old.fresh }
+        requires fresh { was_set (table self.old (home key)) key ≡ false → 0 < keys_of (part key) self.old.fresh }
         requires few { StandsForFew StandFor self.old }
         ensures stands { (t : Trail) → StandFor self.old t → StandFor self.new (Set key fact ∷ t) }
         ensures spare { self.old.spare ≡ self.new.spare + 1 }
-        ensures fresh { self.old.fresh ≡ self.new.fresh + new_keys (table self.old (home key)) key }
+        ensures fresh { (p : AnyPart) → keys_of p self.old.fresh ≡ keys_of p self.new.fresh + new_in p (table self.old (home key)) key }
         ensures ears { self.new.ears ≡ self.old.ears }
         ensures rings { self.new.rings ≡ self.old.rings }
     {
@@ -267,10 +288,11 @@ impl Facts {
         let lost_taker = taker_in(&key, before);
         let taker = taker_in(&key, &fact);
         let comer = connection_in(&key);
+        let keyed = taker_key(&key);
         let lost = Dues::of(self, touched);
         self.owing.lose(lost);
         self.put_in(key, fact);
-        self.owing.welcome(comer);
+        self.owing.welcome(comer, keyed);
         self.owing.shift(lost_taker, taker);
         let gained = Dues::of(self, touched);
         self.owing.gain(gained);

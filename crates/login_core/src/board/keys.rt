@@ -1,24 +1,76 @@
 // How many keys an event may set for the first time, for which tables get rows.
 
-ghost use Rattle.std.specs.Prelude.{◌≡◌, ◌+◌, ◌*◌, ◌<◌, ◌≤◌, ◌^◌, ◌||◌, if◌then◌else◌, length};
-ghost use Rattle.login_model.specs.Facts.{is_number_fact};
-ghost use Rattle.login_model.specs.Full.{taken_count};
-ghost use Rattle.login_model.specs.Trail.{value};
+ghost use Rattle.std.specs.Prelude.{◌≡◌, ◌&&◌, nat_le, ◌+◌, ◌*◌, ◌<◌, ◌≤◌, ◌^◌, ◌||◌, if◌then◌else◌, length};
 ghost use Rattle.login_model.specs.Where.{sessions};
-ghost use Rattle.login_laws.specs.Keys.{asks_to_turn, call_turns, keys_of_device, keys_of_switch, kills_all, most_keys};
+ghost use Rattle.login_laws.specs.Amounts.{Part as AnyPart};
+ghost use Rattle.login_laws.specs.Few.{most_of_one};
+ghost use Rattle.login_laws.specs.Keys.{asks_to_turn, call_turns, keys_of_switch, kills_all, most_keys};
+ghost use Rattle.login_laws.specs.Need.{may_switch};
+ghost use Rattle.login_core.specs.State.{keys_of};
 ghost use Rattle.login_core.specs.inner.Counts.{HoldersAreThere};
 
-use crate::board::Draft;
+use crate::board::{Draft, with_more};
 use login_model::{Call, Event, Hardware, Key, Look, Verdict};
 
 /// The keys of an event by itself, beside those of devices and of signals.
 const KEYS_BESIDE: u64 = 4;
 
-/// The keys of a device that comes back to its session: its handle's owner, that it is live, that the device is taken.
-const KEYS_OF_DEVICE: u64 = 3;
+/// The keys of a device that comes back to its session with a fresh handle: its owner, and that it is live.
+const KEYS_OF_DEVICE: u64 = 2;
 
 /// The keys of a switch beside those of devices: the terminal, a getty.
 const KEYS_OF_SWITCH: u64 = 2;
+
+/// For how many keys tables get rows beyond those that are asked for and an eighth, so that they are not gone over at
+/// each event.
+const KEYS_AHEAD: usize = 32;
+
+/// For how many keys there is room that were not set before, by what they are about.
+#[derive(Clone, Copy)]
+pub struct KeyRoom {
+    /// What sessions have taken, and with which handles.
+    pub taken: usize,
+    /// Anything else.
+    pub others: usize,
+}
+
+/// Room for so many keys: as it is where it is enough, else for an eighth and some more.
+fn widened(room: usize, keys: usize) -> usize
+    ensures enough { keys ≤ result }
+    ensures keeps { room ≤ result }
+{
+    if keys <= room {
+        room
+    } else {
+        with_more(keys).saturating_add(KEYS_AHEAD)
+    }
+}
+
+impl KeyRoom {
+    /// Room for no key.
+    pub const NONE: KeyRoom = KeyRoom {
+        taken: 0,
+        others: 0,
+    };
+
+    /// Whether there is room for so many keys of each part.
+    pub fn fits(self, keys: KeyRoom) -> bool
+        ensures { result ≡ (nat_le keys.taken self.taken && nat_le keys.others self.others) }
+    {
+        keys.taken <= self.taken && keys.others <= self.others
+    }
+
+    /// Room for so many keys of each part, and no less than there is.
+    pub fn widened(self, keys: KeyRoom) -> KeyRoom
+        ensures enough { (p : AnyPart) → keys_of p keys ≤ keys_of p result }
+        ensures keeps { (p : AnyPart) → keys_of p self ≤ keys_of p result }
+    {
+        KeyRoom {
+            taken: widened(self.taken, keys.taken),
+            others: widened(self.others, keys.others),
+        }
+    }
+}
 
 /// Whether a call asks for another active session of a seat.
 fn call_turns(call: &Call) -> bool
@@ -70,55 +122,71 @@ impl Draft {
 
     /// The keys of what a turn brings back by itself.
     fn keys_of_turn(&self, event: &Event) -> u64
-        ensures value { HoldersAreThere self.now.trail → result ≡ (if asks_to_turn event.now then keys_of_device * taken_count self.now.trail else 0) }
-        ensures bound { result < 2 ^ 34 }
+        ensures value { HoldersAreThere self.now.trail → result ≡ (if asks_to_turn event.now then 2 * most_of_one self.now.trail else 0) }
+        ensures bound { result < 2 ^ 9 }
     {
         if asks_to_turn(event) {
-            KEYS_OF_DEVICE * u64::from(self.counts().taken)
+            KEYS_OF_DEVICE * u64::from(self.counts().most_of_one())
         } else {
             0
         }
     }
 
     /// Whether a switch may be pending behind an event.
-    fn may_switch(&self, event: &Event) -> bool
-        ensures { result ≡ (is_number_fact (value self.now.trail Key.Pending) || asks_to_turn event.now) }
+    pub fn may_switch(&self, event: &Event) -> bool
+        ensures { result ≡ may_switch self.now.trail event.now }
     {
         self.fact(&Key::Pending).is_number() || asks_to_turn(event)
     }
 
-    /// The keys of a switch that may be pending behind an event, which may take one device more.
-    fn keys_of_switch(&self, event: &Event) -> u64
-        ensures value { HoldersAreThere self.now.trail → result ≡ (if is_number_fact (value self.now.trail Key.Pending) || asks_to_turn event.now then keys_of_device * (taken_count self.now.trail + 1) + keys_of_switch else 0) }
-        ensures bound { result < 2 ^ 35 }
+    /// The keys of the devices that a switch which may be pending behind an event brings back. The event may take one
+    /// device more.
+    fn keys_brought_back(&self, event: &Event) -> u64
+        ensures value { HoldersAreThere self.now.trail → result ≡ (if may_switch self.now.trail event.now then 2 * (most_of_one self.now.trail + 1) else 0) }
+        ensures bound { result < 2 ^ 9 }
     {
         if self.may_switch(event) {
-            KEYS_OF_DEVICE * (u64::from(self.counts().taken) + 1) + KEYS_OF_SWITCH
+            KEYS_OF_DEVICE * (u64::from(self.counts().most_of_one()) + 1)
         } else {
             0
         }
     }
 
-    /// The most keys that an event other than a disconnect sets for the first time where it is granted, with those of a
-    /// switch that it leaves pending.
-    fn most_keys(&self, event: &Event) -> u64
-        ensures value { HoldersAreThere self.now.trail → result ≡ most_keys self.now.trail event.now }
-        ensures bound { result < 2 ^ 36 }
+    /// The keys of such a switch beside those of devices.
+    fn keys_of_switch(&self, event: &Event) -> u64
+        ensures value { result ≡ (if may_switch self.now.trail event.now then keys_of_switch else 0) }
+        ensures bound { result ≤ 2 }
     {
-        KEYS_BESIDE
-            + self.keys_of_signals(event)
-            + self.keys_of_turn(event)
-            + self.keys_of_switch(event)
+        if self.may_switch(event) {
+            KEYS_OF_SWITCH
+        } else {
+            0
+        }
+    }
+
+    /// The most keys of each part that an event other than a disconnect sets for the first time where it is granted, with
+    /// those of a switch that it leaves pending.
+    fn most_keys(&self, event: &Event) -> KeyRoom
+        ensures most { (p : AnyPart) → HoldersAreThere self.now.trail → most_keys p self.now.trail event.now ≤ keys_of p result }
+        ensures bound { (p : AnyPart) → keys_of p result < 2 ^ 33 }
+    {
+        let beside = KEYS_BESIDE + self.keys_of_switch(event);
+        let taken = beside + self.keys_of_turn(event) + self.keys_brought_back(event);
+        let others = beside + self.keys_of_signals(event);
+        KeyRoom {
+            taken: taken as usize,
+            others: others as usize,
+        }
     }
 
     /// For how many keys there has to be room behind an event with this verdict. One that is denied sets none.
-    pub fn keys_needed(&self, event: &Event, verdict: Verdict) -> u64
-        ensures granted { verdict ≡ Verdict.Granted → HoldersAreThere self.now.trail → result ≡ most_keys self.now.trail event.now }
-        ensures bound { result < 2 ^ 36 }
+    pub fn keys_needed(&self, event: &Event, verdict: Verdict) -> KeyRoom
+        ensures granted { verdict ≡ Verdict.Granted → HoldersAreThere self.now.trail → (p : AnyPart) → most_keys p self.now.trail event.now ≤ keys_of p result }
+        ensures bound { (p : AnyPart) → keys_of p result < 2 ^ 33 }
     {
         match verdict {
             Verdict::Granted => self.most_keys(event),
-            Verdict::Denied(_) => 0,
+            Verdict::Denied(_) => KeyRoom::NONE,
         }
     }
 }

@@ -4,12 +4,13 @@ ghost use Rattle.std.specs.Prelude.{ℕ, ◌≡◌, ◌+◌, ◌<◌, ◌≤◌,
 ghost use Rattle.login_base.specs.declared.ids.ConnId.{ConnId as AnyConnection};
 ghost use Rattle.login_base.specs.declared.ids.SessId.{SessId as AnySession};
 ghost use Rattle.login_model.specs.Trail.{Trail, value};
-ghost use Rattle.login_core.specs.inner.Dues.{AreOwed, AreTaken, EachCharged, EachDue, HasRow, AllNamesKnown, WasConnected, charge_at, connection_in, dues_at, new_rows, taker_at, taker_in, touched_at, touched_by};
+ghost use Rattle.login_core.specs.inner.Dues.{AreOwed, AreTaken, EachCharged, EachDue, HasRow, HasTaker, AllNamesKnown, WasConnected, charge_at, connection_in, dues_at, new_rows, new_takers, taker_at, taker_in, taker_key, touched_at, touched_by};
 ghost use Rattle.login_core.specs.inner.Facts.{TablesStand};
 ghost use Rattle.login_core.specs.inner.Owing.{charge, due_at, keeper, keeper_in, of_some, other_than};
 ghost use Rattle.login_core.specs.inner.Sums.{KeepRows, has_row, sum_in};
 
 use crate::board::facts::Facts;
+use crate::board::keys::KeyRoom;
 use crate::board::sums::Sums;
 use login_base::{ConnId, LockNo, NoMemory, SessId};
 use login_model::{Fact, Key};
@@ -60,6 +61,16 @@ pub fn connection_in(key: &Key) -> Option<ConnId>
 {
     match key {
         Key::Conn(who) => Some(*who),
+        _ => None,
+    }
+}
+
+/// The session that a key of what is taken is about.
+pub fn taker_key(key: &Key) -> Option<SessId>
+    ensures { result ≡ taker_key key.now }
+{
+    match key {
+        Key::Taken(session, _) => Some(*session),
         _ => None,
     }
 }
@@ -181,7 +192,7 @@ impl Dues {
 pub struct Owing {
     /// The marks of each connection's end. Each that was connected has a row.
     pub marks: Sums,
-    /// How many devices each session has taken.
+    /// How many devices each session has taken. Each that took one once has a row.
     pub taken: Sums,
 }
 
@@ -196,37 +207,37 @@ impl Owing {
         }
     }
 
-    /// Makes room for so many more settings, each of which may be of a session that had taken nothing.
-    pub fn reserve(&mut self, settings: usize) -> Result<(), NoMemory>
-        ensures taken { OnOk result (settings ≤ self.new.taken.spare) }
+    /// Makes room for so many more keys of each part, of which one of the others may be of a connection that comes, and one
+    /// of what is taken of a session that takes its first device.
+    pub fn reserve(&mut self, keys: KeyRoom) -> Result<(), NoMemory>
+        ensures marks { OnOk result (keys.others ≤ self.new.marks.spare) }
+        ensures taken { OnOk result (keys.taken ≤ self.new.taken.spare) }
+        ensures keeps_marks { self.old.marks.spare ≤ self.new.marks.spare }
         ensures keeps_taken { self.old.taken.spare ≤ self.new.taken.spare }
         ensures owed { (t : Trail) → AreOwed self.old t → AreOwed self.new t }
-        ensures marks { self.new.marks ≡ self.old.marks }
     {
-        self.taken.reserve(settings)
+        self.marks.reserve(keys.others)?;
+        self.taken.reserve(keys.taken)
     }
 
-    /// Makes room for so many more connections.
-    pub fn reserve_rows(&mut self, connections: usize) -> Result<(), NoMemory>
-        ensures marks { OnOk result (connections ≤ self.new.marks.spare) }
-        ensures keeps_marks { self.old.marks.spare ≤ self.new.marks.spare }
-        ensures owed { (t : Trail) → AreOwed self.old t → AreOwed self.new t }
-        ensures taken { self.new.taken ≡ self.old.taken }
-    {
-        self.marks.reserve(connections)
-    }
-
-    /// A connection that comes has a row from then on. It takes no memory.
-    pub fn welcome(&mut self, comer: Option<ConnId>)
+    /// A connection that comes, and a session that takes its first device, have a row from then on. It takes no memory.
+    pub fn welcome(&mut self, comer: Option<ConnId>, taker: Option<SessId>)
         requires room { IfSome comer (λ c. has_row self.old.marks.items c.0 ≡ false → 0 < self.old.marks.spare) }
+        requires taker_room { IfSome taker (λ s. has_row self.old.taken.items s.0 ≡ false → 0 < self.old.taken.spare) }
         ensures marks { (n : ℕ) → sum_in self.new.marks.items n ≡ sum_in self.old.marks.items n }
         ensures row { IfSome comer (HasRow self.new) }
         ensures rows { KeepRows self.old.marks.items self.new.marks.items }
         ensures spare { self.old.marks.spare ≤ self.new.marks.spare + new_rows self.old comer }
-        ensures taken { self.new.taken ≡ self.old.taken }
+        ensures taken { (n : ℕ) → sum_in self.new.taken.items n ≡ sum_in self.old.taken.items n }
+        ensures taker { IfSome taker (HasTaker self.new) }
+        ensures takers { KeepRows self.old.taken.items self.new.taken.items }
+        ensures taken_spare { self.old.taken.spare ≤ self.new.taken.spare + new_takers self.old taker }
     {
         if let Some(who) = comer {
             self.marks.open(who.0);
+        }
+        if let Some(session) = taker {
+            self.taken.open(session.0);
         }
     }
 
@@ -324,6 +335,7 @@ impl Owing {
     fn lose_taker(&mut self, lost: Option<SessId>)
         requires { (s : AnySession) → taker_at lost s ≤ sum_in self.old.taken.items s.0 }
         ensures taken { (s : AnySession) → sum_in self.new.taken.items s.0 + taker_at lost s ≡ sum_in self.old.taken.items s.0 }
+        ensures rows { KeepRows self.old.taken.items self.new.taken.items }
         ensures spare { self.old.taken.spare ≤ self.new.taken.spare }
         ensures marks { self.new.marks ≡ self.old.marks }
     {
@@ -334,14 +346,14 @@ impl Owing {
 
     /// A session that there may be has taken a device more.
     fn gain_taker(&mut self, gained: Option<SessId>)
-        requires room { 0 < self.old.taken.spare }
+        requires row { IfSome gained (HasTaker self.old) }
         requires bound { (s : AnySession) → sum_in self.old.taken.items s.0 + taker_at gained s < 2 ^ 64 }
         ensures taken { (s : AnySession) → sum_in self.new.taken.items s.0 ≡ sum_in self.old.taken.items s.0 + taker_at gained s }
-        ensures spare { self.old.taken.spare ≤ self.new.taken.spare + 1 }
+        ensures rows { KeepRows self.old.taken.items self.new.taken.items }
+        ensures spare { self.old.taken.spare ≤ self.new.taken.spare }
         ensures marks { self.new.marks ≡ self.old.marks }
     {
         if let Some(session) = gained {
-            self.taken.open(session.0);
             self.taken.gain(session.0, 1);
         }
     }
@@ -349,10 +361,11 @@ impl Owing {
     /// A session has taken a device less, and one has taken a device more. It takes no memory.
     pub fn shift(&mut self, lost: Option<SessId>, gained: Option<SessId>)
         requires within { (s : AnySession) → taker_at lost s ≤ sum_in self.old.taken.items s.0 }
-        requires room { 0 < self.old.taken.spare }
+        requires row { IfSome gained (HasTaker self.old) }
         requires bound { (s : AnySession) → sum_in self.old.taken.items s.0 + taker_at gained s < 2 ^ 64 }
         ensures taken { (s : AnySession) → sum_in self.new.taken.items s.0 + taker_at lost s ≡ sum_in self.old.taken.items s.0 + taker_at gained s }
-        ensures spare { self.old.taken.spare ≤ self.new.taken.spare + 1 }
+        ensures rows { KeepRows self.old.taken.items self.new.taken.items }
+        ensures spare { self.old.taken.spare ≤ self.new.taken.spare }
         ensures marks { self.new.marks ≡ self.old.marks }
     {
         self.lose_taker(lost);

@@ -1,13 +1,16 @@
 // How many there are of what needs room or has a limit.
 
-ghost use Rattle.std.specs.Prelude.{◌≡◌, ◌+◌, ◌<◌, ◌≤◌, ◌^◌};
-ghost use Rattle.login_laws.specs.Need.{marks_over_all, marks_over_users};
+ghost use Rattle.std.specs.Prelude.{◌≡◌, ◌+◌, ◌<◌, ◌≤◌, ◌^◌, length};
+ghost use Rattle.login_laws.specs.Few.{most_of_one};
+ghost use Rattle.login_laws.specs.Need.{marks_over_devices, marks_over_holders, marks_over_users};
 ghost use Rattle.login_laws.specs.Shares.{active_share_rise};
 ghost use Rattle.login_model.specs.Full.{marks_needed};
+ghost use Rattle.login_model.specs.Limits.{taken_limit};
 ghost use Rattle.login_model.specs.Trail.{Trail};
+ghost use Rattle.login_model.specs.Where.{sessions};
 ghost use Rattle.login_core.specs.inner.Counts.{AreCounted, CanAllMove, Follow, HoldersAreThere, counts_of, one_if};
 
-use login_model::{Fact, Key};
+use login_model::{Fact, Key, MOST_TAKEN};
 
 /// What is kept for marks beside the sums over what stands.
 const MARKS_IN_RESERVE: u64 = 64;
@@ -128,12 +131,36 @@ impl Counts {
         4 * u64::from(self.users)
     }
 
-    /// The most marks of going over all that is taken, all sessions and all users.
-    pub fn marks_over_all(self) -> u64
-        ensures value { (t : Trail) → AreCounted self t → HoldersAreThere t → result ≡ marks_over_all t }
-        ensures bound { result < 2 ^ 37 }
+    /// The most devices that one session may have taken, where all together have taken so many.
+    pub fn most_of_one(self) -> u32
+        ensures value { (t : Trail) → AreCounted self t → HoldersAreThere t → result ≡ most_of_one t }
+        ensures bound { result ≤ taken_limit }
     {
-        12 * u64::from(self.taken) + 8 * u64::from(self.present) + self.marks_over_users()
+        self.taken.min(MOST_TAKEN)
+    }
+
+    /// The most marks of what one or two sessions have taken.
+    pub fn marks_over_devices(self) -> u64
+        ensures value { (t : Trail) → AreCounted self t → HoldersAreThere t → result ≡ marks_over_devices (most_of_one t) }
+        ensures bound { result < 2 ^ 10 }
+    {
+        6 * u64::from(self.most_of_one())
+    }
+
+    /// The most marks of one for each session.
+    pub fn marks_over_sessions(self) -> u64
+        ensures value { (t : Trail) → AreCounted self t → result ≡ length (sessions t) }
+        ensures bound { result < 2 ^ 32 }
+    {
+        u64::from(self.present)
+    }
+
+    /// The most marks of closing each of some sessions, or of taking a device from all of them.
+    pub fn marks_over_holders(self) -> u64
+        ensures value { (t : Trail) → AreCounted self t → HoldersAreThere t → result ≡ marks_over_holders t }
+        ensures bound { result < 2 ^ 36 }
+    {
+        3 * u64::from(self.taken) + 8 * u64::from(self.present)
     }
 
     /// The most marks by which an event raises those of a connection's end.

@@ -1,7 +1,7 @@
-use Rattle.std.proofs.Common.{◌+◌, ◌∙◌, sym, ap, arith}
-use Rattle.login_model.specs.Trail.{Trail, key_count}
+use Rattle.std.proofs.Common.{◌∙◌, sym, ap, arith}
+use Rattle.login_model.specs.Trail.{Trail}
 use Rattle.login_model.specs.Legal.{trail_of}
-use Rattle.login_core.specs.inner.Draft.{DraftState}
+use Rattle.login_core.specs.inner.Draft.{DraftState, all_keys}
 use Rattle.login_core.specs.inner.UnderWay.{so_far, entry_of}
 use Rattle.login_core.proofs.Standing.{so_far-none}
 use Rattle.login_core.proofs.Drafting.{ClosesBehind, closed-trail, draft-closed, so_far-same}
@@ -69,7 +69,7 @@ returns-clause-keys c =
       marks_are = ap (λ r. r.items) c.replace-marks.ensures.value;
       blank_is = ap (λ r. r.items) (c.replace-marks.ensures.after ∙ c.take.ensures.taken) ∙ c.requires.begun.idle_empty;
     } in
-    ap (λ (t : Trail). key_count t + f.facts.fresh) (closed-trail before m.journal.items new e f.marks c.replace-marks.new.dest b) ∙ ap (λ (d : DraftState). d.keys) c.draft.view_is
+    ap (λ (t : Trail). all_keys t f.facts.fresh) (closed-trail before m.journal.items new e f.marks c.replace-marks.new.dest b) ∙ ap (λ (d : DraftState). d.keys) c.draft.view_is
 
 pub returns-clause-begun : goal.returns-clause-begun
 returns-clause-begun c = record {

@@ -88,10 +88,13 @@ returns c =
     let f = c.self.inside in
     let t = so_far f.journal.value.items f.marks.items in
     let other : same_fact (value d.trail c.args.key) c.args.fact ≡ false = ap (λ (f : Fact). same_fact f c.args.fact) (sym c.fact.ensures) ∙ sym c.is_same_fact.ensures ∙ c.if-is_same_fact.false in
-    let new = new-here f.facts t c.args.key c.self.invariant.stands in
-    let keys = keys-set c.args.key c.args.fact t in
     record {
       marked = seen-more f.journal.value.items f.marks.items c.push.new.self.items f.facts c.set.new.self f.reach (Set c.args.key c.args.fact) d c.self.view_is
-          c.push.ensures.items c.set.ensures.ears c.set.ensures.rings (omega (arith, c.set.ensures.fresh, new, keys))
+          c.push.ensures.items c.set.ensures.ears c.set.ensures.rings (λ p. (
+          let new = new-here p f.facts t c.args.key c.self.invariant.stands in
+          let keys = keys-set p c.args.key c.args.fact t in
+          let left = c.set.ensures.fresh p in
+          omega arith
+          ))
           ∙ ap (with_trail d) (sym (put-made c.args.key c.args.fact d.trail other));
     }

@@ -1,9 +1,9 @@
-use Rattle.std.proofs.Common.{◌≡◌, ◌+◌, ◌∙◌, ℕ, ap, sym, subst, List, arith}
+use Rattle.std.proofs.Common.{◌≡◌, ◌∙◌, ap, sym, subst, List, arith}
 use Rattle.login_base.specs.declared.ids.HandleNo.{HandleNo}
 use Rattle.login_model.specs.declared.mark.Mark.{Mark}
 use Rattle.device_model.specs.Ears.{heard_of}
-use Rattle.login_model.specs.Trail.{key_count}
-use Rattle.login_core.specs.inner.Draft.{DraftState, with_ears, with_keys}
+use Rattle.login_core.specs.declared.board.keys.KeyRoom.{KeyRoom}
+use Rattle.login_core.specs.inner.Draft.{DraftState, all_keys, with_ears, with_keys}
 use Rattle.login_core.specs.inner.Ears.{AreEnough, ListenOn, settled}
 use Rattle.login_core.specs.inner.Rings.{ring_count}
 use Rattle.login_core.specs.inner.UnderWay.{so_far}
@@ -56,4 +56,4 @@ returns-clause-rest c =
     let f = c.self.inside in
     let g = c.settle_ears.new.self in
     let d = seen f.journal.value.items f.marks.items f.facts f.reach in
-    ap (λ (n : ℕ). with_ears g.ears g.rings (with_keys (key_count d.trail + n) d)) c.settle_ears.ensures.fresh ∙ ap (with_ears g.ears g.rings) c.self.view_is
+    ap (λ (n : KeyRoom). with_ears g.ears g.rings (with_keys (all_keys d.trail n) d)) c.settle_ears.ensures.fresh ∙ ap (with_ears g.ears g.rings) c.self.view_is

@@ -1,5 +1,6 @@
 use Rattle.std.proofs.Common.{◌+◌, ap, arith, refl}
 use Rattle.login_model.specs.declared.mark.Mark.TheVariants.{Say}
+use Rattle.login_core.specs.State.{keys_of}
 use Rattle.login_core.specs.inner.UnderWay.{so_far}
 use Rattle.login_core.proofs.Standing.{stand-say}
 use Rattle.login_core.proofs.TallyLaws.{seated-say}
@@ -27,4 +28,4 @@ invariant_of-self c =
 pub returns : goal.returns
 returns c =
     let f = c.self.inside in
-    record { marked = seen-more f.journal.value.items f.marks.items c.push.new.self.items f.facts f.facts f.reach (Say c.args.whom c.args.notice) c.args.self.now c.self.view_is c.push.ensures.items refl refl (ap (λ n. n + f.facts.fresh) (keys-say c.args.whom c.args.notice (so_far f.journal.value.items f.marks.items))) }
+    record { marked = seen-more f.journal.value.items f.marks.items c.push.new.self.items f.facts f.facts f.reach (Say c.args.whom c.args.notice) c.args.self.now c.self.view_is c.push.ensures.items refl refl (λ p. ap (λ n. n + keys_of p f.facts.fresh) (keys-say p c.args.whom c.args.notice (so_far f.journal.value.items f.marks.items))) }

@@ -1,11 +1,14 @@
 use Rattle.std.proofs.Common.{rules, ℕ, ◌≡◌, ◌<◌, ◌≤◌, ◌+◌, ◌∙◌, true, List, ap, sym, subst, length, arith}
 use Rattle.login_base.specs.declared.ids.ConnId.{ConnId}
-use Rattle.login_model.specs.Full.{connected_after, full, mark_count, marks_needed}
+use Rattle.std.proofs.Math.Nat.{min-le_left}
+use Rattle.login_model.specs.Full.{connected_after, full, mark_count, marks_needed, taken_count}
 use Rattle.login_model.specs.Legal.{IsLegal, answered, trail_of}
 use Rattle.login_model.specs.Policy.{verdict}
+use Rattle.login_laws.specs.Amounts.{keys_in}
+use Rattle.login_laws.specs.Few.{most_of_one}
 use Rattle.login_laws.specs.Keys.{most_keys}
 use Rattle.login_laws.specs.Need.{most_marks}
-use Rattle.login_model.specs.Trail.{Trail, key_count}
+use Rattle.login_model.specs.Trail.{Trail}
 use Rattle.login_model.specs.declared.rule.Verdict.{Verdict}
 use Rattle.login_model.specs.declared.mark.Entry.{Entry}
 use Rattle.login_laws.specs.Shares.{most_share_rise, share}
@@ -14,7 +17,7 @@ use Rattle.login_laws.proofs.RoomLaws.{most-less, room}
 use Rattle.login_laws.proofs.SoundLaws.{sound-journal}
 use Rattle.login_core.specs.inner.Counts.{AreCounted, HoldersAreThere}
 use Rattle.login_core.specs.inner.Draft.{DraftState}
-use Rattle.login_core.specs.State.{CoreState, NextIsWide, may_raise}
+use Rattle.login_core.specs.State.{CoreState, NextIsWide, keys_of, may_raise}
 use Rattle.login_core.specs.inner.Inside.{HaveEnds}
 use Rattle.login_core.specs.inner.Ledger.{end_room, next_room}
 use Rattle.login_core.proofs.EndRooms.{AreWide, all-wide, reserved-have}
@@ -52,9 +55,10 @@ overflow_cast-next c =
     let marks = s.marks in
     let journal = ap (λ (q : CoreState). marks_needed (trail_of q.journal) (mark_count q.journal)) c.self.view_is in
     let bound = room t (mark_count es) in
-    let less = most-less t c.args.event.now in
+    let less = most-less (most_of_one t) t c.args.event.now (min-le_left (taken_count t) 128) in
     let H : Trail → Type 0 = HoldersAreThere in
-    let most = c.most_marks-next.ensures (subst H (sym c.self.invariant.no_marks) (legal-holders U es c.self.invariant.legal)) ∙ ap (λ (u : Trail). most_marks u c.args.event.now) c.self.invariant.no_marks in
+    let most = c.entry_marks-next.ensures.most (subst H (sym c.self.invariant.no_marks) (legal-holders U es c.self.invariant.legal)) in
+    let same = ap (λ (u : Trail). most_marks (most_of_one u) u c.args.event.now) c.self.invariant.no_marks in
     omega arith
 
 pub reserve-requires-clause-within : goal.reserve-requires-clause-within
@@ -66,10 +70,11 @@ reserve-requires-clause-within c =
     let reach = c.reach_for-reach.ensures in
     let journal = ap (λ (q : CoreState). marks_needed (trail_of q.journal) (mark_count q.journal)) c.self.view_is in
     let bound = room t (mark_count es) in
-    let less = most-less t c.args.event.now in
+    let less = most-less (most_of_one t) t c.args.event.now (min-le_left (taken_count t) 128) in
     let counted = marks-counted es in
     let H : Trail → Type 0 = HoldersAreThere in
-    let most = c.most_marks-next.ensures (subst H (sym c.self.invariant.no_marks) (legal-holders U es c.self.invariant.legal)) ∙ ap (λ (u : Trail). most_marks u c.args.event.now) c.self.invariant.no_marks in
+    let most = c.entry_marks-next.ensures.most (subst H (sym c.self.invariant.no_marks) (legal-holders U es c.self.invariant.legal)) in
+    let same = ap (λ (u : Trail). most_marks (most_of_one u) u c.args.event.now) c.self.invariant.no_marks in
     let length_is = ap length c.self.invariant.no_marks in
     omega arith
 
@@ -101,7 +106,7 @@ returns-clause-ready c =
     let reach = c.reach_for-reach.ensures ∙ ap (λ (js : List Entry). marks_needed (trail_of js) (mark_count js)) journal in
     let judged = c.requires.judged ∙ (λ i. verdict (setup i) (trail_of (journal i)) e) in
     let bound = room t (mark_count es) in
-    let less = most-less t c.args.event.now in
+    let less = most-less (most_of_one t) t c.args.event.now (min-le_left (taken_count t) 128) in
     let counted = marks-counted es in
     let entries = c.in_ok-reserve.ensures.entries in
     let kept = w.entries in
@@ -116,9 +121,6 @@ returns-clause-ready c =
     let P : Trail → Type 0 = AreCounted c.counts-taken.result in
     let taken = (subst P trail c.counts-taken.ensures).taken ∙ pairs-taken t holders in
     let rings = c.in_ok-make_rings.ensures in
-    let G : Trail → Type 0 = HoldersAreThere in
-    let most = c.most_marks-next.ensures (subst G (sym before) holders) ∙ ap (λ (u : Trail). most_marks u e) before in
-    let known = ap key_count before in
     let next = c.in_ok-reserve.ensures.reach in
     let length_is = ap length behind in
     let same_far = ap (λ (d : DraftState). d.far) c.make_rings.ensures.rest ∙ ap (λ (d : DraftState). d.far) w.draft in
@@ -136,8 +138,15 @@ returns-clause-ready c =
     record {
       entries = omega arith;
       far = omega arith;
-      keys = λ granted. (let asked = c.keys_needed-keys.ensures.granted (judged ∙ granted) (subst HoldersAreThere (sym before) holders) ∙ ap (λ (u : Trail). most_keys u e) before in omega arith);
-      reach = omega arith;
+      keys = λ granted p. (
+          let asked = c.keys_needed-keys.ensures.granted (judged ∙ granted) (subst HoldersAreThere (sym before) holders) p in
+          let most = ap (λ (u : Trail). most_keys p u e) before in
+          let known = ap (keys_in p) before in
+          let room = keys p in
+          let same = ap (keys_of p) same_keys in
+          omega arith
+          );
+      reach = λ granted. (let most = c.entry_marks-next.ensures.granted (judged ∙ granted) (subst HoldersAreThere (sym before) holders) ∙ ap (λ (u : Trail). most_marks (most_of_one u) u e) before in omega arith);
       ends = subst A judged (all-wide v t e (end_room r.journal) (end_room n.journal) (λ who i. (let h = have who i in let k = c.reserve.ensures.ends who in omega arith)) (subst K behind w.keeps) wide);
       next_end = subst L judged (subst N behind c.in_ok-make_ends.ensures.next);
       rings = omega arith;

@@ -4,7 +4,7 @@ use Rattle.login_model.specs.Direct.{direct}
 use Rattle.login_model.specs.Legal.{IsLegal, IsPlaced, stepped, trail_of}
 use Rattle.login_model.specs.Policy.{verdict}
 use Rattle.login_laws.specs.Sound.{Awaits, IsSound}
-use Rattle.login_model.specs.Trail.{Trail, after, key_count}
+use Rattle.login_model.specs.Trail.{Trail, after}
 use Rattle.login_model.specs.declared.answer.Answer.{Answer}
 use Rattle.login_model.specs.declared.event.Event.{Event}
 use Rattle.login_model.specs.declared.mark.Entry.{Entry}
@@ -23,7 +23,8 @@ use Rattle.login_core.specs.inner.Rings.{ring_count}
 use Rattle.login_core.specs.inner.Inside.{IsCore}
 use Rattle.login_core.specs.inner.Spares.{HaveTexts}
 use Rattle.login_core.specs.inner.UnderWay.{so_far, entry_of}
-use Rattle.login_core.specs.State.{CoreState, IsReady}
+use Rattle.login_laws.specs.Amounts.{Part, keys_in}
+use Rattle.login_core.specs.State.{CoreState, IsReady, keys_of}
 use Rattle.login_core.specs.inner.State.{answer_next, stop_next}
 use Rattle.login_core.specs.declared.board.Board.{Board}
 use Rattle.login_core.specs.declared.room.ready.Ready.{Ready}
@@ -107,11 +108,11 @@ perform-requires-clause-room c =
     let s = stepping U m c.self.inside.texts c.self.inside.ready c.self.inside.stop c.args.self.now c.args.event v c.self.invariant c.self.view_is c.requires.placed c.requires.ready c.verdict_for-verdict.ensures in
     let d = c.begin.new.self.draft in
     let P : Trail → Type 0 = λ t. length (stepped U v c.args.event t) ≤ d.reach in
-    let Q : Trail → Type 0 = λ t. key_count (stepped U v c.args.event t) ≤ d.keys in
+    let Q : Trail → Type 0 = λ t. (p : Part) → keys_in p (stepped U v c.args.event t) ≤ keys_of p d.keys in
     let same = sym (trails c.begin.ensures.draft ∙ c.self.invariant.no_marks) in
     let keys = keys-step U m c.self.inside.texts c.self.inside.ready c.self.inside.stop c.args.event v s in
     let kept = ap (λ (y : DraftState). y.keys) c.begin.ensures.draft in
-    fits-both (stepped U v c.args.event) d (subst P same (stays-within U m c.self.inside.texts c.self.inside.ready c.self.inside.stop c.args.event v d.reach c.begin.ensures.reach s)) (subst Q same (omega arith))
+    fits-both (stepped U v c.args.event) d (subst P same (stays-within U m c.self.inside.texts c.self.inside.ready c.self.inside.stop c.args.event v d.reach c.begin.ensures.reach s)) (subst Q same (λ p. (let a = keys p in let b = ap (keys_of p) kept in omega arith)))
 
 pub settle_ears-requires-clause-live : goal.settle_ears-requires-clause-live
 settle_ears-requires-clause-live c =

@@ -1,18 +1,20 @@
-use Rattle.std.proofs.Common.{◌≡◌, ℕ, ◌+◌, ◌-◌, ◌∙◌, List, Option, ap, sym, subst, arith}
+use Rattle.std.proofs.Common.{◌≡◌, ℕ, ◌+◌, ◌-◌, ◌∙◌, not, refl, List, Option, ap, sym, subst, arith}
 use Rattle.login_model.specs.declared.fact.Key.{Key}
 use Rattle.login_model.specs.declared.fact.Fact.{Fact}
 use Rattle.login_model.specs.Fresh.{fresh_session, fresh_handle, fresh_lock}
 use Rattle.login_model.specs.Names.{insert_some}
-use Rattle.login_model.specs.Trail.{value}
+use Rattle.login_model.specs.Trail.{value, was_set}
 use Rattle.login_table.specs.declared.home.Home.TheVariants.{Users, Sessions, Seats, Devices, Controls, Takes, Locks, Power}
 use Rattle.login_core.specs.declared.board.facts.Facts.TheInside.{Inside}
 use Rattle.login_core.specs.declared.room.counts.Counts.{Counts}
 use Rattle.login_core.specs.inner.Counts.{CanAllMove, Follow, counts_of}
 use Rattle.login_core.specs.declared.board.holding.Holding.{Holding}
+use Rattle.login_core.specs.declared.board.keys.KeyRoom.{KeyRoom}
 use Rattle.login_core.specs.inner.Facts.{Tables, TablesStand}
 use Rattle.login_core.specs.inner.Holding.{holding_in, holding_lt, without}
 use Rattle.login_core.proofs.CountedLaws.{counted-fit}
 use Rattle.login_core.proofs.HeldRows.{noted}
+use Rattle.login_core.proofs.KeyRooms.{GoesIn, goes-room, others-left, taken-left}
 use Rattle.login_core.proofs.Counting.{opens, inhibits, opens-bound, gives-bound, inhibits-bound, sessions-bound, handles-bound, locks-bound}
 use Rattle.login_core.proofs.Placed.{Moves, Places, stands-placed, but-users, but-sessions, but-seats, but-devices, but-controls, but-takes, but-locks, but-power}
 use Rattle.login_core.proofs.board.facts.Facts.put_in.Goals as goal
@@ -115,7 +117,7 @@ returns-in-Users-clause-stands c = λ t s.
     let lock = c.self.inside.lock + c.of-gained.result.locks in
     let held = c.shift.new.self.list in
     let spare = c.self.inside.spare - 1 in
-    let fresh = c.self.inside.fresh - c.from.result in
+    let fresh : KeyRoom = record c.self.inside.fresh { others = c.left-self-inside.result } in
     let g : Tables = record f { users = rows; counts = counts; session = session; handle = handle; lock = lock; held = held; spare = spare; fresh = fresh } in
     let places : Places f g k x Users = record { at_home = sym c.of.ensures ∙ c.in-Users.is; set = c.set.ensures.facts; keys = c.set.ensures.keys; stays = but-users f rows counts session handle lock held spare fresh } in
     let moves : Moves f g k x t = record {
@@ -140,7 +142,7 @@ returns-in-Sessions-clause-stands c = λ t s.
     let lock = c.self.inside.lock + c.of-gained.result.locks in
     let held = c.shift.new.self.list in
     let spare = c.self.inside.spare - 1 in
-    let fresh = c.self.inside.fresh - c.from-in-Sessions.result in
+    let fresh : KeyRoom = record c.self.inside.fresh { others = c.left-self-inside-in-Sessions.result } in
     let g : Tables = record f { sessions = rows; counts = counts; session = session; handle = handle; lock = lock; held = held; spare = spare; fresh = fresh } in
     let places : Places f g k x Sessions = record { at_home = sym c.of.ensures ∙ c.in-Sessions.is; set = c.set-in-Sessions.ensures.facts; keys = c.set-in-Sessions.ensures.keys; stays = but-sessions f rows counts session handle lock held spare fresh } in
     let moves : Moves f g k x t = record {
@@ -165,7 +167,7 @@ returns-in-Seats-clause-stands c = λ t s.
     let lock = c.self.inside.lock + c.of-gained.result.locks in
     let held = c.shift.new.self.list in
     let spare = c.self.inside.spare - 1 in
-    let fresh = c.self.inside.fresh - c.from-in-Seats.result in
+    let fresh : KeyRoom = record c.self.inside.fresh { others = c.left-self-inside-in-Seats.result } in
     let g : Tables = record f { seats = rows; counts = counts; session = session; handle = handle; lock = lock; held = held; spare = spare; fresh = fresh } in
     let places : Places f g k x Seats = record { at_home = sym c.of.ensures ∙ c.in-Seats.is; set = c.set-in-Seats.ensures.facts; keys = c.set-in-Seats.ensures.keys; stays = but-seats f rows counts session handle lock held spare fresh } in
     let moves : Moves f g k x t = record {
@@ -192,7 +194,7 @@ returns-in-Devices-clause-stands c = λ t s.
     let lock = c.self.inside.lock + c.of-gained.result.locks in
     let held = c.shift.new.self.list in
     let spare = c.self.inside.spare - 1 in
-    let fresh = c.self.inside.fresh - c.from-in-Devices.result in
+    let fresh : KeyRoom = record c.self.inside.fresh { others = c.left-self-inside-in-Devices.result } in
     let g : Tables = record f { devices = rows; ears = ears; rings = rings; counts = counts; session = session; handle = handle; lock = lock; held = held; spare = spare; fresh = fresh } in
     let places : Places f g k x Devices = record { at_home = sym c.of.ensures ∙ c.in-Devices.is; set = c.set-in-Devices.ensures.facts; keys = c.set-in-Devices.ensures.keys; stays = but-devices f rows ears rings counts session handle lock held spare fresh } in
     let moves : Moves f g k x t = record {
@@ -217,7 +219,7 @@ returns-in-Controls-clause-stands c = λ t s.
     let lock = c.self.inside.lock + c.of-gained.result.locks in
     let held = c.shift.new.self.list in
     let spare = c.self.inside.spare - 1 in
-    let fresh = c.self.inside.fresh - c.from-in-Controls.result in
+    let fresh : KeyRoom = record c.self.inside.fresh { others = c.left-self-inside-in-Controls.result } in
     let g : Tables = record f { controls = rows; counts = counts; session = session; handle = handle; lock = lock; held = held; spare = spare; fresh = fresh } in
     let places : Places f g k x Controls = record { at_home = sym c.of.ensures ∙ c.in-Controls.is; set = c.set-in-Controls.ensures.facts; keys = c.set-in-Controls.ensures.keys; stays = but-controls f rows counts session handle lock held spare fresh } in
     let moves : Moves f g k x t = record {
@@ -242,7 +244,7 @@ returns-in-Takes-clause-stands c = λ t s.
     let lock = c.self.inside.lock + c.of-gained.result.locks in
     let held = c.shift.new.self.list in
     let spare = c.self.inside.spare - 1 in
-    let fresh = c.self.inside.fresh - c.from-in-Takes.result in
+    let fresh : KeyRoom = record c.self.inside.fresh { taken = c.left-self-inside-in-Takes.result } in
     let g : Tables = record f { takes = rows; counts = counts; session = session; handle = handle; lock = lock; held = held; spare = spare; fresh = fresh } in
     let places : Places f g k x Takes = record { at_home = sym c.of.ensures ∙ c.in-Takes.is; set = c.set-in-Takes.ensures.facts; keys = c.set-in-Takes.ensures.keys; stays = but-takes f rows counts session handle lock held spare fresh } in
     let moves : Moves f g k x t = record {
@@ -267,7 +269,7 @@ returns-in-Locks-clause-stands c = λ t s.
     let lock = c.self.inside.lock + c.of-gained.result.locks in
     let held = c.shift.new.self.list in
     let spare = c.self.inside.spare - 1 in
-    let fresh = c.self.inside.fresh - c.from-in-Locks.result in
+    let fresh : KeyRoom = record c.self.inside.fresh { others = c.left-self-inside-in-Locks.result } in
     let g : Tables = record f { locks = rows; counts = counts; session = session; handle = handle; lock = lock; held = held; spare = spare; fresh = fresh } in
     let places : Places f g k x Locks = record { at_home = sym c.of.ensures ∙ c.in-Locks.is; set = c.set-in-Locks.ensures.facts; keys = c.set-in-Locks.ensures.keys; stays = but-locks f rows counts session handle lock held spare fresh } in
     let moves : Moves f g k x t = record {
@@ -292,7 +294,7 @@ returns-in-Power-clause-stands c = λ t s.
     let lock = c.self.inside.lock + c.of-gained.result.locks in
     let held = c.shift.new.self.list in
     let spare = c.self.inside.spare - 1 in
-    let fresh = c.self.inside.fresh - c.from-in-Power.result in
+    let fresh : KeyRoom = record c.self.inside.fresh { others = c.left-self-inside-in-Power.result } in
     let g : Tables = record f { power = rows; counts = counts; session = session; handle = handle; lock = lock; held = held; spare = spare; fresh = fresh } in
     let places : Places f g k x Power = record { at_home = sym c.of.ensures ∙ c.in-Power.is; set = c.set-in-Power.ensures.facts; keys = c.set-in-Power.ensures.keys; stays = but-power f rows counts session handle lock held spare fresh } in
     let moves : Moves f g k x t = record {
@@ -303,3 +305,101 @@ returns-in-Power-clause-stands c = λ t s.
       held = noted-by c.self.inside.holdings.list held c.holding_in-lost_thing.result c.holding_in.result k x c.read-before.result.now (value t k) c.shift.ensures.list c.holding_in-lost_thing.ensures (c.read-before.ensures t s) c.holding_in.ensures;
     } in
     stands-placed f g k x Power t places moves (subst P (sym c.self.view_is) s)
+
+-- ---- room for keys
+
+pub left-self-inside-requires : goal.left-self-inside-requires
+left-self-inside-requires c = λ e.
+    let goes : GoesIn c.args.self.now c.args.key Users c.set.result = record { at_home = sym c.of.ensures ∙ c.in-Users.is; new = c.set.ensures.new_key ∙ ap (λ (f : Tables). not (was_set f.users c.args.key)) c.self.view_is } in
+    let l = goes-room c.args.self.now c.args.key Users c.set.result goes c.requires.fresh e in
+    let v = ap (λ (f : Tables). f.fresh.others) c.self.view_is in
+    omega arith
+
+pub returns-in-Users-clause-fresh : goal.returns-in-Users-clause-fresh
+returns-in-Users-clause-fresh c =
+    let goes : GoesIn c.args.self.now c.args.key Users c.set.result = record { at_home = sym c.of.ensures ∙ c.in-Users.is; new = c.set.ensures.new_key ∙ ap (λ (f : Tables). not (was_set f.users c.args.key)) c.self.view_is } in
+    others-left c.args.self.now c.self.inside.fresh c.args.key Users c.set.result c.left-self-inside.result refl (ap (λ (f : Tables). f.fresh) c.self.view_is) goes c.left-self-inside.ensures
+
+pub left-self-inside-requires-in-Sessions : goal.left-self-inside-requires-in-Sessions
+left-self-inside-requires-in-Sessions c = λ e.
+    let goes : GoesIn c.args.self.now c.args.key Sessions c.set-in-Sessions.result = record { at_home = sym c.of.ensures ∙ c.in-Sessions.is; new = c.set-in-Sessions.ensures.new_key ∙ ap (λ (f : Tables). not (was_set f.sessions c.args.key)) c.self.view_is } in
+    let l = goes-room c.args.self.now c.args.key Sessions c.set-in-Sessions.result goes c.requires.fresh e in
+    let v = ap (λ (f : Tables). f.fresh.others) c.self.view_is in
+    omega arith
+
+pub returns-in-Sessions-clause-fresh : goal.returns-in-Sessions-clause-fresh
+returns-in-Sessions-clause-fresh c =
+    let goes : GoesIn c.args.self.now c.args.key Sessions c.set-in-Sessions.result = record { at_home = sym c.of.ensures ∙ c.in-Sessions.is; new = c.set-in-Sessions.ensures.new_key ∙ ap (λ (f : Tables). not (was_set f.sessions c.args.key)) c.self.view_is } in
+    others-left c.args.self.now c.self.inside.fresh c.args.key Sessions c.set-in-Sessions.result c.left-self-inside-in-Sessions.result refl (ap (λ (f : Tables). f.fresh) c.self.view_is) goes c.left-self-inside-in-Sessions.ensures
+
+pub left-self-inside-requires-in-Seats : goal.left-self-inside-requires-in-Seats
+left-self-inside-requires-in-Seats c = λ e.
+    let goes : GoesIn c.args.self.now c.args.key Seats c.set-in-Seats.result = record { at_home = sym c.of.ensures ∙ c.in-Seats.is; new = c.set-in-Seats.ensures.new_key ∙ ap (λ (f : Tables). not (was_set f.seats c.args.key)) c.self.view_is } in
+    let l = goes-room c.args.self.now c.args.key Seats c.set-in-Seats.result goes c.requires.fresh e in
+    let v = ap (λ (f : Tables). f.fresh.others) c.self.view_is in
+    omega arith
+
+pub returns-in-Seats-clause-fresh : goal.returns-in-Seats-clause-fresh
+returns-in-Seats-clause-fresh c =
+    let goes : GoesIn c.args.self.now c.args.key Seats c.set-in-Seats.result = record { at_home = sym c.of.ensures ∙ c.in-Seats.is; new = c.set-in-Seats.ensures.new_key ∙ ap (λ (f : Tables). not (was_set f.seats c.args.key)) c.self.view_is } in
+    others-left c.args.self.now c.self.inside.fresh c.args.key Seats c.set-in-Seats.result c.left-self-inside-in-Seats.result refl (ap (λ (f : Tables). f.fresh) c.self.view_is) goes c.left-self-inside-in-Seats.ensures
+
+pub left-self-inside-requires-in-Devices : goal.left-self-inside-requires-in-Devices
+left-self-inside-requires-in-Devices c = λ e.
+    let goes : GoesIn c.args.self.now c.args.key Devices c.set-in-Devices.result = record { at_home = sym c.of.ensures ∙ c.in-Devices.is; new = c.set-in-Devices.ensures.new_key ∙ ap (λ (f : Tables). not (was_set f.devices c.args.key)) c.self.view_is } in
+    let l = goes-room c.args.self.now c.args.key Devices c.set-in-Devices.result goes c.requires.fresh e in
+    let v = ap (λ (f : Tables). f.fresh.others) c.self.view_is in
+    omega arith
+
+pub returns-in-Devices-clause-fresh : goal.returns-in-Devices-clause-fresh
+returns-in-Devices-clause-fresh c =
+    let goes : GoesIn c.args.self.now c.args.key Devices c.set-in-Devices.result = record { at_home = sym c.of.ensures ∙ c.in-Devices.is; new = c.set-in-Devices.ensures.new_key ∙ ap (λ (f : Tables). not (was_set f.devices c.args.key)) c.self.view_is } in
+    others-left c.args.self.now c.self.inside.fresh c.args.key Devices c.set-in-Devices.result c.left-self-inside-in-Devices.result refl (ap (λ (f : Tables). f.fresh) c.self.view_is) goes c.left-self-inside-in-Devices.ensures
+
+pub left-self-inside-requires-in-Controls : goal.left-self-inside-requires-in-Controls
+left-self-inside-requires-in-Controls c = λ e.
+    let goes : GoesIn c.args.self.now c.args.key Controls c.set-in-Controls.result = record { at_home = sym c.of.ensures ∙ c.in-Controls.is; new = c.set-in-Controls.ensures.new_key ∙ ap (λ (f : Tables). not (was_set f.controls c.args.key)) c.self.view_is } in
+    let l = goes-room c.args.self.now c.args.key Controls c.set-in-Controls.result goes c.requires.fresh e in
+    let v = ap (λ (f : Tables). f.fresh.others) c.self.view_is in
+    omega arith
+
+pub returns-in-Controls-clause-fresh : goal.returns-in-Controls-clause-fresh
+returns-in-Controls-clause-fresh c =
+    let goes : GoesIn c.args.self.now c.args.key Controls c.set-in-Controls.result = record { at_home = sym c.of.ensures ∙ c.in-Controls.is; new = c.set-in-Controls.ensures.new_key ∙ ap (λ (f : Tables). not (was_set f.controls c.args.key)) c.self.view_is } in
+    others-left c.args.self.now c.self.inside.fresh c.args.key Controls c.set-in-Controls.result c.left-self-inside-in-Controls.result refl (ap (λ (f : Tables). f.fresh) c.self.view_is) goes c.left-self-inside-in-Controls.ensures
+
+pub left-self-inside-requires-in-Takes : goal.left-self-inside-requires-in-Takes
+left-self-inside-requires-in-Takes c = λ e.
+    let goes : GoesIn c.args.self.now c.args.key Takes c.set-in-Takes.result = record { at_home = sym c.of.ensures ∙ c.in-Takes.is; new = c.set-in-Takes.ensures.new_key ∙ ap (λ (f : Tables). not (was_set f.takes c.args.key)) c.self.view_is } in
+    let l = goes-room c.args.self.now c.args.key Takes c.set-in-Takes.result goes c.requires.fresh e in
+    let v = ap (λ (f : Tables). f.fresh.taken) c.self.view_is in
+    omega arith
+
+pub returns-in-Takes-clause-fresh : goal.returns-in-Takes-clause-fresh
+returns-in-Takes-clause-fresh c =
+    let goes : GoesIn c.args.self.now c.args.key Takes c.set-in-Takes.result = record { at_home = sym c.of.ensures ∙ c.in-Takes.is; new = c.set-in-Takes.ensures.new_key ∙ ap (λ (f : Tables). not (was_set f.takes c.args.key)) c.self.view_is } in
+    taken-left c.args.self.now c.self.inside.fresh c.args.key c.set-in-Takes.result c.left-self-inside-in-Takes.result (ap (λ (f : Tables). f.fresh) c.self.view_is) goes c.left-self-inside-in-Takes.ensures
+
+pub left-self-inside-requires-in-Locks : goal.left-self-inside-requires-in-Locks
+left-self-inside-requires-in-Locks c = λ e.
+    let goes : GoesIn c.args.self.now c.args.key Locks c.set-in-Locks.result = record { at_home = sym c.of.ensures ∙ c.in-Locks.is; new = c.set-in-Locks.ensures.new_key ∙ ap (λ (f : Tables). not (was_set f.locks c.args.key)) c.self.view_is } in
+    let l = goes-room c.args.self.now c.args.key Locks c.set-in-Locks.result goes c.requires.fresh e in
+    let v = ap (λ (f : Tables). f.fresh.others) c.self.view_is in
+    omega arith
+
+pub returns-in-Locks-clause-fresh : goal.returns-in-Locks-clause-fresh
+returns-in-Locks-clause-fresh c =
+    let goes : GoesIn c.args.self.now c.args.key Locks c.set-in-Locks.result = record { at_home = sym c.of.ensures ∙ c.in-Locks.is; new = c.set-in-Locks.ensures.new_key ∙ ap (λ (f : Tables). not (was_set f.locks c.args.key)) c.self.view_is } in
+    others-left c.args.self.now c.self.inside.fresh c.args.key Locks c.set-in-Locks.result c.left-self-inside-in-Locks.result refl (ap (λ (f : Tables). f.fresh) c.self.view_is) goes c.left-self-inside-in-Locks.ensures
+
+pub left-self-inside-requires-in-Power : goal.left-self-inside-requires-in-Power
+left-self-inside-requires-in-Power c = λ e.
+    let goes : GoesIn c.args.self.now c.args.key Power c.set-in-Power.result = record { at_home = sym c.of.ensures ∙ c.in-Power.is; new = c.set-in-Power.ensures.new_key ∙ ap (λ (f : Tables). not (was_set f.power c.args.key)) c.self.view_is } in
+    let l = goes-room c.args.self.now c.args.key Power c.set-in-Power.result goes c.requires.fresh e in
+    let v = ap (λ (f : Tables). f.fresh.others) c.self.view_is in
+    omega arith
+
+pub returns-in-Power-clause-fresh : goal.returns-in-Power-clause-fresh
+returns-in-Power-clause-fresh c =
+    let goes : GoesIn c.args.self.now c.args.key Power c.set-in-Power.result = record { at_home = sym c.of.ensures ∙ c.in-Power.is; new = c.set-in-Power.ensures.new_key ∙ ap (λ (f : Tables). not (was_set f.power c.args.key)) c.self.view_is } in
+    others-left c.args.self.now c.self.inside.fresh c.args.key Power c.set-in-Power.result c.left-self-inside-in-Power.result refl (ap (λ (f : Tables). f.fresh) c.self.view_is) goes c.left-self-inside-in-Power.ensures

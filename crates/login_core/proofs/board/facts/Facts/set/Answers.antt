@@ -1,13 +1,15 @@
-use Rattle.std.proofs.Common.{◌≡◌, ◌+◌, ◌∙◌, ◌∷◌, ℕ, length, ap, sym, subst, add-one, arith, rules}
+use Rattle.std.proofs.Common.{◌≡◌, ◌≤◌, ◌+◌, ◌∙◌, ◌∷◌, ℕ, length, ap, sym, subst, add-one, arith, rules}
 use Rattle.login_base.specs.Room.{Room}
 use Rattle.login_base.specs.declared.ids.ConnId.{ConnId}
 use Rattle.login_model.specs.declared.mark.Mark.TheVariants.{Set}
 use Rattle.login_core.specs.declared.board.owing.Owing.{Owing}
 use Rattle.login_core.specs.inner.Dues.{AreOwed, HasRow, WasConnected}
 use Rattle.login_core.specs.inner.Facts.{Tables, TablesStand}
-use Rattle.login_core.specs.inner.Sums.{sum_in}
+use Rattle.login_core.specs.inner.Sums.{has_row, sum_in}
 use Rattle.login_core.proofs.DuesMoved.{behind-marks, behind-taken, due-within, kept-taken, owed-few, taken-small, taker-few, taker-within}
 use Rattle.login_core.proofs.Known.{known-set, named-there}
+use Rattle.login_laws.specs.Amounts.{OfOthers, OfTaken}
+use Rattle.login_core.proofs.TakerRows.{gained-row, taker-room, takers-behind, takers-few}
 use Rattle.login_core.proofs.Welcomed.{each-due, rows-behind, rows-few}
 use Rattle.login_core.proofs.Standing.{closed, opened, owing-of, tables-same}
 use Rattle.login_core.proofs.board.facts.Facts.set.Goals as goal
@@ -48,6 +50,25 @@ shift-requires-clause-bound c = λ s.
     let put = ap (λ (f : Tables). f.owing) c.self-2.view_is ∙ c.put_in.ensures.owing in
     let taken = kept-taken c.self.inside.owing c.lose.new.self c.self-2.inside.owing c.welcome.new.self few.marks inside c.lose.ensures.taken put c.welcome.ensures.taken in
     taker-few few.marks s c.taker_in-taker.result _ (taken s) few.few
+
+pub welcome-requires-clause-taker_room : goal.welcome-requires-clause-taker_room
+welcome-requires-clause-taker_room c =
+    let few = c.requires.few in
+    let now = c.args.self.now in
+    let P : Tables → Type 0 = λ f. AreOwed f.owing few.marks in
+    let inside = subst P (sym c.self.view_is) (owing-of now few.marks few.stand) in
+    let put = ap (λ (f : Tables). f.owing) c.self-2.view_is ∙ c.put_in.ensures.owing in
+    let before = c.self.invariant in
+    let fresh-is = ap (λ (f : Tables). f.fresh.taken) c.self.view_is in
+    let lost-spare = ap (λ (r : Room (ℕ × ℕ)). r.spare) c.lose.ensures.taken in
+    let put-spare = ap (λ (w : Owing). w.taken.spare) put in
+    let fits : now.fresh.taken ≤ c.self-2.inside.owing.taken.spare = search rules in
+    taker-room now c.args.key few.marks c.self.inside.owing c.lose.new.self c.self-2.inside.owing c.taker_key-keyed.result now.fresh (opened now few.marks few.stand) inside.takers c.lose.ensures.taken put
+    c.taker_key-keyed.ensures fits c.requires.fresh
+
+pub shift-requires-clause-row : goal.shift-requires-clause-row
+shift-requires-clause-row c =
+    gained-row c.args.key c.args.fact c.welcome.new.self c.taker_key-keyed.result c.taker_in-taker.result c.taker_key-keyed.ensures c.taker_in-taker.ensures c.welcome.ensures.taker
 
 pub of-gained-requires : goal.of-gained-requires
 of-gained-requires c =
@@ -116,6 +137,12 @@ invariant_of-self-3 c =
     let fresh = c.put_in.ensures.fresh in
     let fresh-is = ap (λ (f : Tables). f.fresh) c.self-2.view_is in
     let put-spare = ap (λ (w : Owing). w.marks.spare) put in
+    let takers = takers-few _ c.args.key few.marks c.self.inside.owing c.lose.new.self c.self-2.inside.owing c.taker_key-keyed.result stand inside.takers c.lose.ensures.taken put c.taker_key-keyed.ensures in
+    let lost-spare = ap (λ (r : Room (ℕ × ℕ)). r.spare) c.lose.ensures.taken in
+    let put-taken = ap (λ (w : Owing). w.taken.spare) put in
+    let gained-spare = ap (λ (r : Room (ℕ × ℕ)). r.spare) c.gain.ensures.taken in
+    let taken-left = fresh OfTaken in
+    let others-left = fresh OfOthers in
     let shifted = ap (λ (r : Room (ℕ × ℕ)). r.spare) c.shift.ensures.marks in
     let before = c.self.invariant in
     let i = c.self-2.invariant in
@@ -146,4 +173,6 @@ returns-clause-stands c = λ t s.
       known = known-set c.args.key c.args.fact t (named-there now t c.args.fact (opened now t s) c.requires.known) o.known;
       rows = λ d e. c.gain.ensures.rows d.0 (rows-behind c.args.key c.args.fact t c.self.inside.owing c.lose.new.self c.self-2.inside.owing c.welcome.new.self c.shift.new.self c.connection_in-comer.result
           inside.rows c.lose.ensures.rows put c.connection_in-comer.ensures c.welcome.ensures.row c.welcome.ensures.rows c.shift.ensures.marks d e);
+      takers = λ r d e. ap (λ (w : Room (ℕ × ℕ)). has_row w.items r.0) c.gain.ensures.taken ∙ takers-behind c.args.key c.args.fact t c.self.inside.owing c.lose.new.self c.self-2.inside.owing c.welcome.new.self c.shift.new.self c.taker_key-keyed.result
+          inside.takers c.lose.ensures.taken put c.taker_key-keyed.ensures c.welcome.ensures.taker c.welcome.ensures.takers c.shift.ensures.rows r d e;
     })
