@@ -18,8 +18,10 @@ fn read_once<S: Source>(source: &mut S, buf: &mut [u8; 2]) -> Got {
     source.read(buf)
 }
 
-/// What each read answers, what the buffer then holds, and what is left.
-const READS: [(Got, &[u8], &[u8]); 6] = [
+/// What a read answers, what the buffer then holds, and what is left.
+type Read<'t> = (Got, &'t [u8], &'t [u8]);
+
+const READS: [Read; 6] = [
     (Got::Bytes(2), b"ab", b"cde"),
     (Got::Failed, b"ab", b"cde"),
     (Got::Bytes(2), b"cd", b"e"),
@@ -28,20 +30,31 @@ const READS: [(Got, &[u8], &[u8]); 6] = [
     (Got::End, b"ed", b""),
 ];
 
+/// Whether reads into one buffer come to this, one after the other.
+fn are_read(source: &mut MemSource, reads: &[Read]) -> bool {
+    let mut buf = [0; 2];
+    for (answer, text, rest) in reads {
+        if read_once(source, &mut buf) != *answer
+            || buf.as_slice() != *text
+            || source.rest() != *rest
+        {
+            return false;
+        }
+    }
+    true
+}
+
 #[test]
 fn source_gives_its_bytes_and_fails_where_listed(rt: HostRuntime) -> Result<(), NoMemory> {
     let mut source = source(rt.alloc())?;
-    let mut buf = [0; 2];
-    for (answer, text, rest) in READS {
-        assert!(rt; read_once(&mut source, &mut buf) == answer);
-        assert!(rt; buf.as_slice() == text);
-        assert!(rt; source.rest() == rest);
-    }
+    assert!(rt; are_read(&mut source, &READS));
     Ok(())
 }
 
 /// What is written, how that ends, and what the sink then holds.
-const WRITES: [(&[u8], WriteEnd, &[u8]); 6] = [
+type Write<'t> = (&'t [u8], WriteEnd, &'t [u8]);
+
+const WRITES: [Write; 6] = [
     (b"abc", WriteEnd::Done, b"abc"),
     (b"de", WriteEnd::Fault, b"abc"),
     (b"", WriteEnd::Done, b"abc"),
@@ -50,13 +63,20 @@ const WRITES: [(&[u8], WriteEnd, &[u8]); 6] = [
     (b"f", WriteEnd::Done, b"abcdef"),
 ];
 
+/// Whether writes come to this, one after the other.
+fn are_written(sink: &mut MemSink, writes: &[Write]) -> bool {
+    for (text, end, held) in writes {
+        if write_all(sink, text) != *end || sink.held() != *held {
+            return false;
+        }
+    }
+    true
+}
+
 #[test]
 fn sink_keeps_what_it_takes(rt: HostRuntime) -> Result<(), NoMemory> {
     let alloc = rt.alloc();
     let mut sink = MemSink::new(alloc, 6, numbers(alloc, &[2])?)?;
-    for (text, end, held) in WRITES {
-        assert!(rt; write_all(&mut sink, text) == end);
-        assert!(rt; sink.held() == held);
-    }
+    assert!(rt; are_written(&mut sink, &WRITES));
     Ok(())
 }

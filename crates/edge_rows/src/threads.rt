@@ -65,16 +65,20 @@ impl Job for ReadOn {
     }
 }
 
-fn read_on(alloc: Global, own: &Bell, other: &Bell) -> Result<ReadOn, NoMemory> {
+/// A source of five bytes, the last two of which are held back until this bell was rung.
+fn held(alloc: Global, bell: &Bell) -> Result<HeldSource, NoMemory> {
+    let text = Items::from_vec(Vec::from_slice(alloc, b"abcde")?);
     let hold = Hold {
-        bell: other.share(),
+        bell: bell.share(),
         rings: 1,
         place: 3,
     };
-    let text = Items::from_vec(Vec::from_slice(alloc, b"abcde")?);
-    let source = HeldSource::new(alloc, text, Items::new(alloc), hold)?;
+    HeldSource::new(alloc, text, Items::new(alloc), hold)
+}
+
+fn read_on(alloc: Global, own: &Bell, other: &Bell) -> Result<ReadOn, NoMemory> {
     Ok(ReadOn {
-        source,
+        source: held(alloc, other)?,
         own: own.share(),
         other: other.share(),
     })
@@ -189,23 +193,29 @@ fn speak_in<'s, E, R: Threads, P: Spawner, L: Link + Send + 's>(
 fn speak_apart<R: Threads + Wait + Sync>(
     rt: &R,
     alloc: Global,
+    spawner: &mut MemSpawner,
     link: MemLink,
-) -> Result<Option<MemLink>, NoMemory> {
-    let mut spawner = MemSpawner::new(alloc, Items::new(alloc))?;
-    let link = thread::scope(thread::scope_env(), rt, |scope| {
-        speak_in(rt, alloc, scope, &mut spawner, link)
-    });
-    Ok(link)
+) -> Option<MemLink> {
+    thread::scope(
+        thread::scope_env(),
+        rt,
+        |scope| speak_in(rt, alloc, scope, spawner, link),
+    )
+}
+
+/// Whether a link was given back, on which it was said.
+fn has_said(link: Option<MemLink>) -> bool {
+    match link {
+        Some(link) => link.said() == b"hello".as_slice(),
+        None => false,
+    }
 }
 
 #[test]
 fn link_speaks_in_a_thread(rt: HostRuntime) -> Result<(), NoMemory> {
     let alloc = rt.alloc();
+    let mut spawner = MemSpawner::new(alloc, Items::new(alloc))?;
     let link = MemLink::new(alloc, Items::new(alloc), 8, 2, Items::new(alloc), None)?;
-    let has_said = match speak_apart(&rt, alloc, link)? {
-        Some(link) => link.said() == b"hello".as_slice(),
-        None => false,
-    };
-    assert!(rt; has_said);
+    assert!(rt; has_said(speak_apart(&rt, alloc, &mut spawner, link)));
     Ok(())
 }

@@ -7,12 +7,8 @@ mod folder;
 mod link;
 mod listener;
 mod reader;
-#[cfg(test)]
-mod socket_tests;
 mod sockets;
 mod spawner;
-#[cfg(test)]
-mod tests;
 mod waker;
 mod writer;
 

@@ -8,8 +8,11 @@ use login_model::{
 };
 use login_policy::{TableFault, ask, read_table};
 
-/// What the default table says to any, inactive and active connections.
-const DEFAULTS: [(&[u8], Say, Say, Say); 29] = [
+/// The name of an action, and what a table says to any, inactive and active connections.
+type Asked<'t> = (&'t [u8], Say, Say, Say);
+
+/// What the default table says.
+const DEFAULTS: [Asked; 29] = [
     (b"chvt", Challenge, Challenge, Yes),
     (b"lock-sessions", Challenge, Challenge, Challenge),
     (b"manage", Challenge, Challenge, Challenge),
@@ -41,20 +44,34 @@ const DEFAULTS: [(&[u8], Say, Say, Say); 29] = [
     (b"hibernate-ignore-inhibit", Challenge, Challenge, Challenge),
 ];
 
-#[test]
-fn default_table(rt: HostRuntime) {
-    let table = Table::default();
-    for (name, any, inactive, active) in DEFAULTS {
-        let action = Action::read(name);
-        assert!(rt; action.is_some(), "a name of an action");
-        if let Some(action) = action {
-            assert!(rt; action.name() == name);
-            assert!(rt; ask(&table, action, Standing::Root) == Yes);
-            assert!(rt; ask(&table, action, Standing::Active) == active);
-            assert!(rt; ask(&table, action, Standing::Inactive) == inactive);
-            assert!(rt; ask(&table, action, Standing::Any) == any);
+/// Whether a table says this, and yes to root.
+fn says(table: &Table, asked: &Asked) -> bool {
+    let (name, any, inactive, active) = *asked;
+    match Action::read(name) {
+        Some(action) => {
+            action.name() == name
+                && ask(table, action, Standing::Root) == Yes
+                && ask(table, action, Standing::Active) == active
+                && ask(table, action, Standing::Inactive) == inactive
+                && ask(table, action, Standing::Any) == any
+        }
+        None => false,
+    }
+}
+
+/// The name of the first action of which a table says something else.
+fn first_other<'t>(table: &Table, all: &[Asked<'t>]) -> Option<&'t [u8]> {
+    for asked in all {
+        if !says(table, asked) {
+            return Some(asked.0);
         }
     }
+    None
+}
+
+#[test]
+fn default_table(rt: HostRuntime) {
+    assert_eq!(rt; first_other(&Table::default(), &DEFAULTS), None);
 }
 
 const NO_NAMES: [&[u8]; 6] = [
@@ -185,22 +202,34 @@ fn tables_are_read(rt: HostRuntime) {
     }
 }
 
+/// Whether a table has a row with this.
+fn has_row(table: &Table, asked: &Asked) -> bool {
+    let (name, any, inactive, active) = *asked;
+    let row = Row {
+        any,
+        inactive,
+        active,
+    };
+    match Action::read(name) {
+        Some(action) => table.row(action) == row,
+        None => false,
+    }
+}
+
+/// The name of the first action whose row in a table is another one.
+fn first_other_row<'t>(table: &Table, all: &[Asked<'t>]) -> Option<&'t [u8]> {
+    for asked in all {
+        if !has_row(table, asked) {
+            return Some(asked.0);
+        }
+    }
+    None
+}
+
 #[test]
 fn an_empty_table_is_the_default(rt: HostRuntime) {
-    let table = read_table(rt.alloc(), b"");
-    assert!(rt; table.is_ok());
-    if let Ok(table) = table {
-        for (name, any, inactive, active) in DEFAULTS {
-            if let Some(action) = Action::read(name) {
-                assert!(rt;
-                    table.row(action)
-                        == Row {
-                            any,
-                            inactive,
-                            active
-                        }
-                );
-            }
-        }
+    match read_table(rt.alloc(), b"") {
+        Ok(table) => assert_eq!(rt; first_other_row(&table, &DEFAULTS), None),
+        Err(_) => assert!(rt; false),
     }
 }

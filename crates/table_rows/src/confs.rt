@@ -3,7 +3,7 @@
 use login_base::{Millis, NoMemory};
 use login_conf::{ConfFault, Diagnostic, read_conf};
 use login_model::{Conf, KeyAction, OpKind};
-use std::process::Abort;
+use std::alloc::Global;
 
 /// The values that the page documents as defaults.
 const DEFAULT: Conf = Conf {
@@ -25,50 +25,95 @@ const DEFAULT: Conf = Conf {
     lid_switch_ignore_inhibited: true,
 };
 
-/// What a text says is this.
-fn says(rt: &(impl Abort + AllocGlobal), text: &[u8], wanted: Conf, wrong: &[(u64, ConfFault)]) {
-    let read = read_conf(rt.alloc(), text);
-    assert!(rt; read.is_ok());
-    if let Ok((conf, diagnostics)) = read {
-        assert!(rt; conf == wanted);
-        assert!(rt; diagnostics.len() == wrong.len());
-        for (found, (line, cause)) in diagnostics.as_slice().iter().zip(wrong) {
-            let expected = Diagnostic {
-                line: *line,
-                cause: *cause,
-            };
-            assert!(rt; *found == expected);
+/// A text, what it says, and what is wrong with its lines.
+type Said<'t> = (&'t [u8], Conf, &'t [(u64, ConfFault)]);
+
+/// Whether this is what is wrong.
+fn are_wrong(found: &[Diagnostic], wrong: &[(u64, ConfFault)]) -> bool {
+    for (found, (line, cause)) in found.iter().zip(wrong) {
+        if found.line != *line || found.cause != *cause {
+            return false;
         }
+    }
+    found.len() == wrong.len()
+}
+
+/// Whether what a text says is this.
+fn says(alloc: Global, text: &[u8], wanted: &Conf, wrong: &[(u64, ConfFault)]) -> bool {
+    match read_conf(alloc, text) {
+        Ok((conf, found)) => conf == *wanted && are_wrong(found.as_slice(), wrong),
+        Err(_) => false,
     }
 }
 
+/// The place of the first text that says something else.
+fn first_other(alloc: Global, texts: &[Said]) -> Option<usize> {
+    for (place, (text, conf, wrong)) in texts.iter().enumerate() {
+        if !says(alloc, text, conf, wrong) {
+            return Some(place);
+        }
+    }
+    None
+}
+
+/// A value that is not the default one.
+#[derive(Clone, Copy)]
+enum Set {
+    AutoVts(u32),
+    SessionsMax(u32),
+    InhibitDelayMax(u64),
+    IdleAction(KeyAction),
+    IdleActionDelay(u64),
+    PowerKeyIgnoreInhibited(bool),
+}
+
+/// The defaults but for these values.
+fn conf_with(values: &[Set]) -> Conf {
+    let mut conf = DEFAULT;
+    for value in values {
+        match *value {
+            Set::AutoVts(count) => conf.auto_vts = count,
+            Set::SessionsMax(count) => conf.sessions_max = count,
+            Set::InhibitDelayMax(millis) => conf.inhibit_delay_max = Millis(millis),
+            Set::IdleAction(action) => conf.idle_action = action,
+            Set::IdleActionDelay(millis) => conf.idle_action_delay = Millis(millis),
+            Set::PowerKeyIgnoreInhibited(is_so) => conf.power_key_ignore_inhibited = is_so,
+        }
+    }
+    conf
+}
+
+/// A text, what it sets that is not the default, and what is wrong with its lines. A table of whole configurations is
+/// proved many times slower.
+type Line<'t> = (&'t [u8], &'t [Set], &'t [(u64, ConfFault)]);
+
+/// The place of the first text that says something else.
+fn first_other_line(alloc: Global, texts: &[Line]) -> Option<usize> {
+    for (place, (text, values, wrong)) in texts.iter().enumerate() {
+        if !says(alloc, text, &conf_with(values), wrong) {
+            return Some(place);
+        }
+    }
+    None
+}
+
 /// Lines, how they are joined and counted, and sections.
-const LINES: [(&[u8], Conf, &[(u64, ConfFault)]); 18] = [
-    (b"", DEFAULT, &[]),
-    (b"\n\n", DEFAULT, &[]),
+const LINES: [Line; 18] = [
+    (b"", &[], &[]),
+    (b"\n\n", &[], &[]),
     (
         b"[Login]\nSessionsMax=1\nFoo=1\nNAutoVTs=64\nInhibitDelayMaxSec=1min 30s",
-        Conf {
-            sessions_max: 1,
-            inhibit_delay_max: Millis(90_000),
-            ..DEFAULT
-        },
+        &[Set::SessionsMax(1), Set::InhibitDelayMax(90_000)],
         &[(3, ConfFault::UnknownKey), (4, ConfFault::BadValue)],
     ),
     (
         b"# a\n ; b\n\t[Login] \n \tNAutoVTs \t=\t 3 \t\n",
-        Conf {
-            auto_vts: 3,
-            ..DEFAULT
-        },
+        &[Set::AutoVts(3)],
         &[],
     ),
     (
         b"SessionsMax=1\nx\n[Login]\nSessionsMax=2\n[Other]\nSessionsMax=3\nx\n[Login]\nx",
-        Conf {
-            sessions_max: 2,
-            ..DEFAULT
-        },
+        &[Set::SessionsMax(2)],
         &[
             (1, ConfFault::BeforeSections),
             (2, ConfFault::BeforeSections),
@@ -78,7 +123,7 @@ const LINES: [(&[u8], Conf, &[(u64, ConfFault)]); 18] = [
     ),
     (
         b"[login]\n[ Login ]\n[]\nNAutoVTs=1",
-        DEFAULT,
+        &[],
         &[
             (1, ConfFault::OtherSection),
             (2, ConfFault::OtherSection),
@@ -87,7 +132,7 @@ const LINES: [(&[u8], Conf, &[(u64, ConfFault)]); 18] = [
     ),
     (
         b"[\n]\n[Login\n[Login]\n[Foo=1",
-        DEFAULT,
+        &[],
         &[
             (1, ConfFault::BeforeSections),
             (2, ConfFault::BeforeSections),
@@ -97,60 +142,48 @@ const LINES: [(&[u8], Conf, &[(u64, ConfFault)]); 18] = [
     ),
     (
         b"[Login]\nNAuto\\\nVTs=1\nFoo",
-        DEFAULT,
+        &[],
         &[(2, ConfFault::UnknownKey), (4, ConfFault::NoEqualsSign)],
     ),
     (
         b"[Login]\nFoo\\\n\\\n=1\nBar=1",
-        DEFAULT,
+        &[],
         &[(2, ConfFault::UnknownKey), (5, ConfFault::UnknownKey)],
     ),
     (
         b"[Login]\nNAutoVTs=\\\n\\\n 2\nFoo=1",
-        Conf {
-            auto_vts: 2,
-            ..DEFAULT
-        },
+        &[Set::AutoVts(2)],
         &[(5, ConfFault::UnknownKey)],
     ),
     (
         b"[Login]\n# \\\nNAutoVTs=2\nFoo=1",
-        DEFAULT,
+        &[],
         &[(4, ConfFault::UnknownKey)],
     ),
     (
         b"[Login]\nNAutoVTs=2\\ \nSessionsMax=3\\",
-        Conf {
-            sessions_max: 3,
-            ..DEFAULT
-        },
+        &[Set::SessionsMax(3)],
         &[(2, ConfFault::BadValue)],
     ),
-    (b"[Login]\\", DEFAULT, &[]),
+    (b"[Login]\\", &[], &[]),
     (
         b"[Login]\nSessionsMax=1\\\n\nFoo=1",
-        Conf {
-            sessions_max: 1,
-            ..DEFAULT
-        },
+        &[Set::SessionsMax(1)],
         &[(4, ConfFault::UnknownKey)],
     ),
     (
         b"[Login]\nInhibitDelayMaxSec=1min\\\n30s",
-        Conf {
-            inhibit_delay_max: Millis(90_000),
-            ..DEFAULT
-        },
+        &[Set::InhibitDelayMax(90_000)],
         &[],
     ),
     (
         b"[Lo\\\ngin]\nNAutoVTs=1",
-        DEFAULT,
+        &[],
         &[(1, ConfFault::OtherSection)],
     ),
     (
         b"[Login]\x0d\nNAutoVTs=1",
-        DEFAULT,
+        &[],
         &[
             (1, ConfFault::BeforeSections),
             (2, ConfFault::BeforeSections),
@@ -158,23 +191,21 @@ const LINES: [(&[u8], Conf, &[(u64, ConfFault)]); 18] = [
     ),
     (
         b"[Login]\nNAutoVTs=1\0\n\xc3\xbf=1",
-        DEFAULT,
+        &[],
         &[(2, ConfFault::BadValue), (3, ConfFault::UnknownKey)],
     ),
 ];
 
 #[test]
 fn lines(rt: HostRuntime) {
-    for (text, conf, wrong) in LINES {
-        says(&rt, text, conf, wrong);
-    }
+    assert_eq!(rt; first_other_line(rt.alloc(), &LINES), None);
 }
 
 /// Keys, and values that come later or are empty.
-const KEYS: [(&[u8], Conf, &[(u64, ConfFault)]); 9] = [
+const KEYS: [Line; 9] = [
     (
         b"[Login]\nFoo=1\nFoo=\n=1\nnautovts=1\nRemoveIPC\nRemoveIPC=x\nRemoveIPC=\n=",
-        DEFAULT,
+        &[],
         &[
             (2, ConfFault::UnknownKey),
             (3, ConfFault::UnknownKey),
@@ -186,46 +217,36 @@ const KEYS: [(&[u8], Conf, &[(u64, ConfFault)]); 9] = [
     ),
     (
         b"[Login]\nSessionsMax=1\nSessionsMax=2",
-        Conf {
-            sessions_max: 2,
-            ..DEFAULT
-        },
+        &[Set::SessionsMax(2)],
         &[],
     ),
-    (b"[Login]\nSessionsMax=1\nSessionsMax=", DEFAULT, &[]),
+    (b"[Login]\nSessionsMax=1\nSessionsMax=", &[], &[]),
     (
         b"[Login]\nSessionsMax=1\nSessionsMax= x",
-        Conf {
-            sessions_max: 1,
-            ..DEFAULT
-        },
+        &[Set::SessionsMax(1)],
         &[(3, ConfFault::BadValue)],
     ),
     (
         b"[Login]\nSessionsMax=1=1\nHandlePowerKey = lock = lock",
-        DEFAULT,
+        &[],
         &[(2, ConfFault::BadValue), (3, ConfFault::BadValue)],
     ),
     (
         b"[Login]\nSwitchDelayMaxSec=\n",
-        DEFAULT,
+        &[],
         &[(2, ConfFault::UnknownKey)],
     ),
     (
         b"[Login]\nPowerKeyIgnoreInhibited=yes\n",
-        Conf {
-            power_key_ignore_inhibited: true,
-            ..DEFAULT
-        },
+        &[Set::PowerKeyIgnoreInhibited(true)],
         &[],
     ),
     (
         b"[Login]\nIdleAction=lock\nIdleActionSec=2\n",
-        Conf {
-            idle_action: KeyAction::Lock,
-            idle_action_delay: Millis(2_000),
-            ..DEFAULT
-        },
+        &[
+            Set::IdleAction(KeyAction::Lock),
+            Set::IdleActionDelay(2_000),
+        ],
         &[],
     ),
     (
@@ -245,20 +266,18 @@ const KEYS: [(&[u8], Conf, &[(u64, ConfFault)]); 9] = [
          StopIdleSessionSec=infinity\n\
          RuntimeDirectorySize=10%\n\
          RuntimeDirectoryInodesMax=x",
-        DEFAULT,
+        &[],
         &[],
     ),
 ];
 
 #[test]
 fn keys(rt: HostRuntime) {
-    for (text, conf, wrong) in KEYS {
-        says(&rt, text, conf, wrong);
-    }
+    assert_eq!(rt; first_other_line(rt.alloc(), &KEYS), None);
 }
 
 /// Values of each kind.
-const VALUES: [(&[u8], Conf, &[(u64, ConfFault)]); 6] = [
+const VALUES: [Said; 6] = [
     (
         b"[Login]\nNAutoVTs=63\nSessionsMax=32768\nInhibitorsMax=0",
         Conf {
@@ -357,27 +376,44 @@ const VALUES: [(&[u8], Conf, &[(u64, ConfFault)]); 6] = [
 
 #[test]
 fn values(rt: HostRuntime) {
-    for (text, conf, wrong) in VALUES {
-        says(&rt, text, conf, wrong);
-    }
+    assert_eq!(rt; first_other(rt.alloc(), &VALUES), None);
 }
 
-/// What a text says whose delay is a minute, and then this span.
+/// Whether a text whose delay is a minute, and then this span, says this.
 fn delays(
-    rt: &(impl Abort + AllocGlobal),
+    alloc: Global,
     span: &[u8],
     wanted: u64,
     wrong: &[(u64, ConfFault)],
-) -> Result<(), NoMemory> {
-    let mut text = Vec::new(rt.alloc());
+) -> Result<bool, NoMemory> {
+    let mut text = Vec::new(alloc);
     text.extend_from_slice(b"[Login]\nIdleActionSec=1min\nIdleActionSec=")?;
     text.extend_from_slice(span)?;
     let conf = Conf {
         idle_action_delay: Millis(wanted),
         ..DEFAULT
     };
-    says(rt, text.as_slice(), conf, wrong);
-    Ok(())
+    Ok(says(alloc, text.as_slice(), &conf, wrong))
+}
+
+/// The place of the first span that is another one.
+fn first_other_span(alloc: Global, spans: &[(&[u8], u64)]) -> Result<Option<usize>, NoMemory> {
+    for (place, (span, millis)) in spans.iter().enumerate() {
+        if !delays(alloc, span, *millis, &[])? {
+            return Ok(Some(place));
+        }
+    }
+    Ok(None)
+}
+
+/// The place of the first text that is a span.
+fn first_span(alloc: Global, texts: &[&[u8]]) -> Result<Option<usize>, NoMemory> {
+    for (place, text) in texts.iter().enumerate() {
+        if !delays(alloc, text, 60_000, &[(3, ConfFault::BadValue)])? {
+            return Ok(Some(place));
+        }
+    }
+    Ok(None)
 }
 
 /// Spans, and how many milliseconds they have.
@@ -402,9 +438,7 @@ const SPANS: [(&[u8], u64); 16] = [
 
 #[test]
 fn spans(rt: HostRuntime) -> Result<(), NoMemory> {
-    for (text, millis) in SPANS {
-        delays(&rt, text, millis, &[])?;
-    }
+    assert_eq!(rt; first_other_span(rt.alloc(), &SPANS)?, None);
     Ok(())
 }
 
@@ -434,14 +468,12 @@ const NO_SPANS: [&[u8]; 20] = [
 
 #[test]
 fn no_spans(rt: HostRuntime) -> Result<(), NoMemory> {
-    for text in NO_SPANS {
-        delays(&rt, text, 60_000, &[(3, ConfFault::BadValue)])?;
-    }
+    assert_eq!(rt; first_span(rt.alloc(), &NO_SPANS)?, None);
     Ok(())
 }
 
 /// Spans as values of a key.
-const SPAN_VALUES: [(&[u8], Conf, &[(u64, ConfFault)]); 2] = [
+const SPAN_VALUES: [Said; 2] = [
     (
         b"[Login]\nInhibitDelayMaxSec= 1min 30s \nUserStopDelaySec=5 5\nIdleActionSec=4000000000000ms",
         Conf {
@@ -461,9 +493,7 @@ const SPAN_VALUES: [(&[u8], Conf, &[(u64, ConfFault)]); 2] = [
 
 #[test]
 fn span_values(rt: HostRuntime) {
-    for (text, conf, wrong) in SPAN_VALUES {
-        says(&rt, text, conf, wrong);
-    }
+    assert_eq!(rt; first_other(rt.alloc(), &SPAN_VALUES), None);
 }
 
 /// The file of a distribution (Debian's systemd 252), in which all lines are comments, and the same
@@ -545,7 +575,7 @@ const DISTRIBUTED: [&[u8]; 2] = [
 
 #[test]
 fn distributed(rt: HostRuntime) {
-    for text in DISTRIBUTED {
-        says(&rt, text, DEFAULT, &[]);
+    for text in &DISTRIBUTED {
+        assert!(rt; says(rt.alloc(), text, &DEFAULT, &[]));
     }
 }

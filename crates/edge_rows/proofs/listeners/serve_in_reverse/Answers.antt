@@ -29,3 +29,9 @@ pub give_back-requires-2-clause-out : goal.give_back-requires-2-clause-out
 give_back-requires-2-clause-out g c =
     first-stays-out _ _ _ 1 2 _ _ _ c.in-Came-accept.ensures.tells c.give_back.ensures.tells (omega arith) (λ e. omega (arith, e))
     (newest-is-out _ _ _ 1 _ _ c.in-Came.ensures.tells (g.N.Listener.counted c.args.listener.now) (omega (arith, c.requires)))
+
+pub give_back-requires-clause-number : goal.give_back-requires-clause-number
+give_back-requires-clause-number g c = omega (arith, c.say_all-2.ensures.number, c.in-Came-accept.ensures.numbers.0, c.in-Came.ensures.numbers.1, c.requires)
+
+pub give_back-requires-2-clause-number : goal.give_back-requires-2-clause-number
+give_back-requires-2-clause-number g c = omega (arith, c.say_all.ensures.number, c.in-Came.ensures.numbers.0, c.requires)

@@ -1,7 +1,7 @@
 use Rattle.std.proofs.Common.{◌≡◌, All}
 use Rattle.std.specs.Vec.Iter.{into_iter_items, into_iter_len}
 use Rattle.desk.specs.Passes.{IsFirst}
-use Rattle.desk_rows.proofs.crowd.join_all.Given as goal
+use Rattle.part_rows.proofs.crowd.join_all.Given as goal
 
 abbrev pub invariant-loop-handle : goal.invariant-loop-handle
 invariant-loop-handle g l =

@@ -1,5 +1,5 @@
 use Rattle.std.proofs.Common.{◌≡◌}
-use Rattle.desk_rows.proofs.crowd.take_turns.Given as goal
+use Rattle.part_rows.proofs.crowd.take_turns.Given as goal
 
 abbrev pub invariant-loop-number : goal.invariant-loop-number
 invariant-loop-number g l = l.pass.desk ≡ l.desk

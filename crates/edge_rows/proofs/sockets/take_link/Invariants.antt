@@ -1,5 +1,5 @@
 use Rattle.std.specs.Prelude.{◌≡◌}
-use Rattle.login_real.proofs.socket_tests.take_link.Given as goal
+use Rattle.edge_rows.proofs.sockets.take_link.Given as goal
 
 -- no link has come yet
 abbrev pub invariant-loop : goal.invariant-loop

@@ -1,6 +1,6 @@
 use Rattle.std.proofs.Common.{◌≡◌, All, vec_len}
 use Rattle.desk.specs.Passes.{IsFirst}
-use Rattle.desk_rows.proofs.crowd.start_all.Given as goal
+use Rattle.part_rows.proofs.crowd.start_all.Given as goal
 
 abbrev pub invariant-loop-n : goal.invariant-loop-n
 invariant-loop-n g l =

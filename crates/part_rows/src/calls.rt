@@ -53,75 +53,61 @@ fn is_call(alloc: Global, case: &Case) -> Result<bool, NoMemory> {
     }
 }
 
+/// The place of the first case that is not its call.
+fn first_other(alloc: Global, cases: &[Case]) -> Result<Option<usize>, NoMemory> {
+    for (place, case) in cases.iter().enumerate() {
+        if !is_call(alloc, case)? {
+            return Ok(Some(place));
+        }
+    }
+    Ok(None)
+}
+
 #[test]
 fn methods_of_the_manager(rt: HostRuntime) -> Result<(), NoMemory> {
-    let alloc = rt.alloc();
-    for (index, case) in MANAGER.iter().enumerate() {
-        assert!(rt; is_call(alloc, case)?, "case {index}");
-    }
+    assert_eq!(rt; first_other(rt.alloc(), MANAGER)?, None);
     Ok(())
 }
 
 #[test]
 fn methods_of_other_objects(rt: HostRuntime) -> Result<(), NoMemory> {
-    let alloc = rt.alloc();
-    for (index, case) in OBJECTS.iter().enumerate() {
-        assert!(rt; is_call(alloc, case)?, "case {index}");
-    }
+    assert_eq!(rt; first_other(rt.alloc(), OBJECTS)?, None);
     Ok(())
 }
 
 #[test]
 fn paths_of_no_object(rt: HostRuntime) -> Result<(), NoMemory> {
-    let alloc = rt.alloc();
-    for (index, case) in NO_OBJECTS.iter().enumerate() {
-        assert!(rt; is_call(alloc, case)?, "case {index}");
-    }
+    assert_eq!(rt; first_other(rt.alloc(), NO_OBJECTS)?, None);
     Ok(())
 }
 
 #[test]
 fn names_of_no_method(rt: HostRuntime) -> Result<(), NoMemory> {
-    let alloc = rt.alloc();
-    for (index, case) in NO_METHODS.iter().enumerate() {
-        assert!(rt; is_call(alloc, case)?, "case {index}");
-    }
+    assert_eq!(rt; first_other(rt.alloc(), NO_METHODS)?, None);
     Ok(())
 }
 
 #[test]
 fn methods_beside_the_own_ones(rt: HostRuntime) -> Result<(), NoMemory> {
-    let alloc = rt.alloc();
-    for (index, case) in STANDARD.iter().enumerate() {
-        assert!(rt; is_call(alloc, case)?, "case {index}");
-    }
+    assert_eq!(rt; first_other(rt.alloc(), STANDARD)?, None);
     Ok(())
 }
 
 #[test]
 fn signatures_and_limits(rt: HostRuntime) -> Result<(), NoMemory> {
-    let alloc = rt.alloc();
-    for (index, case) in ARGUMENTS.iter().enumerate() {
-        assert!(rt; is_call(alloc, case)?, "case {index}");
-    }
+    assert_eq!(rt; first_other(rt.alloc(), ARGUMENTS)?, None);
     Ok(())
 }
 
 #[test]
 fn other_messages(rt: HostRuntime) -> Result<(), NoMemory> {
-    let alloc = rt.alloc();
-    for (index, case) in MESSAGES.iter().enumerate() {
-        assert!(rt; is_call(alloc, case)?, "case {index}");
-    }
+    assert_eq!(rt; first_other(rt.alloc(), MESSAGES)?, None);
     Ok(())
 }
 
 #[test]
 fn messages_of_clients(rt: HostRuntime) -> Result<(), NoMemory> {
-    let alloc = rt.alloc();
-    for (index, case) in CLIENTS.iter().enumerate() {
-        assert!(rt; is_call(alloc, case)?, "case {index}");
-    }
+    assert_eq!(rt; first_other(rt.alloc(), CLIENTS)?, None);
     Ok(())
 }
 
@@ -136,26 +122,42 @@ fn sent(alloc: Global, call: Call) -> Result<Message, NoMemory>
     message
 }
 
+/// Whether a call is sent as a message that is this event.
+fn is_sent(alloc: Global, call: Call, event: &[u8]) -> Result<bool, NoMemory>
+    requires ordinary { is_other call ≡ false }
+    requires texts { HasTexts call }
+    requires object { has_object call ≡ true }
+{
+    let message = sent(alloc, call)?;
+    is_message(alloc, &message, event)
+}
+
 #[test]
 fn mode_is_sent(rt: HostRuntime) -> Result<(), NoMemory> {
-    let alloc = rt.alloc();
-    let message = sent(alloc, Call::SetMode(HandleNo(4), 1))?;
-    assert!(rt; is_message(alloc, &message, b"call 2 7 set-mode 4 1")?);
+    assert!(rt;
+        is_sent(
+            rt.alloc(),
+            Call::SetMode(HandleNo(4), 1),
+            b"call 2 7 set-mode 4 1"
+        )?
+    );
     Ok(())
 }
 
 #[test]
 fn ping_is_sent(rt: HostRuntime) -> Result<(), NoMemory> {
-    let alloc = rt.alloc();
-    let message = sent(alloc, Call::Ping)?;
-    assert!(rt; is_message(alloc, &message, b"call 2 7 ping")?);
+    assert!(rt; is_sent(rt.alloc(), Call::Ping, b"call 2 7 ping")?);
     Ok(())
 }
 
 #[test]
 fn power_is_sent(rt: HostRuntime) -> Result<(), NoMemory> {
-    let alloc = rt.alloc();
-    let message = sent(alloc, Call::Power(OpKind::HybridSleep))?;
-    assert!(rt; is_message(alloc, &message, b"call 2 7 power hybrid-sleep")?);
+    assert!(rt;
+        is_sent(
+            rt.alloc(),
+            Call::Power(OpKind::HybridSleep),
+            b"call 2 7 power hybrid-sleep"
+        )?
+    );
     Ok(())
 }

@@ -1,7 +1,7 @@
 use Rattle.std.proofs.Common.{rules, arith, ◌≡◌, ◌++◌, ◌∷◌, []}
 use Rattle.std.proofs.lemmas.Grind.{common_steps}
-use Rattle.desk_rows.proofs.Handles.{all_more}
-use Rattle.desk_rows.proofs.crowd.start_all.Goals as goal
+use Rattle.part_rows.proofs.Handles.{all_more}
+use Rattle.part_rows.proofs.crowd.start_all.Goals as goal
 
 pub loop-n-preserved : goal.loop-n-preserved
 loop-n-preserved g c =

@@ -1,13 +1,13 @@
 // Sockets, the clock and threads of the machine, both ends of each socket in one process.
 
-use crate::tests::own_path;
-use crate::{LinkWaker, MonotonicClock, SocketLink, SocketListener, ThreadSpawner};
+use crate::descriptors::own_path;
 use libc::geteuid;
 use login_base::{Items, NoMemory, Uid};
 use login_edge::{
     Accepted, Clock, Heard, Job, Link, Listener, Opened, Reading, Spawner, Started, Took, WriteEnd,
     say_all,
 };
+use login_real::{LinkWaker, MonotonicClock, SocketLink, SocketListener, ThreadSpawner};
 use std::alloc::Global;
 use std::fs::{Files, Permissions};
 use std::io::{ErrorKind, Read, Write};

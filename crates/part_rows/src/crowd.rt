@@ -30,6 +30,24 @@ impl Promise<Pass<usize, Counted>> for Note {
     ghost kept_by = { λ note pass. pass.desk ≡ note.pass.value.desk };
 }
 
+/// Makes an act of each kind. Whether the one without an entry answers enough; if not, the last is left out.
+fn take_turn<R: Wait>(
+    rt: &R,
+    desk: &Desk<Counter>,
+    pass: &mut Pass<usize, Counted>,
+    number: u32,
+) -> bool
+    requires { pass.old.desk ≡ desk.now }
+    ensures { pass.new.desk ≡ desk.now }
+{
+    desk.act(rt, pass, &mut CountUp { number });
+    let is_enough = desk.act(rt, pass, &mut HowMany) > number as usize;
+    if is_enough {
+        desk.act(rt, pass, &mut CountOn);
+    }
+    is_enough
+}
+
 /// Makes acts of three kinds in turn, and stops where the one without an entry answers too little.
 fn take_turns<R: Wait>(
     rt: &R,
@@ -40,12 +58,9 @@ fn take_turns<R: Wait>(
     ensures { result.desk ≡ desk.now }
 {
     for number in 0..ROUNDS {
-        desk.act(rt, &mut pass, &mut CountUp { number });
-        let many = desk.act(rt, &mut pass, &mut HowMany);
-        if many <= number as usize {
+        if !take_turn(rt, desk, &mut pass, number) {
             return pass;
         }
-        desk.act(rt, &mut pass, &mut CountOn);
     }
     pass
 }

@@ -1,7 +1,7 @@
 use Rattle.std.proofs.Common.{rules, arith, ◌≡◌, ◌∙◌}
 use Rattle.std.proofs.lemmas.Grind.{common_steps}
-use Rattle.desk_rows.proofs.Handles.{all_first, all_rest}
-use Rattle.desk_rows.proofs.crowd.join_all.Goals as goal
+use Rattle.part_rows.proofs.Handles.{all_first, all_rest}
+use Rattle.part_rows.proofs.crowd.join_all.Goals as goal
 
 pub join-requires-clause-desk : goal.join-requires-clause-desk
 join-requires-clause-desk g c =

@@ -1,7 +1,7 @@
 // The adapter of each standard stream over real descriptors: a pipe, a file, and one that fails.
 
-use crate::{ReaderSource, WriterSink};
 use login_edge::{Got, Sink, Source, Took, WriteEnd, write_all};
+use login_real::{ReaderSource, WriterSink};
 use std::test::Fail;
 use std::{env, fs, io, process};
 
@@ -10,7 +10,7 @@ pub(crate) fn own_path(rt: &HostRuntime, name: &str) -> Result<String, Fail> {
     let id = process::id(rt.process());
     let folder = env::temp_dir(rt)?;
     let folder = folder.as_str();
-    Ok(format!(in rt.alloc(); "{folder}/login_real-{name}-{id}")?)
+    Ok(format!(in rt.alloc(); "{folder}/edge_rows-{name}-{id}")?)
 }
 
 fn read_once<S: Source>(source: &mut S, buf: &mut [u8; 2]) -> Got {

@@ -1,9 +1,0 @@
-//! Tests of `desk`, through its public calls.
-//!
-//! They stand in a crate of their own, since a crate with tests is proved a second time with them.
-#![tactic(auto)]
-
-#[cfg(test)]
-mod counts;
-#[cfg(test)]
-mod crowd;
