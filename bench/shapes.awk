@@ -44,13 +44,17 @@ function begin(  i, s) {
         for (i = 1; i <= devices; i++) {
             line("add 14 " i " evdev seat0"); call(1, "take c1 14 " i); call(1, "take c2 14 " i)
         }
-    } else if (shape == "callers") {
+    } else if (shape ~ /^callers/) {
         for (i = 2; i <= 61; i++) line("connect " i " 0")
         for (s = 1; s <= 10; s++) { create(1, s); call(1, "control c" s " false") }
         for (i = 1; i <= 128; i++) {
             line("add 14 " i " evdev seat0")
             for (s = 1; s <= 10; s++) call(1, "take c" s " 14 " i)
         }
+        if (shape == "callers_turn") line("vtkey 2")
+        else if (shape == "callers_lock") call(1, "lock-all")
+        else if (shape == "callers_end") call(1, "terminate-user 1000")
+        else if (shape == "callers_denied") { line("connect 62 1001"); call(62, "lock-all") }
     } else if (shape == "waiting") {
         for (i = 1; i <= 1000; i++) call(1, "inhibit idle login test block")
         call(1, "inhibit shutdown login test delay"); call(1, "power poweroff")
@@ -108,7 +112,7 @@ function step(i,  who) {
     else if (shape == "settings") call(1, "set /org/freedesktop/login1/session/c1 % Name")
     else if (shape == "manager_properties") call(1, "get-all /org/freedesktop/login1 %")
     else if (shape == "pings") call(1, "ping")
-    else if (shape == "callers") call(2 + i % 60, "ping")
+    else if (shape ~ /^callers/) call(2 + i % 60, "ping")
     else if (shape == "idle_hints") call(1, "idle c" (1 + i % beside) " " setting(int(i / beside) + 1))
     else if (shape == "next") call(1, "next seat0")
     else if (shape == "ends") { line("connect " (i + 3) " 1001"); line("disconnect " (i + 3)) }
