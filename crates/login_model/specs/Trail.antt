@@ -1,5 +1,5 @@
 -- The marks so far, and the facts that they leave.
-use Rattle.std.specs.Prelude.{ℕ, ◌+◌, ◌||◌, Bool, false, if◌then◌else◌, List, [], ◌∷◌}
+use Rattle.std.specs.Prelude.{◌||◌, Bool, false, if◌then◌else◌, List, [], ◌∷◌}
 use Rattle.login_model.specs.declared.fact.Key.{Key}
 use Rattle.login_model.specs.declared.fact.Fact.{Fact}
 use Rattle.login_model.specs.declared.mark.Mark.{Mark}
@@ -24,12 +24,6 @@ unfoldable pub was_set : Trail → Key → Bool
 was_set [] k = false
 was_set (Set j x ∷ t) k = same_key j k || was_set t k
 was_set (Say w n ∷ t) k = was_set t k
-
--- how many keys there are settings of
-unfoldable pub key_count : Trail → ℕ
-key_count [] = 0
-key_count (Set j x ∷ t) = if was_set t j then key_count t else key_count t + 1
-key_count (Say w n ∷ t) = key_count t
 
 -- the marks so far, and then these, the oldest of which comes first
 abbrev pub after : Trail → List Mark → Trail

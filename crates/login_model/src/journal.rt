@@ -56,13 +56,18 @@ impl Journal {
         self.entries.as_slice()
     }
 
-    /// Makes room for so many more entries.
+    /// Makes room for so many more entries. Where there is none yet, it takes memory for an eighth of those that there are
+    /// beside these, so that a long journal seldom gets memory and has little that it does not use.
     pub fn reserve(&mut self, more: usize) -> Result<(), NoMemory>
         ensures ok { OnOk result (more ≤ self.new.spare) }
         ensures items { self.new.items ≡ self.old.items }
         ensures spare { self.old.spare ≤ self.new.spare }
     {
-        self.entries.reserve(more)?;
+        let entries = self.entries.len();
+        if self.entries.capacity() - entries < more {
+            self.entries
+                .reserve_exact(more.saturating_add(entries / 8))?;
+        }
         Ok(())
     }
 
