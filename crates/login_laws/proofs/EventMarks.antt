@@ -16,7 +16,7 @@ use Rattle.login_model.specs.Full.{controlled_sessions, is_controlled_fact, take
 use Rattle.login_model.specs.Legal.{stepped}
 use Rattle.login_laws.specs.Asking.{asked_vt, call_vt}
 use Rattle.login_laws.specs.Few.{TakeAtMost}
-use Rattle.login_laws.specs.Need.{IsDisconnect, IsWithin, RoomIsKept, asks_to_turn, call_marks, call_turns, hardware_marks, hardware_turns, marks_beside, marks_over, marks_over_devices, may_switch, most_marks, most_of_any, seat_marks, switch_need}
+use Rattle.login_laws.specs.Need.{IsDisconnect, IsWithin, RoomIsKept, asks_to_turn, call_marks, call_turns, hardware_marks, hardware_turns, marks_beside, marks_over, marks_over_devices, may_switch, most_marks, most_of_any, most_rise, need, seat_marks, switch_need}
 use Rattle.login_model.specs.Policy.{meant_user, uid_of, verdict}
 use Rattle.login_model.specs.Procedure.{each, if_some, kill, know, no, oust, release, revoke, shut, take_seat, untake, yes}
 use Rattle.login_model.specs.Facts.{is_number_fact}
@@ -676,8 +676,14 @@ marks-at true false n a b c f l k = (let z = f refl in cc)
 marks-at false true n a b c f l k = omega arith
 marks-at false false n a b c f l k = omega arith
 
+-- the marks of an event, by how many devices one session has taken at most, and what else it may
+pub record StaysWithin (n : ℕ) (e : Event) (before after : Trail) : Type 0 where
+  pub marks : length after ≤ length before + most_marks n before e
+  pub need_rises : need after ≤ need before + most_rise before
+  pub takes : taken_count after ≤ taken_count before + 1
+
 settle-step : {b : Bool} (U : Setup) (n k : ℕ) (e : Event) (t u : Trail) → k ≤ 1 → TakeAtMost n t → (is_number_fact (value u key.Pending) ≡ true → may_switch t e ≡ true)
-    → Steps b (marks_over n t e + marks_itself) k t u → IsWithin n e t (settle U u)
+    → Steps b (marks_over n t e + marks_itself) k t u → StaysWithin n e t (settle U u)
 settle-step U n k e t u o l may p =
     let v = settle U u in
     let there : ThereAtMost (n + 1) u = λ s z. (let i = p.of_each s in let j = l s in omega arith) in
@@ -694,12 +700,12 @@ settle-step U n k e t u o l may p =
 none-more : (n : ℕ) (t : Trail) → length t ≤ length t + n
 none-more n t = omega arith
 
-other-by : (v : Verdict) (U : Setup) (n : ℕ) (e : Event) (t : Trail) → IsSound U t → TakeAtMost n t → (IsDisconnect e → ⊥) → IsWithin n e t (stepped U v e t)
+other-by : (v : Verdict) (U : Setup) (n : ℕ) (e : Event) (t : Trail) → IsSound U t → TakeAtMost n t → (IsDisconnect e → ⊥) → StaysWithin n e t (stepped U v e t)
 other-by Granted U n e t s l d = (let g = good-sound t s.between in settle-step U n (event_takes e) e t (direct U e t) (one-more e) l (pending-may U e t) (step-direct U e t d g.unused l))
 other-by (Denied r) U n e t s l d = record { marks = none-more (most_marks n t e) t; need_rises = omega arith; takes = omega arith }
 
 -- another event stays within both sums
-pub other : (U : Setup) (n : ℕ) (t : Trail) (e : Event) → IsSound U t → TakeAtMost n t → (IsDisconnect e → ⊥) → IsWithin n e t (stepped U (verdict U t e) e t)
+pub other : (U : Setup) (n : ℕ) (t : Trail) (e : Event) → IsSound U t → TakeAtMost n t → (IsDisconnect e → ⊥) → StaysWithin n e t (stepped U (verdict U t e) e t)
 other U n t e s l d = other-by (verdict U t e) U n e t s l d
 
 -- a disconnect takes no device
@@ -712,12 +718,13 @@ ends-take U t c s e =
     let b = (counted u (settle U u) (settle-within U (taken_count u) u (taken-there u)).falls).taken in
     omega arith
 
-any : (U : Setup) (t : Trail) (e : Event) → IsSound U t → (IsDisconnect e → ⊥) → length (stepped U (verdict U t e) e t) ≤ length t + most_of_any t
+any : (U : Setup) (t : Trail) (e : Event) → IsSound U t → (IsDisconnect e → ⊥) → IsWithin t (stepped U (verdict U t e) e t)
 any U t e s d =
     let n = taken_count t in
-    let w = (other U n t e s (taken-within t (good-sound t s.between)) d).marks in
+    let w = other U n t e s (taken-within t (good-sound t s.between)) d in
+    let m = w.marks in
     let l = most-less n t e (omega arith) in
-    omega arith
+    record { marks = omega arith; need_rises = w.need_rises; takes = w.takes }
 
 pub room-is-kept : (U : Setup) → RoomIsKept U
-room-is-kept U = record { other = other U; any = any U; ends = ends U; ends_take = ends-take U; stop = stop-stays U; room = room }
+room-is-kept U = record { other = any U; few = λ n t e s l d. (other U n t e s l d).marks; ends = ends U; ends_take = ends-take U; stop = stop-stays U; room = room }

@@ -1,6 +1,7 @@
 -- In every legal journal no session has taken more devices than it may: only a take brings a device, to one session that
 -- has fewer.
 use Rattle.std.proofs.Common.{◌≡◌, ◌≤◌, ◌+◌, ◌==◌, nat_le, ℕ, Option, Some, None, List, [], ◌∷◌, ◌++◌, refl, ap, sym, ◌∙◌, subst, arith, ◌⊎◌, inl, inr}
+use Rattle.std.proofs.Math.Nat.{le-min}
 use Rattle.login_base.specs.SessionId.{session_of}
 use Rattle.login_base.specs.declared.ids.ConnId.{ConnId}
 use Rattle.login_base.specs.declared.ids.DevNo.{DevNo}
@@ -9,7 +10,7 @@ use Rattle.login_model.specs.Devices.{taken_devices}
 use Rattle.login_model.specs.Direct.{direct, direct_call, disconnect}
 use Rattle.login_model.specs.Fresh.{next_handle}
 use Rattle.login_model.specs.Full.{taken_count}
-use Rattle.login_model.specs.Legal.{IsLegalAfter, after_all, stepped, trail_of}
+use Rattle.login_model.specs.Legal.{IsLegal, IsLegalAfter, after_all, stepped, trail_of}
 use Rattle.login_model.specs.Limits.{taken_limit}
 use Rattle.login_model.specs.Names.{names}
 use Rattle.login_model.specs.Policy.{call_rules, on_session, take_rules, verdict}
@@ -39,7 +40,7 @@ use Rattle.login_laws.specs.Sound.{IsSound}
 use Rattle.login_laws.proofs.Accords.{good-sound}
 use Rattle.login_laws.proofs.Counts.{length-taken-less, taken_length}
 use Rattle.login_laws.proofs.Ending.{good-disconnect}
-use Rattle.login_laws.proofs.EventMarks.{call_takes, enliven-within, step-call, step-direct, taken-itself, taken-others}
+use Rattle.login_laws.proofs.EventMarks.{call_takes, enliven-within, step-call, step-direct, taken-itself, taken-others, taken-within}
 use Rattle.login_laws.proofs.Giving.{Good}
 use Rattle.login_laws.proofs.Granted.{NoneBroken, granted-rules, not-broken}
 use Rattle.login_laws.proofs.Holds.{none_out}
@@ -47,7 +48,7 @@ use Rattle.login_laws.proofs.NamedLimits.{below}
 use Rattle.login_laws.proofs.Paying.{Falls}
 use Rattle.login_laws.proofs.PayingEnds.{pays-disconnect}
 use Rattle.login_laws.proofs.PayingMoves.{settle-within}
-use Rattle.login_laws.proofs.SoundLaws.{after-more, sound-entry, sound-start}
+use Rattle.login_laws.proofs.SoundLaws.{after-more, sound-entry, sound-journal, sound-start}
 use Rattle.login_laws.proofs.WithdrawingLaws.{same-self}
 use Rattle.login_laws.proofs.WithinLaws.{owner-within, taken-there}
 
@@ -142,5 +143,9 @@ few-start : TakeAtMost taken_limit []
 unfolding taken_devices names
 few-start s = omega arith
 
+few-limit : (U : Setup) (es : List Entry) → IsLegal U es → TakeAtMost taken_limit (trail_of es)
+few-limit U es l = few-after U [] es l (sound-start U) few-start
+
+-- no more than all have, nor than the limit
 pub each-takes-few : EachTakesFew
-each-takes-few U es l = few-after U [] es l (sound-start U) few-start
+each-takes-few U es l s = le-min (taken-within (trail_of es) (good-sound (trail_of es) (sound-journal U es l).between) s) (few-limit U es l s)

@@ -30,7 +30,7 @@ use Rattle.login_model.specs.declared.operation.Operation.TheVariants.{Running, 
 use Rattle.login_model.specs.declared.rule.Verdict.TheVariants.{Granted}
 use Rattle.login_model.specs.declared.setup.Setup.{Setup}
 use Rattle.login_model.proofs.Values.{value-put}
-use Rattle.login_laws.specs.Keys.{keys_of_device, switch_keys, switch_keys_of}
+use Rattle.login_laws.specs.Keys.{keys_of_device, keys_of_switch, switch_keys, switch_keys_of}
 use Rattle.login_laws.specs.Sound.{IsSound}
 use Rattle.login_laws.proofs.Accords.{good-sound}
 use Rattle.login_laws.proofs.Calm.{Calm, calm, calm-put, calm-refl}
@@ -40,19 +40,15 @@ use Rattle.login_laws.proofs.FewTaken.{few-later}
 use Rattle.login_laws.proofs.WithinLaws.{taken-there}
 use Rattle.login_laws.proofs.ProcedureMarks.{TakenWithin}
 use Rattle.login_laws.proofs.Ending.{good-disconnect}
-use Rattle.login_laws.specs.Amounts.{Part, keys_in}
-use Rattle.login_laws.specs.Few.{TakeAtMost, most_of_one}
-use Rattle.login_laws.proofs.Keying.{Firsts, firsts-if, firsts-later, firsts-more, firsts-refl, firsts-some, firsts-trans, force-none, none-each, put-firsts, put-over, put-start, release-none, resume-firsts, say-none, shut-none}
+use Rattle.login_laws.specs.Amounts.{OfOthers, Part, counts_in, keys_in}
+use Rattle.login_laws.specs.Few.{TakeAtMost, most_taken}
+use Rattle.login_laws.proofs.Keying.{Firsts, firsts-if, firsts-later, firsts-more, firsts-refl, firsts-some, firsts-trans, force-none, none-each, put-counts, put-over, put-start, release-none, resume-firsts, say-none, shut-none}
 use Rattle.login_laws.proofs.NeedLaws.{start-pending}
 use Rattle.login_laws.proofs.Paying.{counted}
 use Rattle.login_laws.proofs.PayingEnds.{pays-disconnect}
 use Rattle.login_laws.proofs.PayingMoves.{change-within, reach-within, settle-within}
 
 -- ---- how many one session has taken
-
--- in the sound marks of a journal in which no session has taken more than it may
-pub one-takes : (t : Trail) → TakenWithin t → TakeAtMost taken_limit t → TakeAtMost (most_of_one t) t
-one-takes t a l s = le-min (a s) (l s)
 
 pub least-more : (m n : ℕ) → m ≤ n + 1 → min m taken_limit ≤ min n taken_limit + 1
 least-more m n l =
@@ -81,24 +77,27 @@ arrive-firsts which n old t l =
     (firsts-later which k resume (resume-firsts which) o t u 0 n (λ r e. l r) (change-within old o t).falls (change-none which old o t))
 
 -- up to the new terminal: the terminal, and a getty
-reach-firsts : (which : Part) (conf : Conf) (v : ℕ) (old : Option SessId) (t : Trail) → Firsts which 2 t (ask_getty conf v (put key.Pending fact.Absent (put key.Vt (fact.Number v) (if_some force old t))))
+reach-firsts : (which : Part) (conf : Conf) (v : ℕ) (old : Option SessId) (t : Trail) → Firsts which (keys_of_switch which) t (ask_getty conf v (put key.Pending fact.Absent (put key.Vt (fact.Number v) (if_some force old t))))
 reach-firsts which conf v old t =
+    let k = counts_in which OfOthers in
     let u = if_some force old t in
     let a = put key.Vt (fact.Number v) u in
     let b = put key.Pending fact.Absent a in
     let g = put (key.Getty v) yes b in
-    firsts-trans which 1 1 t b (ask_getty conf v b)
-    (firsts-trans which 1 0 t a b (firsts-trans which 0 1 t u a (firsts-some which 0 force old t (λ s. force-none which s t)) (put-firsts which key.Vt (fact.Number v) u)) (put-start which key.Pending fact.Absent a refl))
-    (firsts-if which (not (is_some (session_on b v)) && nat_le v conf.auto_vts) 1 b g b (put-firsts which (key.Getty v) yes b) (firsts-refl which 1 b))
+    let p = firsts-trans which 0 k t u a (firsts-some which 0 force old t (λ s. force-none which s t)) (put-counts which key.Vt (fact.Number v) u) in
+    let q = firsts-trans which (0 + k) 0 t a b p (put-start which key.Pending fact.Absent a refl) in
+    firsts-more which (0 + k + 0 + k) (2 * k) t (ask_getty conf v b) (omega arith) (firsts-trans which (0 + k + 0) k t b (ask_getty conf v b) q
+    (firsts-if which (not (is_some (session_on b v)) && nat_le v conf.auto_vts) k b g b (put-counts which (key.Getty v) yes b) (firsts-refl which k b)))
 
-move-firsts : (which : Part) (n : ℕ) (conf : Conf) (v : ℕ) (t : Trail) → TakeAtMost n t → Firsts which (keys_of_device which * n + 2) t (move_to conf v (active_on t seat0) t)
+move-firsts : (which : Part) (n : ℕ) (conf : Conf) (v : ℕ) (t : Trail) → TakeAtMost n t → Firsts which (keys_of_device which * n + keys_of_switch which) t (move_to conf v (active_on t seat0) t)
 move-firsts which n conf v t l =
     let k = keys_of_device which in
+    let j = keys_of_switch which in
     let old = active_on t seat0 in
     let c = ask_getty conf v (put key.Pending fact.Absent (put key.Vt (fact.Number v) (if_some force old t))) in
     let w = reach-within conf v n t (λ s e. l s) in
     let m = few-later n t c l w.falls in
-    firsts-more which (2 + k * n) (k * n + 2) t (arrive old c) (omega arith) (firsts-trans which 2 (k * n) t c (arrive old c) (reach-firsts which conf v old t) (arrive-firsts which n old c m))
+    firsts-more which (j + k * n) (k * n + j) t (arrive old c) (omega arith) (firsts-trans which j (k * n) t c (arrive old c) (reach-firsts which conf v old t) (arrive-firsts which n old c m))
 
 -- no switch is pending behind it
 move-pending : (conf : Conf) (v : ℕ) (old : Option SessId) (t : Trail) → value (move_to conf v old t) key.Pending ≡ fact.Absent
@@ -111,11 +110,11 @@ move-pending conf v old t =
     let q : Calm c (arrive old c) = arrive-carried calm old c in
     q.pending ∙ p.pending ∙ value-put key.Pending key.Pending fact.Absent a
 
-keys-on : (which : Part) (n : ℕ) (t : Trail) → is_number_fact (value t key.Pending) ≡ true → switch_keys_of which n t ≡ keys_of_device which * n + 2
-keys-on which n t e = ap (λ (b : Bool). cond b (keys_of_device which * n + 2) 0) e
+keys-on : (which : Part) (n : ℕ) (t : Trail) → is_number_fact (value t key.Pending) ≡ true → switch_keys_of which n t ≡ keys_of_device which * n + keys_of_switch which
+keys-on which n t e = ap (λ (b : Bool). cond b (keys_of_device which * n + keys_of_switch which) 0) e
 
 keys-off : (which : Part) (n : ℕ) (t : Trail) → is_number_fact (value t key.Pending) ≡ false → switch_keys_of which n t ≡ 0
-keys-off which n t e = ap (λ (b : Bool). cond b (keys_of_device which * n + 2) 0) e
+keys-off which n t e = ap (λ (b : Bool). cond b (keys_of_device which * n + keys_of_switch which) 0) e
 
 -- the keys so far, and those of the switch that is pending, are no more than before, where no session has taken more
 -- devices than so many
@@ -146,7 +145,7 @@ switch-spares which n conf t l = complete-spares which n (value t key.Pending) c
 -- ---- what leaves a pending switch
 
 left-spares : (which : Part) (n : ℕ) (t u : Trail) → value u key.Pending ≡ value t key.Pending → Firsts which 0 t u → Spares which n t u
-left-spares which n t u e p = (let a = ap (λ (x : Fact). cond (is_number_fact x) (keys_of_device which * n + 2) 0) e in omega arith)
+left-spares which n t u e p = (let a = ap (λ (x : Fact). cond (is_number_fact x) (keys_of_device which * n + keys_of_switch which) 0) e in omega arith)
 
 -- the operation that waits was set
 start-none : (which : Part) (x : Fact) (U : Setup) (t : Trail) → value t key.Op ≡ x → Firsts which 0 t (start U.conf x t)
@@ -167,12 +166,12 @@ settle-spares which n U t l =
     spares-trans which n t u (settle_operation U.conf u) (switch-spares which n U.conf t l) (operation-spares which n U u)
 
 -- a pending switch sets no more where one session may have taken fewer
-pub switch-less : (which : Part) (t : Trail) (n : ℕ) → most_of_one t ≤ n → switch_keys which t ≤ switch_keys_of which n t
-switch-less which t n l = by (is_number_fact (value t key.Pending)) (mul-le-mul_left (keys_of_device which) l)
+pub switch-less : (which : Part) (t : Trail) (n : ℕ) → most_taken t ≤ n → switch_keys which t ≤ switch_keys_of which n t
+switch-less which t n l = by (is_number_fact (value t key.Pending)) (keys_of_switch which) (mul-le-mul_left (keys_of_device which) l)
   where
-    by : (b : Bool) {i j : ℕ} → i ≤ j → cond b (i + 2) 0 ≤ cond b (j + 2) 0
-    by true l = omega arith
-    by false l = omega arith
+    by : (b : Bool) (k : ℕ) {i j : ℕ} → i ≤ j → cond b (i + k) 0 ≤ cond b (j + k) 0
+    by true k l = omega arith
+    by false k l = omega arith
 
 -- ---- a disconnect
 
@@ -187,16 +186,15 @@ disconnect-none which c t =
     firsts-trans which 0 0 t d (put (key.Conn c) fact.Absent d) (firsts-trans which 0 0 t b d p q) (put-start which (key.Conn c) fact.Absent d refl)
 
 -- a disconnect sets none but those of the switch that was pending
-pub ends : (which : Part) (U : Setup) (t : Trail) (c : ConnId) → IsSound U t → TakeAtMost taken_limit t → is_connected t c ≡ true
+pub ends : (which : Part) (U : Setup) (t : Trail) (c : ConnId) → IsSound U t → TakeAtMost (most_taken t) t → is_connected t c ≡ true
     → keys_in which (stepped U Granted (Disconnect c) t) + switch_keys which (stepped U Granted (Disconnect c) t) ≤ keys_in which t + switch_keys which t
 unfolding direct
 ends which U t c s few e =
     let g = good-sound t s.between in
-    let n = most_of_one t in
-    let l = one-takes t (taken-within t g) few in
+    let n = most_taken t in
     let u = disconnect c t in
     let v = settle U u in
     let p = pays-disconnect c t g (good-disconnect c t g) in
-    let w = spares-trans which n t u v (left-spares which n t u p.pending (disconnect-none which c t)) (settle-spares which n U u (few-later n t u l p.falls)) in
+    let w = spares-trans which n t u v (left-spares which n t u p.pending (disconnect-none which c t)) (settle-spares which n U u (few-later n t u few p.falls)) in
     let k = switch-less which v n (least-less (taken_count v) (taken_count t) (let a = (counted t u p.falls).taken in let b = (counted u v (settle-within U (taken_count u) u (taken-there u)).falls).taken in omega arith)) in
     omega arith

@@ -10,7 +10,6 @@ use Rattle.login_model.specs.Direct.{activate, close, control, direct, direct_ca
 use Rattle.login_model.specs.Facts.{is_number_fact}
 use Rattle.login_model.specs.Fresh.{next_handle, next_lock, next_session}
 use Rattle.login_model.specs.Full.{taken_count}
-use Rattle.login_model.specs.Limits.{taken_limit}
 use Rattle.login_model.specs.Legal.{stepped}
 use Rattle.login_model.specs.Locks.{asked_lock}
 use Rattle.login_model.specs.Policy.{meant_user, uid_of, verdict}
@@ -42,15 +41,15 @@ use Rattle.login_model.specs.declared.rule.Verdict.TheVariants.{Granted, Denied}
 use Rattle.login_model.specs.declared.session.KillWhom.TheVariants as whom
 use Rattle.login_model.specs.declared.setup.Setup.{Setup}
 use Rattle.login_laws.specs.Asking.{asked_vt, call_vt}
-use Rattle.login_laws.specs.Keys.{KeysAreKept, asks_to_turn, call_kills, call_turns, hardware_turns, keys_beside, keys_of_device, keys_of_signal, kills_all, most_keys, switch_keys, switch_keys_of}
+use Rattle.login_laws.specs.Keys.{KeysAreKept, asks_to_turn, call_kills, call_turns, hardware_turns, keys_beside, keys_of_device, keys_of_signal, keys_of_switch, kills_all, most_keys, switch_keys, switch_keys_of}
 use Rattle.login_laws.specs.Amounts.{Part, keys_in}
-use Rattle.login_laws.specs.Few.{TakeAtMost, most_of_one}
+use Rattle.login_laws.specs.Few.{TakeAtMost, most_taken}
 use Rattle.login_laws.specs.Need.{IsDisconnect}
 use Rattle.login_laws.specs.Sound.{IsSound}
 use Rattle.login_laws.proofs.Accords.{good-sound}
 use Rattle.login_laws.proofs.Calm.{CalmOr, direct-calm}
 use Rattle.login_laws.proofs.EventMarks.{one-more, step-direct, taken-within}
-use Rattle.login_laws.proofs.KeyEnds.{ends, least-more, one-takes, settle-spares, switch-less}
+use Rattle.login_laws.proofs.KeyEnds.{ends, least-more, settle-spares, switch-less}
 use Rattle.login_laws.proofs.KeyMoves.{acknowledge-none, activate-firsts, add-firsts, close-firsts, control-firsts, create-firsts, done-none, exit-firsts, linger-firsts, mode-firsts, next-firsts, operation-firsts, previous-firsts, remove-firsts, request-firsts, take-firsts, tick-firsts}
 use Rattle.login_laws.proofs.Keying.{Firsts, firsts-each, firsts-more, firsts-refl, firsts-some, firsts-trans, none-each, put-counts, put-firsts, release-none, say-none, shut-none, untake-none}
 use Rattle.login_laws.proofs.WithinLaws.{taken-there}
@@ -180,50 +179,50 @@ pending-or t u e (inl p) = inl (ap is_number_fact p.pending)
 pending-or t u e (inr r) = inr (turned t e r.0 r.1)
 
 -- the keys of the switch that is left, where it was pending or the event asked to turn
-left-at : (b p a : Bool) (i j : ℕ) → i ≤ j → (b ≡ p) ⊎ (a ≡ true) → cond b (i + 2) 0 ≤ cond (p || a) (j + 2) 0
-left-at false p a i j l h = omega arith
-left-at true true a i j l h = omega arith
-left-at true false true i j l h = omega arith
-left-at true false false i j l (inl e) = cc
-left-at true false false i j l (inr e) = cc
+left-at : (b p a : Bool) (i j k : ℕ) → i ≤ j → (b ≡ p) ⊎ (a ≡ true) → cond b (i + k) 0 ≤ cond (p || a) (j + k) 0
+left-at false p a i j k l h = omega arith
+left-at true true a i j k l h = omega arith
+left-at true false true i j k l h = omega arith
+left-at true false false i j k l (inl e) = cc
+left-at true false false i j k l (inr e) = cc
 
 -- the keys and the switch after what an event does by itself, by whether one was pending and whether it asks to turn
 sum-at : (k a b old now left : ℕ) → now ≤ old + (4 + k + a) → left ≤ b → now + left ≤ old + (4 + k + a + b)
 sum-at k a b old now left x y = omega arith
 
-granted : (which : Part) (U : Setup) (e : Event) (t : Trail) → IsSound U t → TakeAtMost taken_limit t → (IsDisconnect e → ⊥)
+granted : (which : Part) (U : Setup) (e : Event) (t : Trail) → IsSound U t → TakeAtMost (most_taken t) t → (IsDisconnect e → ⊥)
     → keys_in which (settle U (direct U e t)) + switch_keys which (settle U (direct U e t)) ≤ keys_in which t + most_keys which t e
 granted which U e t s few d =
     let g = good-sound t s.between in
-    let n = most_of_one t in
+    let n = most_taken t in
     let k = keys_of_device which in
-    let l = one-takes t (taken-within t g) few in
+    let l = few in
     let u = direct U e t in
     let v = settle U u in
     let p = is_number_fact (value t key.Pending) in
     let x = step-direct U e t d g.unused l in
     let a = x.taken in
     let one = one-more e in
-    let b = left-at (is_number_fact (value u key.Pending)) p (asks_to_turn e) (k * (n + 1)) (k * (n + 1)) (omega arith) (pending-or t u e (direct-calm U e t)) in
-    let m = sum-at (cond (kills_all e) (keys_of_signal which * length (sessions t)) 0) (cond (asks_to_turn e) (k * n) 0) (cond (p || asks_to_turn e) (k * (n + 1) + 2) 0)
+    let b = left-at (is_number_fact (value u key.Pending)) p (asks_to_turn e) (k * (n + 1)) (k * (n + 1)) (keys_of_switch which) (omega arith) (pending-or t u e (direct-calm U e t)) in
+    let m = sum-at (cond (kills_all e) (keys_of_signal which * length (sessions t)) 0) (cond (asks_to_turn e) (k * n) 0) (cond (p || asks_to_turn e) (k * (n + 1) + keys_of_switch which) 0)
     (keys_in which t) (keys_in which u) (switch_keys_of which (n + 1) u) (direct-firsts which n U e t d l) b in
     let w = settle-spares which (n + 1) U u (λ s. (let i = x.of_each s in let j = l s in omega arith)) in
     let c = counted u v (settle-within U (taken_count u) u (taken-there u)).falls in
     let less = switch-less which v (n + 1) (least-more (taken_count v) (taken_count t) (at-most (taken_count v) (taken_count u) (taken_count t + 1) c.taken a)) in
     omega arith
 
-other-by : (which : Part) (v : Verdict) (U : Setup) (e : Event) (t : Trail) → IsSound U t → TakeAtMost taken_limit t → (IsDisconnect e → ⊥)
+other-by : (which : Part) (v : Verdict) (U : Setup) (e : Event) (t : Trail) → IsSound U t → TakeAtMost (most_taken t) t → (IsDisconnect e → ⊥)
     → keys_in which (stepped U v e t) + switch_keys which (stepped U v e t) ≤ keys_in which t + most_keys which t e
 other-by which Granted U e t s few d = granted which U e t s few d
 other-by which (Denied r) U e t s few d =
-    let n = most_of_one t in
+    let n = most_taken t in
     let k = keys_of_device which in
     none-at (is_number_fact (value t key.Pending)) (asks_to_turn e) (cond (kills_all e) (keys_of_signal which * length (sessions t)) 0) (cond (asks_to_turn e) (k * n) 0)
-    (k * n) (k * (n + 1)) (keys_in which t) (mul-le-mul_left k (omega arith))
+    (k * n) (k * (n + 1)) (keys_of_switch which) (keys_in which t) (mul-le-mul_left k (omega arith))
   where
-    none-at : (p a : Bool) (k i m n old : ℕ) → m ≤ n → old + cond p (m + 2) 0 ≤ old + (4 + k + i + cond (p || a) (n + 2) 0)
-    none-at true a k i m n old l = omega arith
-    none-at false a k i m n old l = omega arith
+    none-at : (p a : Bool) (k i m n j old : ℕ) → m ≤ n → old + cond p (m + j) 0 ≤ old + (4 + k + i + cond (p || a) (n + j) 0)
+    none-at true a k i m n j old l = omega arith
+    none-at false a k i m n j old l = omega arith
 
 pub keys-are-kept : (U : Setup) (which : Part) → KeysAreKept U which
 keys-are-kept U which = record { other = λ t e s few d. other-by which (verdict U t e) U e t s few d; ends = λ t c. ends which U t c }

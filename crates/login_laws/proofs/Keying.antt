@@ -29,7 +29,7 @@ use Rattle.login_model.specs.declared.mark.Whom.TheVariants.{All, One}
 use Rattle.login_model.specs.declared.session.Phase.{Phase}
 use Rattle.login_model.specs.declared.session.Phase.TheVariants.{Closing}
 use Rattle.login_model.proofs.Values.{true-false, value-put}
-use Rattle.login_laws.specs.Amounts.{OfOthers, OfTaken, Part, cost, keys_in, part}
+use Rattle.login_laws.specs.Amounts.{OfOthers, OfTaken, Part, counts_in, keys_in, part}
 use Rattle.login_laws.specs.Keys.{keys_of_device}
 use Rattle.login_laws.proofs.Counts.{length-taken-less, taken_length}
 use Rattle.login_laws.proofs.Paying.{Falls}
@@ -77,31 +77,31 @@ set-at : (b : Bool) (n k : ℕ) → n + cond b 0 k ≤ n + k
 set-at true n k = omega arith
 set-at false n k = omega arith
 
-put-at : (which : Part) (b : Bool) (k : Key) (x : Fact) (t : Trail) → Firsts which (cost which (part k)) t (cond b t (Set k x ∷ t))
+put-at : (which : Part) (b : Bool) (k : Key) (x : Fact) (t : Trail) → Firsts which (counts_in which (part k)) t (cond b t (Set k x ∷ t))
 unfolding keys_in
 put-at which true k x t = omega arith
-put-at which false k x t = set-at (was_set t k) (keys_in which t) (cost which (part k))
+put-at which false k x t = set-at (was_set t k) (keys_in which t) (counts_in which (part k))
 
 -- a setting sets one key at most, which counts in its own part
-pub put-counts : (which : Part) (k : Key) (x : Fact) (t : Trail) → Firsts which (cost which (part k)) t (put k x t)
+pub put-counts : (which : Part) (k : Key) (x : Fact) (t : Trail) → Firsts which (counts_in which (part k)) t (put k x t)
 unfolding put
 put-counts which k x t = put-at which (same_fact (value t k) x) k x t
 
-cost-one : (a b : Part) → cost a b ≤ 1
-cost-one OfTaken OfTaken = omega arith
-cost-one OfOthers OfOthers = omega arith
-cost-one OfTaken OfOthers = omega arith
-cost-one OfOthers OfTaken = omega arith
+counts_in-one : (a b : Part) → counts_in a b ≤ 1
+counts_in-one OfTaken OfTaken = omega arith
+counts_in-one OfOthers OfOthers = omega arith
+counts_in-one OfTaken OfOthers = omega arith
+counts_in-one OfOthers OfTaken = omega arith
 
 pub put-firsts : (which : Part) (k : Key) (x : Fact) (t : Trail) → Firsts which 1 t (put k x t)
-put-firsts which k x t = firsts-more which (cost which (part k)) 1 t (put k x t) (cost-one which (part k)) (put-counts which k x t)
+put-firsts which k x t = firsts-more which (counts_in which (part k)) 1 t (put k x t) (counts_in-one which (part k)) (put-counts which k x t)
 
 kept-at : (which : Part) (w b : Bool) (k : Key) (x : Fact) (t : Trail) → was_set t k ≡ w → same_fact (value t k) x ≡ b → (was_set t k ≡ false → x ≡ start_fact k)
     → Firsts which 0 t (cond b t (Set k x ∷ t))
 unfolding keys_in
 kept-at which w true k x t e s h = omega arith
 kept-at which true false k x t e s h =
-    (let n = keys_in which t in let m = cost which (part k) in let P : Bool → Type 0 = λ b. n + cond b 0 m ≤ n + 0 in subst P (sym e) (omega arith))
+    (let n = keys_in which t in let m = counts_in which (part k) in let P : Bool → Type 0 = λ b. n + cond b 0 m ≤ n + 0 in subst P (sym e) (omega arith))
 kept-at which false false k x t e s h =
     (let p = ap (λ (y : Fact). same_fact y x) (unset-value k t e) ∙ ap (λ (y : Fact). same_fact (start_fact k) y) (h e) ∙ start-same k in
     absurd (true-false (same_fact (value t k) x) p s))
@@ -227,7 +227,7 @@ still-taken s d h g o t e z =
 renew-firsts : (which : Part) (x : Fact) (s : SessId) (d : DevNo) (h g : HandleNo) (t : Trail) → value t (key.Taken s d) ≡ fact.Handle h → Firsts which (keys_of_device which) t (renew s d g x t)
 renew-firsts which (fact.Controller c) s d h g t e =
     (let o = fact.Owned (owner.Device c s d) in
-    let k = cost which OfTaken in
+    let k = counts_in which OfTaken in
     let a = put (key.Owner g) o t in
     let b = put (key.Live g) yes a in
     let v = put (key.Taken s d) (fact.Handle g) b in
@@ -239,7 +239,7 @@ renew-firsts which _ s d h g t e = firsts-more which 0 (keys_of_device which) t 
 
 revive-firsts : (which : Part) (x : Fact) (s : SessId) (d : DevNo) (h : HandleNo) (t : Trail) → value t (key.Taken s d) ≡ fact.Handle h → Firsts which (keys_of_device which) t (revive s d h x t)
 revive-firsts which (fact.Device Drm seat) s d h t e =
-    (let k = cost which OfTaken in
+    (let k = counts_in which OfTaken in
     let u = put (key.Live h) yes t in
     let y = value t (key.Ctl s) in
     let n = Resume s d h in
@@ -265,7 +265,7 @@ resume-firsts which s t =
 
 await-fact : (which : Part) (x : Fact) (s : SessId) (d : DevNo) (t : Trail) → Firsts which (keys_of_device which) t (await_handle s d x t)
 await-fact which (fact.Handle h) s d t =
-    (let k = cost which OfTaken in
+    (let k = counts_in which OfTaken in
     let u = put (key.Awaited s d) yes t in
     let y = value t (key.Ctl s) in
     let n = Pause s d pause.Pause in

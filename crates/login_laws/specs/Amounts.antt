@@ -5,7 +5,7 @@ use Rattle.login_model.specs.declared.fact.Key.TheVariants as key
 use Rattle.login_model.specs.declared.mark.Mark.TheVariants.{Set, Say}
 use Rattle.login_model.specs.Trail.{Trail, was_set}
 
--- what keys are about: what sessions have taken, with which handles; or anything else
+-- what keys are about: handles and what sessions have taken; or anything else
 pub data Part : Type 0 where
   OfTaken : Part
   OfOthers : Part
@@ -18,14 +18,14 @@ part (key.Awaited s d) = OfTaken
 part _ = OfOthers
 
 -- what a key of the second part counts among those of the first
-abbrev pub cost : Part → Part → ℕ
-cost OfTaken OfTaken = 1
-cost OfOthers OfOthers = 1
-cost _ _ = 0
+abbrev pub counts_in : Part → Part → ℕ
+counts_in OfTaken OfTaken = 1
+counts_in OfOthers OfOthers = 1
+counts_in _ _ = 0
 
--- how many keys of a part are set with that one
+-- how many keys of a part a setting of this key adds
 abbrev pub new_in : Part → Trail → Key → ℕ
-new_in p t k = if was_set t k then 0 else cost p (part k)
+new_in p t k = if was_set t k then 0 else counts_in p (part k)
 
 -- how many keys of a part there are settings of
 unfoldable pub keys_in : Part → Trail → ℕ

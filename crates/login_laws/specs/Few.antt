@@ -26,10 +26,10 @@ LivesAreFew = (U : Setup) (t : Trail) (handles : List HandleNo) → IsSoundBetwe
 abbrev pub TakeAtMost : ℕ → Trail → Type 0
 TakeAtMost n t = (s : SessId) → length (taken_devices t s) ≤ n
 
--- the most devices that one session may have taken, where all together have taken so many
-abbrev pub most_of_one : Trail → ℕ
-most_of_one t = min (taken_count t) taken_limit
+-- the most devices that one session may have taken: no more than all have, nor than the limit
+abbrev pub most_taken : Trail → ℕ
+most_taken t = min (taken_count t) taken_limit
 
 -- the law: in every legal journal no session has taken more than it may
 abbrev pub EachTakesFew : Type 0
-EachTakesFew = (U : Setup) (es : List Entry) → IsLegal U es → TakeAtMost taken_limit (trail_of es)
+EachTakesFew = (U : Setup) (es : List Entry) → IsLegal U es → TakeAtMost (most_taken (trail_of es)) (trail_of es)

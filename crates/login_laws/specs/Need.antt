@@ -78,7 +78,7 @@ marks_over_devices n = 6 * n
 abbrev pub marks_over_holders : Trail → ℕ
 marks_over_holders t = 3 * taken_count t + 8 * length (sessions t)
 
--- of coming to a seat, where another session than seat0's may have been active
+-- of coming to a seat: on any but seat0 the session that was active loses its devices
 abbrev pub seat_marks : ℕ → Option (List ℕ) → ℕ
 seat_marks n None = 0
 seat_marks n (Some seat) = if bytes_eq seat seat0 then 0 else marks_over_devices n
@@ -138,20 +138,19 @@ abbrev pub IsDisconnect : Event → Type 0
 IsDisconnect (Disconnect c) = Unit {0}
 IsDisconnect _ = ⊥
 
--- an event makes at most so many marks, raises the need by at most so much, and takes one device at most, where each
--- session has taken so many devices at most
-pub record IsWithin (n : ℕ) (e : Event) (before after : Trail) : Type 0 where
-  pub marks : length after ≤ length before + most_marks n before e
+-- an event makes at most so many marks, whatever it is, raises the need by at most so much, and takes one device at most
+pub record IsWithin (before after : Trail) : Type 0 where
+  pub marks : length after ≤ length before + most_of_any before
   pub need_rises : need after ≤ need before + most_rise before
   pub takes : taken_count after ≤ taken_count before + 1
 
 -- The facts that keep room for every end, and the sum that `full` looks at.
 pub record RoomIsKept (U : Setup) : Type 0 where
   -- another event stays within both sums
-  pub other : (n : ℕ) (t : Trail) (e : Event) → IsSound U t → TakeAtMost n t → (IsDisconnect e → ⊥)
-      → IsWithin n e t (stepped U (verdict U t e) e t)
-  -- and, whatever it is and has been taken, no more marks than any may make
-  pub any : (t : Trail) (e : Event) → IsSound U t → (IsDisconnect e → ⊥) → length (stepped U (verdict U t e) e t) ≤ length t + most_of_any t
+  pub other : (t : Trail) (e : Event) → IsSound U t → (IsDisconnect e → ⊥) → IsWithin t (stepped U (verdict U t e) e t)
+  -- and makes no more marks than what it goes over wants, where no session has taken more devices than so many
+  pub few : (n : ℕ) (t : Trail) (e : Event) → IsSound U t → TakeAtMost n t → (IsDisconnect e → ⊥)
+      → length (stepped U (verdict U t e) e t) ≤ length t + most_marks n t e
   -- a disconnect makes at most as many marks as the need falls by
   pub ends : (t : Trail) (c : ConnId) → IsSound U t → is_connected t c ≡ true
       → length (stepped U Granted (Disconnect c) t) + need (stepped U Granted (Disconnect c) t) ≤ length t + need t

@@ -53,7 +53,7 @@ pub fn lives_are_few()
     ensures { LivesAreFew }
 {}
 
-/// In every legal journal no session has taken more devices than one may.
+/// In every legal journal no session has taken more devices than all have together, nor more than one may.
 pub fn each_takes_few()
     ensures { EachTakesFew }
 {}
@@ -64,9 +64,9 @@ pub fn handles_are_left()
     ensures { HandlesAreLeft }
 {}
 
-/// The limits of a journal leave room for every end: an event that is no disconnect stays within
-/// the marks and the need that `room` asks for and takes one device at most, a disconnect pays for its
-/// marks and takes none, and the stop makes none.
+/// The limits of a journal leave room for every end: an event that is no disconnect makes no more marks
+/// than any may and no more than its kind may (`most_marks`), raises the need by as much as the limits leave
+/// for it and takes one device at most; a disconnect pays for its marks and takes none, and the stop makes none.
 pub fn room_is_kept()
     ensures { (U : Setup) → RoomIsKept U }
 {}
