@@ -14,7 +14,7 @@ use Rattle.login_model.specs.declared.mark.Entry.{Entry}
 use Rattle.device_model.specs.declared.ears.Ear.{Ear}
 use Rattle.login_core.specs.declared.board.Reach.{Reach}
 use Rattle.login_core.specs.declared.board.seating.Seating.{Seating}
-use Rattle.login_laws.specs.Amounts.{Keys, Marks, OfOthers, OfTaken, Part, cost, keys_in, new_in, part}
+use Rattle.login_laws.specs.Amounts.{Keys, Marks, OfOthers, OfTaken, Part, counts_in, keys_in, new_in, part}
 use Rattle.login_core.specs.State.{keys_of}
 use Rattle.login_core.specs.declared.board.keys.KeyRoom.{KeyRoom}
 use Rattle.login_core.specs.inner.Facts.{Tables, StandFor, table}
@@ -69,17 +69,17 @@ pub keys-say : (p : Part) (w : Whom) (n : Notice) (t : Trail) → keys_in p (Say
 unfolding keys_in
 keys-say p w n t = refl
 
-own-cost : (p : Part) → cost p p ≡ 1
-own-cost OfTaken = refl
-own-cost OfOthers = refl
+own-counts_in : (p : Part) → counts_in p p ≡ 1
+own-counts_in OfTaken = refl
+own-counts_in OfOthers = refl
 
 -- in its own part it counts
 new-own : (t : Trail) (k : Key) → was_set t k ≡ false → new_in (part k) t k ≡ 1
-new-own t k e = ap (λ (b : Bool). cond b 0 (cost (part k) (part k))) e ∙ own-cost (part k)
+new-own t k e = ap (λ (b : Bool). cond b 0 (counts_in (part k) (part k))) e ∙ own-counts_in (part k)
 
 -- a table has the keys that were set, so what is new to it is new
 pub new-here : (p : Part) (f : Tables) (t : Trail) (k : Key) → StandFor f t → new_in p (table f (home k)) k ≡ new_in p t k
-new-here p f t k s = ap (λ (b : Bool). cond b 0 (cost p (part k))) ((opened f t s).keys k)
+new-here p f t k s = ap (λ (b : Bool). cond b 0 (counts_in p (part k))) ((opened f t s).keys k)
 
 -- a new key that is set has room in its table, where there is room for so many
 pub new-room : (f : Tables) (k : Key) (x : Fact) (t : Trail) (n : ℕ) → StandFor f t → keys_in (part k) (Set k x ∷ t) ≤ n → n ≡ keys_in (part k) t + keys_of (part k) f.fresh → was_set (table f (home k)) k ≡ false → 0 < keys_of (part k) f.fresh

@@ -3,7 +3,7 @@ use Rattle.std.proofs.Common.{◌≡◌, ◌<◌, ◌+◌, ◌-◌, ℕ, Bool, t
 use Rattle.login_model.specs.declared.fact.Key.{Key}
 use Rattle.login_model.specs.declared.fact.Key.TheVariants as key
 use Rattle.login_model.specs.Trail.{was_set}
-use Rattle.login_laws.specs.Amounts.{OfOthers, OfTaken, Part, cost, new_in, part}
+use Rattle.login_laws.specs.Amounts.{OfOthers, OfTaken, Part, counts_in, new_in, part}
 use Rattle.login_table.specs.Home.{home}
 use Rattle.login_table.specs.declared.home.Home.{Home}
 use Rattle.login_table.specs.declared.home.Home.TheVariants.{Takes}
@@ -49,24 +49,24 @@ other-count true c e = refl
 other-count false c e = e
 
 -- how many keys of each part it is
-goes-own : (f : Tables) (k : Key) (h : Home) (is_new : Bool) → GoesIn f k h is_new → (p : Part) → cost p (part_at h) ≡ 1 → new_in p (table f (home k)) k ≡ cond is_new 1 0
+goes-own : (f : Tables) (k : Key) (h : Home) (is_new : Bool) → GoesIn f k h is_new → (p : Part) → counts_in p (part_at h) ≡ 1 → new_in p (table f (home k)) k ≡ cond is_new 1 0
 goes-own f k h is_new g p one =
-    let e = ap (cost p) (part-home k ∙ ap part_at g.at_home) ∙ one in
-    ap (λ (i : Home). new_in p (table f i) k) g.at_home ∙ own-count (was_set (table f h) k) (cost p (part k)) e ∙ ap (λ (b : Bool). cond b 1 0) (sym g.new)
+    let e = ap (counts_in p) (part-home k ∙ ap part_at g.at_home) ∙ one in
+    ap (λ (i : Home). new_in p (table f i) k) g.at_home ∙ own-count (was_set (table f h) k) (counts_in p (part k)) e ∙ ap (λ (b : Bool). cond b 1 0) (sym g.new)
 
-goes-other : (f : Tables) (k : Key) (h : Home) (is_new : Bool) → GoesIn f k h is_new → (p : Part) → cost p (part_at h) ≡ 0 → new_in p (table f (home k)) k ≡ 0
+goes-other : (f : Tables) (k : Key) (h : Home) (is_new : Bool) → GoesIn f k h is_new → (p : Part) → counts_in p (part_at h) ≡ 0 → new_in p (table f (home k)) k ≡ 0
 goes-other f k h is_new g p none =
-    let e = ap (cost p) (part-home k ∙ ap part_at g.at_home) ∙ none in
-    ap (λ (i : Home). new_in p (table f i) k) g.at_home ∙ other-count (was_set (table f h) k) (cost p (part k)) e
+    let e = ap (counts_in p) (part-home k ∙ ap part_at g.at_home) ∙ none in
+    ap (λ (i : Home). new_in p (table f i) k) g.at_home ∙ other-count (was_set (table f h) k) (counts_in p (part k)) e
 
 pub others-left : (f : Tables) (r : KeyRoom) (k : Key) (h : Home) (is_new : Bool) (n : ℕ) → part_at h ≡ OfOthers → r ≡ f.fresh → GoesIn f k h is_new → r.others ≡ n + cond is_new 1 0
     → (p : Part) → keys_of p f.fresh ≡ keys_of p (record { taken = r.taken; others = n }) + new_in p (table f (home k)) k
 others-left f r k h is_new n o e g left OfTaken =
-    (let a = goes-other f k h is_new g OfTaken (ap (cost OfTaken) o) in
+    (let a = goes-other f k h is_new g OfTaken (ap (counts_in OfTaken) o) in
     let b = ap (λ (x : KeyRoom). x.taken) e in
     omega arith)
 others-left f r k h is_new n o e g left OfOthers =
-    (let a = goes-own f k h is_new g OfOthers (ap (cost OfOthers) o) in
+    (let a = goes-own f k h is_new g OfOthers (ap (counts_in OfOthers) o) in
     let b = ap (λ (x : KeyRoom). x.others) e in
     omega arith)
 

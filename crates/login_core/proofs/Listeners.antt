@@ -56,7 +56,7 @@ stepped-between U before e (Denied r) q p s = s.between
 pub other-takes : (U : Setup) (t : Trail) (e : Event) (v : Verdict) (rings : ℕ) → IsSound U t → (IsDisconnect e → ⊥) → v ≡ verdict U t e → taken_count t + 1 ≤ rings → taken_count (stepped U v e t) ≤ rings
 other-takes U t e v rings s n h r =
     let P : Verdict → Type 0 = λ w. taken_count (stepped U w e t) ≤ rings in
-    let takes = ((room-is-kept U).other (taken_count t) t e s (taken-within t (good-sound t s.between)) n).takes in
+    let takes = ((room-is-kept U).other t e s n).takes in
     let few : taken_count (stepped U (verdict U t e) e t) ≤ rings = omega arith in
     subst P (sym h) few
 

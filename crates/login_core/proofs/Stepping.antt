@@ -1,6 +1,5 @@
 -- What a step keeps.
 use Rattle.std.proofs.Common.{◌≡◌, ◌≤◌, ◌<◌, ◌+◌, ◌-◌, ℕ, Bool, false, cond, Option, Some, None, List, [], ◌∷◌, ◌++◌, length, refl, ap, sym, subst, ◌∙◌, arith}
-use Rattle.std.proofs.Math.Nat.{le-min}
 use Rattle.login_base.specs.declared.ids.ConnId.{ConnId}
 use Rattle.login_base.specs.declared.ids.HandleNo.{HandleNo}
 use Rattle.device_model.specs.Ears.{heard_of}
@@ -8,7 +7,7 @@ use Rattle.login_model.specs.Full.{mark_count, taken_count}
 use Rattle.login_model.specs.Legal.{IsLegal, IsPlaced, answered, stepped, trail_of}
 use Rattle.login_laws.specs.Amounts.{Keys, Marks, Part, keys_in}
 use Rattle.login_laws.specs.Keys.{most_keys, switch_keys}
-use Rattle.login_laws.specs.Few.{TakeAtMost, most_of_one}
+use Rattle.login_laws.specs.Few.{most_taken}
 use Rattle.login_laws.specs.Need.{IsDisconnect, most_marks, need}
 use Rattle.login_model.specs.Policy.{verdict}
 use Rattle.login_laws.specs.Sound.{IsSound}
@@ -26,13 +25,11 @@ use Rattle.login_model.specs.declared.mark.Mark.{Mark}
 use Rattle.login_model.specs.declared.rule.Verdict.{Verdict}
 use Rattle.login_model.specs.declared.setup.Setup.{Setup}
 use Rattle.login_laws.proofs.Comings.{disconnect-connections}
-use Rattle.login_laws.proofs.Accords.{good-sound}
-use Rattle.login_laws.proofs.EventMarks.{other, taken-within}
+use Rattle.login_laws.proofs.EventMarks.{other}
 use Rattle.login_laws.proofs.FewTaken.{each-takes-few}
 use Rattle.login_laws.proofs.KeyEvents.{keys-are-kept}
 use Rattle.login_laws.proofs.RoomLaws.{room, stop-stays}
 use Rattle.login_laws.proofs.SharesLaws.{ends-have-shares}
-use Rattle.login_laws.proofs.SoundLaws.{sound-journal}
 use Rattle.login_core.specs.Fullness.{always_fits}
 use Rattle.login_core.specs.inner.Board.{IsBegun}
 use Rattle.login_core.specs.inner.Ears.{AreEars, heard_evdev, settled}
@@ -162,19 +159,13 @@ ready-texts c Stop r = tt
 
 -- ---- the marks stay within the reach
 
--- no session has taken more than all have, nor more than may be
-take-few : (U : Setup) (es : List Entry) → IsLegal U es → TakeAtMost (most_of_one (trail_of es)) (trail_of es)
-take-few U es l s =
-    let t = trail_of es in
-    le-min (taken-within t (good-sound t (sound-journal U es l).between) s) (each-takes-few U es l s)
-
 other-within : (U : Setup) (m : Board) (x : Texts) (a : Ready) (stop : Option ℕ) (e : Event) (v : Verdict) (reach : ℕ) → (IsDisconnect e → ⊥) → IsRoomFor (seen U m x a) e → reach ≡ m.draft.reach → Stepping U m x a stop e v
     → length (stepped U v e (trail_of m.journal.items)) ≤ reach
 other-within U m x a stop e Granted reach n r h s =
     let t = trail_of m.journal.items in
-    let k = most_of_one t in
+    let k = most_taken t in
     let P : Verdict → Type 0 = λ w. length (stepped U w e t) ≤ length t + most_marks k t e in
-    let marks = subst P (sym s.verdict_is) (other U k t e s.sound (take-few U m.journal.items s.core.legal) n).marks in
+    let marks = subst P (sym s.verdict_is) (other U k t e s.sound (each-takes-few U m.journal.items s.core.legal) n).marks in
     let room = r.reach (sym s.verdict_is) in
     omega arith
 other-within U m x a stop e (Denied broken) reach n r h s = (let within = s.core.within in omega arith)

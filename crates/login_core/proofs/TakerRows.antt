@@ -17,7 +17,7 @@ use Rattle.login_table.specs.Home.{home}
 use Rattle.login_core.specs.State.{keys_of}
 use Rattle.login_core.specs.declared.board.keys.KeyRoom.{KeyRoom}
 use Rattle.login_core.specs.declared.board.owing.Owing.{Owing}
-use Rattle.login_core.specs.inner.Dues.{HasTaker, HaveTakers, new_takers, taker_in, taker_key}
+use Rattle.login_core.specs.inner.Dues.{HasTaker, HaveTakers, new_takers, taker_in, taker_in_key}
 use Rattle.login_core.specs.inner.Facts.{Tables, TablesStand, table}
 use Rattle.login_core.specs.inner.Sums.{KeepRows, has_row}
 use Rattle.login_core.proofs.Welcomed.{set-is}
@@ -28,12 +28,12 @@ same-takers old lost put t takers e f s d was =
     ap (λ (w : Owing). has_row w.taken.items s.0) f ∙ ap (λ (r : Room (ℕ × ℕ)). has_row r.items s.0) e ∙ takers s d was
 
 -- each that took a device once behind the setting has a row: it had one, or the key is its own
-pub takers-behind : (k : Key) (x : Fact) (t : Trail) (old lost put welcomed shifted : Owing) (keyed : Option SessId) → HaveTakers old t → lost.taken ≡ old.taken → put ≡ lost → keyed ≡ taker_key k
+pub takers-behind : (k : Key) (x : Fact) (t : Trail) (old lost put welcomed shifted : Owing) (keyed : Option SessId) → HaveTakers old t → lost.taken ≡ old.taken → put ≡ lost → keyed ≡ taker_in_key k
     → IfSome keyed (HasTaker welcomed) → KeepRows put.taken.items welcomed.taken.items → KeepRows welcomed.taken.items shifted.taken.items → HaveTakers shifted (Set k x ∷ t)
 takers-behind k x t old lost put welcomed shifted keyed takers e f is row kept moved s d was =
     moved s.0 (elim (test (same_key k (key.Taken s d))) [
       | inl y ↦
-          (let here : keyed ≡ Some s = is ∙ ap taker_key (same_key-true k (key.Taken s d) y) in
+          (let here : keyed ≡ Some s = is ∙ ap taker_in_key (same_key-true k (key.Taken s d) y) in
           let P : Option SessId → Type 0 = λ o. IfSome o (HasTaker welcomed) in
           subst P here row)
       | inr n ↦
@@ -49,19 +49,19 @@ new-key f t s d put stand takers lacks = elim (test (was_set t (key.Taken s d)))
 ]
 
 -- so there is room for the row of one that takes its first device
-pub taker-room : (f : Tables) (k : Key) (t : Trail) (old lost put : Owing) (keyed : Option SessId) (fresh : KeyRoom) → TablesStand f t → HaveTakers old t → lost.taken ≡ old.taken → put ≡ lost → keyed ≡ taker_key k
+pub taker-room : (f : Tables) (k : Key) (t : Trail) (old lost put : Owing) (keyed : Option SessId) (fresh : KeyRoom) → TablesStand f t → HaveTakers old t → lost.taken ≡ old.taken → put ≡ lost → keyed ≡ taker_in_key k
     → fresh.taken ≤ put.taken.spare → (was_set (table f (home k)) k ≡ false → 0 < keys_of (part k) fresh) → IfSome keyed (λ s. has_row put.taken.items s.0 ≡ false → 0 < put.taken.spare)
 taker-room f k t old lost put keyed fresh stand takers e g is fits room = subst P (sym is) (by k room)
   where
     P : Option SessId → Type 0
     P o = IfSome o (λ s. has_row put.taken.items s.0 ≡ false → 0 < put.taken.spare)
 
-    by : (j : Key) → (was_set (table f (home j)) j ≡ false → 0 < keys_of (part j) fresh) → P (taker_key j)
+    by : (j : Key) → (was_set (table f (home j)) j ≡ false → 0 < keys_of (part j) fresh) → P (taker_in_key j)
     by (key.Taken s d) r = λ lacks. (let m : 0 < fresh.taken = r (new-key f t s d put stand (same-takers old lost put t takers e g) lacks) in omega arith)
     by _ r = tt
 
 -- and it takes room only where its key is new
-pub takers-few : (f : Tables) (k : Key) (t : Trail) (old lost put : Owing) (keyed : Option SessId) → TablesStand f t → HaveTakers old t → lost.taken ≡ old.taken → put ≡ lost → keyed ≡ taker_key k
+pub takers-few : (f : Tables) (k : Key) (t : Trail) (old lost put : Owing) (keyed : Option SessId) → TablesStand f t → HaveTakers old t → lost.taken ≡ old.taken → put ≡ lost → keyed ≡ taker_in_key k
     → new_takers put keyed ≤ new_in OfTaken (table f (home k)) k
 takers-few f k t old lost put keyed stand takers e g is = subst P (sym is) (by k)
   where
@@ -78,12 +78,12 @@ takers-few f k t old lost put keyed stand takers e g is = subst P (sym is) (by k
         omega arith
         )
 
-    by : (j : Key) → new_takers put (taker_key j) ≤ new_in OfTaken (table f (home j)) j
+    by : (j : Key) → new_takers put (taker_in_key j) ≤ new_in OfTaken (table f (home j)) j
     by (key.Taken s d) = at s d (has_row put.taken.items s.0) refl
     by j = none (new_in OfTaken (table f (home j)) j)
 
 -- a session that a fact says has a device taken is the one that the key is about
-pub gained-row : (k : Key) (y : Fact) (w : Owing) (keyed gained : Option SessId) → keyed ≡ taker_key k → gained ≡ taker_in k y → IfSome keyed (HasTaker w) → IfSome gained (HasTaker w)
+pub gained-row : (k : Key) (y : Fact) (w : Owing) (keyed gained : Option SessId) → keyed ≡ taker_in_key k → gained ≡ taker_in k y → IfSome keyed (HasTaker w) → IfSome gained (HasTaker w)
 gained-row k y w keyed gained e f row = subst P (sym f) (by k (subst P e row))
   where
     P : Option SessId → Type 0
@@ -93,6 +93,6 @@ gained-row k y w keyed gained e f row = subst P (sym f) (by k (subst P e row))
     at true s r = r
     at false s r = tt
 
-    by : (j : Key) → P (taker_key j) → P (taker_in j y)
+    by : (j : Key) → P (taker_in_key j) → P (taker_in j y)
     by (key.Taken s d) r = at (is_handle_fact y) s r
     by _ r = tt

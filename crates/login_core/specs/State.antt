@@ -5,7 +5,7 @@ use Rattle.login_base.specs.declared.ids.ConnId.{ConnId}
 use Rattle.login_model.specs.Full.{connected_after, full, taken_count}
 use Rattle.login_model.specs.Legal.{answered, trail_of}
 use Rattle.login_laws.specs.Amounts.{OfOthers, OfTaken, Part, keys_in}
-use Rattle.login_laws.specs.Few.{most_of_one}
+use Rattle.login_laws.specs.Few.{most_taken}
 use Rattle.login_laws.specs.Keys.{most_keys}
 use Rattle.login_laws.specs.Need.{most_marks, most_of_any, most_rise, need}
 use Rattle.login_laws.specs.Shares.{concerns, most_share_rise, share}
@@ -77,7 +77,7 @@ pub record IsRoomFor (c : CoreState) (e : Event) : Type 0 where
   pub entries : connected_after c.setup (trail_of c.journal) e + 2 ≤ c.entries
   pub far : length (trail_of c.journal) + need (trail_of c.journal) + most_of_any (trail_of c.journal) + most_rise (trail_of c.journal) ≤ c.far
   pub keys : verdict c.setup (trail_of c.journal) e ≡ Granted → (p : Part) → keys_in p (trail_of c.journal) + most_keys p (trail_of c.journal) e ≤ keys_of p c.keys
-  pub reach : verdict c.setup (trail_of c.journal) e ≡ Granted → length (trail_of c.journal) + most_marks (most_of_one (trail_of c.journal)) (trail_of c.journal) e ≤ c.reach
+  pub reach : verdict c.setup (trail_of c.journal) e ≡ Granted → length (trail_of c.journal) + most_marks (most_taken (trail_of c.journal)) (trail_of c.journal) e ≤ c.reach
   pub ends : (who : ConnId) → is_connected (trail_of c.journal) who ≡ true → end_marks (verdict c.setup (trail_of c.journal) e) (trail_of c.journal) e who ≤ room_of c.ends who
   pub next_end : NextIsWide (verdict c.setup (trail_of c.journal) e) (trail_of c.journal) e c.next_end
   pub rings : taken_count (trail_of c.journal) + 1 ≤ c.rings

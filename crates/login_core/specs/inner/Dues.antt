@@ -73,9 +73,9 @@ new_rows owing (Some c) = if has_row owing.marks.items c.0 then 0 else 1
 -- ---- which sessions have a row
 
 -- the session that a key of what is taken is about
-abbrev pub taker_key : Key → Option SessId
-taker_key (key.Taken s d) = Some s
-taker_key _ = None
+abbrev pub taker_in_key : Key → Option SessId
+taker_in_key (key.Taken s d) = Some s
+taker_in_key _ = None
 
 -- a session has a row
 abbrev pub HasTaker : Owing → SessId → Type 0

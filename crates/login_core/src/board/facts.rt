@@ -26,7 +26,7 @@ ghost use Rattle.login_core.specs.inner.Holding.{AreSuch};
 use crate::board::hearing::settle;
 use crate::board::holding::{Holding, Holdings, holding_in};
 use crate::board::keys::KeyRoom;
-use crate::board::owing::{Dues, Owing, Touched, connection_in, taker_in, taker_key};
+use crate::board::owing::{Dues, Owing, Touched, connection_in, taker_in, taker_in_key};
 use crate::room::counts::Counts;
 use controller::Controller;
 use device_model::DeviceModel;
@@ -150,8 +150,8 @@ impl Facts {
         Ok(())
     }
 
-    /// Makes room in the tables for so many more keys of each part that were not set before, where one of the others may
-    /// be of a connection that comes, and one of what is taken of a session that takes its first device.
+    /// Makes room in the tables for so many more keys of each part that were not set before. Any of the others may be of a
+    /// connection that comes, any of what is taken of a session that takes its first device.
     pub fn reserve_keys(&mut self, keys: KeyRoom) -> Result<(), NoMemory>
         ensures ok { OnOk result ((p : AnyPart) → keys_of p keys ≤ keys_of p self.new.fresh) }
         ensures refused { OnErr result (self.new.fresh ≡ self.old.fresh) }
@@ -288,7 +288,7 @@ impl Facts {
         let lost_taker = taker_in(&key, before);
         let taker = taker_in(&key, &fact);
         let comer = connection_in(&key);
-        let keyed = taker_key(&key);
+        let keyed = taker_in_key(&key);
         let lost = Dues::of(self, touched);
         self.owing.lose(lost);
         self.put_in(key, fact);

@@ -2,7 +2,7 @@
 
 ghost use Rattle.std.specs.Prelude.{◌≡◌, ◌<◌, ◌≤◌, ◌^◌, if◌then◌else◌};
 ghost use Rattle.login_model.specs.Creating.{seat_of};
-ghost use Rattle.login_laws.specs.Few.{most_of_one};
+ghost use Rattle.login_laws.specs.Few.{most_taken};
 ghost use Rattle.login_laws.specs.Need.{call_marks, hardware_marks, marks_over, marks_over_devices, may_switch, most_marks, seat_marks};
 ghost use Rattle.login_core.specs.inner.Counts.{HoldersAreThere};
 
@@ -16,7 +16,7 @@ const MARKS_BESIDE: u64 = 32;
 impl Draft {
     /// The most marks of a session that comes to its seat, where another session than seat0's may have been active.
     fn seat_marks(&self, creation: &Creation) -> u64
-        ensures value { HoldersAreThere self.now.trail → result ≡ seat_marks (most_of_one self.now.trail) (seat_of creation.now.seat) }
+        ensures value { HoldersAreThere self.now.trail → result ≡ seat_marks (most_taken self.now.trail) (seat_of creation.now.seat) }
         ensures bound { result < 2 ^ 36 }
     {
         match seat_of(creation.seat.as_slice()) {
@@ -33,7 +33,7 @@ impl Draft {
 
     /// The most marks of what a call goes over by itself.
     fn call_marks(&self, call: &Call) -> u64
-        ensures value { HoldersAreThere self.now.trail → result ≡ call_marks (most_of_one self.now.trail) self.now.trail call.now }
+        ensures value { HoldersAreThere self.now.trail → result ≡ call_marks (most_taken self.now.trail) self.now.trail call.now }
         ensures bound { result < 2 ^ 36 }
     {
         match call {
@@ -57,7 +57,7 @@ impl Draft {
 
     /// The most marks of what the hardware goes over.
     fn hardware_marks(&self, hardware: &Hardware) -> u64
-        ensures value { HoldersAreThere self.now.trail → result ≡ hardware_marks (most_of_one self.now.trail) self.now.trail hardware.now }
+        ensures value { HoldersAreThere self.now.trail → result ≡ hardware_marks (most_taken self.now.trail) self.now.trail hardware.now }
         ensures bound { result < 2 ^ 36 }
     {
         match hardware {
@@ -70,7 +70,7 @@ impl Draft {
 
     /// The most marks of what an event goes over by itself.
     fn marks_over(&self, event: &Event) -> u64
-        ensures value { HoldersAreThere self.now.trail → result ≡ marks_over (most_of_one self.now.trail) self.now.trail event.now }
+        ensures value { HoldersAreThere self.now.trail → result ≡ marks_over (most_taken self.now.trail) self.now.trail event.now }
         ensures bound { result < 2 ^ 36 }
     {
         match event {
@@ -83,7 +83,7 @@ impl Draft {
 
     /// The most marks of a switch that may complete behind an event, beside a few.
     fn switch_marks(&self, event: &Event) -> u64
-        ensures value { HoldersAreThere self.now.trail → result ≡ (if may_switch self.now.trail event.now then marks_over_devices (most_of_one self.now.trail) else 0) }
+        ensures value { HoldersAreThere self.now.trail → result ≡ (if may_switch self.now.trail event.now then marks_over_devices (most_taken self.now.trail) else 0) }
         ensures bound { result < 2 ^ 36 }
     {
         if self.may_switch(event) {
@@ -95,15 +95,15 @@ impl Draft {
 
     /// The most marks that an event makes which is no disconnect.
     fn most_marks(&self, event: &Event) -> u64
-        ensures { HoldersAreThere self.now.trail → result ≡ most_marks (most_of_one self.now.trail) self.now.trail event.now }
+        ensures { HoldersAreThere self.now.trail → result ≡ most_marks (most_taken self.now.trail) self.now.trail event.now }
     {
         self.marks_over(event) + self.switch_marks(event) + MARKS_BESIDE
     }
 
     /// For how many marks there has to be room in the list of an event with this verdict. One that is denied makes none.
     pub fn entry_marks(&self, event: &Event, verdict: Verdict) -> u64
-        ensures granted { verdict ≡ Verdict.Granted → HoldersAreThere self.now.trail → result ≡ most_marks (most_of_one self.now.trail) self.now.trail event.now }
-        ensures most { HoldersAreThere self.now.trail → result ≤ most_marks (most_of_one self.now.trail) self.now.trail event.now }
+        ensures granted { verdict ≡ Verdict.Granted → HoldersAreThere self.now.trail → result ≡ most_marks (most_taken self.now.trail) self.now.trail event.now }
+        ensures most { HoldersAreThere self.now.trail → result ≤ most_marks (most_taken self.now.trail) self.now.trail event.now }
     {
         match verdict {
             Verdict::Granted => self.most_marks(event),

@@ -3,8 +3,8 @@
 ghost use Rattle.std.specs.Prelude.{◌≡◌, ◌&&◌, nat_le, ◌+◌, ◌*◌, ◌<◌, ◌≤◌, ◌^◌, ◌||◌, if◌then◌else◌, length};
 ghost use Rattle.login_model.specs.Where.{sessions};
 ghost use Rattle.login_laws.specs.Amounts.{Part as AnyPart};
-ghost use Rattle.login_laws.specs.Few.{most_of_one};
-ghost use Rattle.login_laws.specs.Keys.{asks_to_turn, call_turns, keys_of_switch, kills_all, most_keys};
+ghost use Rattle.login_laws.specs.Few.{most_taken};
+ghost use Rattle.login_laws.specs.Keys.{asks_to_turn, call_turns, kills_all, most_keys};
 ghost use Rattle.login_laws.specs.Need.{may_switch};
 ghost use Rattle.login_core.specs.State.{keys_of};
 ghost use Rattle.login_core.specs.inner.Counts.{HoldersAreThere};
@@ -15,7 +15,8 @@ use login_model::{Call, Event, Hardware, Key, Look, Verdict};
 /// The keys of an event by itself, beside those of devices and of signals.
 const KEYS_BESIDE: u64 = 4;
 
-/// The keys of a device that comes back to its session with a fresh handle: its owner, and that it is live.
+/// The keys of a device of a session that comes or goes: of a fresh handle its owner and that it is live, or that its pause
+/// is awaited.
 const KEYS_OF_DEVICE: u64 = 2;
 
 /// The keys of a switch beside those of devices: the terminal, a getty.
@@ -28,14 +29,14 @@ const KEYS_AHEAD: usize = 32;
 /// For how many keys there is room that were not set before, by what they are about.
 #[derive(Clone, Copy)]
 pub struct KeyRoom {
-    /// What sessions have taken, and with which handles.
+    /// Of handles, and of what sessions have taken.
     pub taken: usize,
     /// Anything else.
     pub others: usize,
 }
 
 /// Room for so many keys: as it is where it is enough, else for an eighth and some more.
-fn widened(room: usize, keys: usize) -> usize
+fn wide_enough(room: usize, keys: usize) -> usize
     ensures enough { keys ≤ result }
     ensures keeps { room ≤ result }
 {
@@ -66,8 +67,8 @@ impl KeyRoom {
         ensures keeps { (p : AnyPart) → keys_of p self ≤ keys_of p result }
     {
         KeyRoom {
-            taken: widened(self.taken, keys.taken),
-            others: widened(self.others, keys.others),
+            taken: wide_enough(self.taken, keys.taken),
+            others: wide_enough(self.others, keys.others),
         }
     }
 }
@@ -122,11 +123,11 @@ impl Draft {
 
     /// The keys of what a turn brings back by itself.
     fn keys_of_turn(&self, event: &Event) -> u64
-        ensures value { HoldersAreThere self.now.trail → result ≡ (if asks_to_turn event.now then 2 * most_of_one self.now.trail else 0) }
+        ensures value { HoldersAreThere self.now.trail → result ≡ (if asks_to_turn event.now then 2 * most_taken self.now.trail else 0) }
         ensures bound { result < 2 ^ 9 }
     {
         if asks_to_turn(event) {
-            KEYS_OF_DEVICE * u64::from(self.counts().most_of_one())
+            KEYS_OF_DEVICE * u64::from(self.counts().most_taken())
         } else {
             0
         }
@@ -139,14 +140,14 @@ impl Draft {
         self.fact(&Key::Pending).is_number() || asks_to_turn(event)
     }
 
-    /// The keys of the devices that a switch which may be pending behind an event brings back. The event may take one
-    /// device more.
+    /// The keys of the devices that a switch which may be pending behind an event brings back, or whose pauses it awaits. The
+    /// event may take one device more.
     fn keys_brought_back(&self, event: &Event) -> u64
-        ensures value { HoldersAreThere self.now.trail → result ≡ (if may_switch self.now.trail event.now then 2 * (most_of_one self.now.trail + 1) else 0) }
+        ensures value { HoldersAreThere self.now.trail → result ≡ (if may_switch self.now.trail event.now then 2 * (most_taken self.now.trail + 1) else 0) }
         ensures bound { result < 2 ^ 9 }
     {
         if self.may_switch(event) {
-            KEYS_OF_DEVICE * (u64::from(self.counts().most_of_one()) + 1)
+            KEYS_OF_DEVICE * (u64::from(self.counts().most_taken()) + 1)
         } else {
             0
         }
@@ -154,7 +155,7 @@ impl Draft {
 
     /// The keys of such a switch beside those of devices.
     fn keys_of_switch(&self, event: &Event) -> u64
-        ensures value { result ≡ (if may_switch self.now.trail event.now then keys_of_switch else 0) }
+        ensures value { result ≡ (if may_switch self.now.trail event.now then 2 else 0) }
         ensures bound { result ≤ 2 }
     {
         if self.may_switch(event) {
@@ -167,12 +168,11 @@ impl Draft {
     /// The most keys of each part that an event other than a disconnect sets for the first time where it is granted, with
     /// those of a switch that it leaves pending.
     fn most_keys(&self, event: &Event) -> KeyRoom
-        ensures most { (p : AnyPart) → HoldersAreThere self.now.trail → most_keys p self.now.trail event.now ≤ keys_of p result }
+        ensures value { (p : AnyPart) → HoldersAreThere self.now.trail → keys_of p result ≡ most_keys p self.now.trail event.now }
         ensures bound { (p : AnyPart) → keys_of p result < 2 ^ 33 }
     {
-        let beside = KEYS_BESIDE + self.keys_of_switch(event);
-        let taken = beside + self.keys_of_turn(event) + self.keys_brought_back(event);
-        let others = beside + self.keys_of_signals(event);
+        let taken = KEYS_BESIDE + self.keys_of_turn(event) + self.keys_brought_back(event);
+        let others = KEYS_BESIDE + self.keys_of_signals(event) + self.keys_of_switch(event);
         KeyRoom {
             taken: taken as usize,
             others: others as usize,
@@ -181,7 +181,7 @@ impl Draft {
 
     /// For how many keys there has to be room behind an event with this verdict. One that is denied sets none.
     pub fn keys_needed(&self, event: &Event, verdict: Verdict) -> KeyRoom
-        ensures granted { verdict ≡ Verdict.Granted → HoldersAreThere self.now.trail → (p : AnyPart) → most_keys p self.now.trail event.now ≤ keys_of p result }
+        ensures granted { verdict ≡ Verdict.Granted → HoldersAreThere self.now.trail → (p : AnyPart) → keys_of p result ≡ most_keys p self.now.trail event.now }
         ensures bound { (p : AnyPart) → keys_of p result < 2 ^ 33 }
     {
         match verdict {

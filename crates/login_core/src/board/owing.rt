@@ -4,7 +4,7 @@ ghost use Rattle.std.specs.Prelude.{ℕ, ◌≡◌, ◌+◌, ◌<◌, ◌≤◌,
 ghost use Rattle.login_base.specs.declared.ids.ConnId.{ConnId as AnyConnection};
 ghost use Rattle.login_base.specs.declared.ids.SessId.{SessId as AnySession};
 ghost use Rattle.login_model.specs.Trail.{Trail, value};
-ghost use Rattle.login_core.specs.inner.Dues.{AreOwed, AreTaken, EachCharged, EachDue, HasRow, HasTaker, AllNamesKnown, WasConnected, charge_at, connection_in, dues_at, new_rows, new_takers, taker_at, taker_in, taker_key, touched_at, touched_by};
+ghost use Rattle.login_core.specs.inner.Dues.{AreOwed, AreTaken, EachCharged, EachDue, HasRow, HasTaker, AllNamesKnown, WasConnected, charge_at, connection_in, dues_at, new_rows, new_takers, taker_at, taker_in, taker_in_key, touched_at, touched_by};
 ghost use Rattle.login_core.specs.inner.Facts.{TablesStand};
 ghost use Rattle.login_core.specs.inner.Owing.{charge, due_at, keeper, keeper_in, of_some, other_than};
 ghost use Rattle.login_core.specs.inner.Sums.{KeepRows, has_row, sum_in};
@@ -66,8 +66,8 @@ pub fn connection_in(key: &Key) -> Option<ConnId>
 }
 
 /// The session that a key of what is taken is about.
-pub fn taker_key(key: &Key) -> Option<SessId>
-    ensures { result ≡ taker_key key.now }
+pub fn taker_in_key(key: &Key) -> Option<SessId>
+    ensures { result ≡ taker_in_key key.now }
 {
     match key {
         Key::Taken(session, _) => Some(*session),
@@ -207,8 +207,8 @@ impl Owing {
         }
     }
 
-    /// Makes room for so many more keys of each part, of which one of the others may be of a connection that comes, and one
-    /// of what is taken of a session that takes its first device.
+    /// Makes room for so many more keys of each part. Any of the others may be of a connection that comes, any of what is
+    /// taken of a session that takes its first device.
     pub fn reserve(&mut self, keys: KeyRoom) -> Result<(), NoMemory>
         ensures marks { OnOk result (keys.others ≤ self.new.marks.spare) }
         ensures taken { OnOk result (keys.taken ≤ self.new.taken.spare) }

@@ -1,7 +1,7 @@
 // How many there are of what needs room or has a limit.
 
 ghost use Rattle.std.specs.Prelude.{◌≡◌, ◌+◌, ◌<◌, ◌≤◌, ◌^◌, length};
-ghost use Rattle.login_laws.specs.Few.{most_of_one};
+ghost use Rattle.login_laws.specs.Few.{most_taken};
 ghost use Rattle.login_laws.specs.Need.{marks_over_devices, marks_over_holders, marks_over_users};
 ghost use Rattle.login_laws.specs.Shares.{active_share_rise};
 ghost use Rattle.login_model.specs.Full.{marks_needed};
@@ -131,9 +131,9 @@ impl Counts {
         4 * u64::from(self.users)
     }
 
-    /// The most devices that one session may have taken, where all together have taken so many.
-    pub fn most_of_one(self) -> u32
-        ensures value { (t : Trail) → AreCounted self t → HoldersAreThere t → result ≡ most_of_one t }
+    /// The most devices that one session may have taken: no more than all have, nor than the limit.
+    pub fn most_taken(self) -> u32
+        ensures value { (t : Trail) → AreCounted self t → HoldersAreThere t → result ≡ most_taken t }
         ensures bound { result ≤ taken_limit }
     {
         self.taken.min(MOST_TAKEN)
@@ -141,10 +141,10 @@ impl Counts {
 
     /// The most marks of what one or two sessions have taken.
     pub fn marks_over_devices(self) -> u64
-        ensures value { (t : Trail) → AreCounted self t → HoldersAreThere t → result ≡ marks_over_devices (most_of_one t) }
+        ensures value { (t : Trail) → AreCounted self t → HoldersAreThere t → result ≡ marks_over_devices (most_taken t) }
         ensures bound { result < 2 ^ 10 }
     {
-        6 * u64::from(self.most_of_one())
+        6 * u64::from(self.most_taken())
     }
 
     /// The most marks of one for each session.

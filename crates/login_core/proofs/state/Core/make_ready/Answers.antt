@@ -4,9 +4,9 @@ use Rattle.std.proofs.Math.Nat.{min-le_left}
 use Rattle.login_model.specs.Full.{connected_after, full, mark_count, marks_needed, taken_count}
 use Rattle.login_model.specs.Legal.{IsLegal, answered, trail_of}
 use Rattle.login_model.specs.Policy.{verdict}
-use Rattle.login_laws.specs.Amounts.{keys_in}
-use Rattle.login_laws.specs.Few.{most_of_one}
-use Rattle.login_laws.specs.Keys.{most_keys}
+use Rattle.login_laws.specs.Amounts.{Part, keys_in}
+use Rattle.login_laws.specs.Few.{most_taken}
+use Rattle.login_laws.specs.Keys.{most_keys, switch_keys}
 use Rattle.login_laws.specs.Need.{most_marks}
 use Rattle.login_model.specs.Trail.{Trail}
 use Rattle.login_model.specs.declared.rule.Verdict.{Verdict}
@@ -15,6 +15,7 @@ use Rattle.login_laws.specs.Shares.{most_share_rise, share}
 use Rattle.login_laws.specs.Sound.{IsSound}
 use Rattle.login_laws.proofs.RoomLaws.{most-less, room}
 use Rattle.login_laws.proofs.SoundLaws.{sound-journal}
+use Rattle.login_core.specs.declared.board.keys.KeyRoom.{KeyRoom}
 use Rattle.login_core.specs.inner.Counts.{AreCounted, HoldersAreThere}
 use Rattle.login_core.specs.inner.Draft.{DraftState}
 use Rattle.login_core.specs.State.{CoreState, NextIsWide, keys_of, may_raise}
@@ -55,10 +56,10 @@ overflow_cast-next c =
     let marks = s.marks in
     let journal = ap (λ (q : CoreState). marks_needed (trail_of q.journal) (mark_count q.journal)) c.self.view_is in
     let bound = room t (mark_count es) in
-    let less = most-less (most_of_one t) t c.args.event.now (min-le_left (taken_count t) 128) in
+    let less = most-less (most_taken t) t c.args.event.now (min-le_left (taken_count t) 128) in
     let H : Trail → Type 0 = HoldersAreThere in
     let most = c.entry_marks-next.ensures.most (subst H (sym c.self.invariant.no_marks) (legal-holders U es c.self.invariant.legal)) in
-    let same = ap (λ (u : Trail). most_marks (most_of_one u) u c.args.event.now) c.self.invariant.no_marks in
+    let same = ap (λ (u : Trail). most_marks (most_taken u) u c.args.event.now) c.self.invariant.no_marks in
     omega arith
 
 pub reserve-requires-clause-within : goal.reserve-requires-clause-within
@@ -70,11 +71,11 @@ reserve-requires-clause-within c =
     let reach = c.reach_for-reach.ensures in
     let journal = ap (λ (q : CoreState). marks_needed (trail_of q.journal) (mark_count q.journal)) c.self.view_is in
     let bound = room t (mark_count es) in
-    let less = most-less (most_of_one t) t c.args.event.now (min-le_left (taken_count t) 128) in
+    let less = most-less (most_taken t) t c.args.event.now (min-le_left (taken_count t) 128) in
     let counted = marks-counted es in
     let H : Trail → Type 0 = HoldersAreThere in
     let most = c.entry_marks-next.ensures.most (subst H (sym c.self.invariant.no_marks) (legal-holders U es c.self.invariant.legal)) in
-    let same = ap (λ (u : Trail). most_marks (most_of_one u) u c.args.event.now) c.self.invariant.no_marks in
+    let same = ap (λ (u : Trail). most_marks (most_taken u) u c.args.event.now) c.self.invariant.no_marks in
     let length_is = ap length c.self.invariant.no_marks in
     omega arith
 
@@ -106,7 +107,7 @@ returns-clause-ready c =
     let reach = c.reach_for-reach.ensures ∙ ap (λ (js : List Entry). marks_needed (trail_of js) (mark_count js)) journal in
     let judged = c.requires.judged ∙ (λ i. verdict (setup i) (trail_of (journal i)) e) in
     let bound = room t (mark_count es) in
-    let less = most-less (most_of_one t) t c.args.event.now (min-le_left (taken_count t) 128) in
+    let less = most-less (most_taken t) t c.args.event.now (min-le_left (taken_count t) 128) in
     let counted = marks-counted es in
     let entries = c.in_ok-reserve.ensures.entries in
     let kept = w.entries in
@@ -146,7 +147,7 @@ returns-clause-ready c =
           let same = ap (keys_of p) same_keys in
           omega arith
           );
-      reach = λ granted. (let most = c.entry_marks-next.ensures.granted (judged ∙ granted) (subst HoldersAreThere (sym before) holders) ∙ ap (λ (u : Trail). most_marks (most_of_one u) u e) before in omega arith);
+      reach = λ granted. (let most = c.entry_marks-next.ensures.granted (judged ∙ granted) (subst HoldersAreThere (sym before) holders) ∙ ap (λ (u : Trail). most_marks (most_taken u) u e) before in omega arith);
       ends = subst A judged (all-wide v t e (end_room r.journal) (end_room n.journal) (λ who i. (let h = have who i in let k = c.reserve.ensures.ends who in omega arith)) (subst K behind w.keeps) wide);
       next_end = subst L judged (subst N behind c.in_ok-make_ends.ensures.next);
       rings = omega arith;
@@ -157,6 +158,17 @@ returns-clause-ready c =
     }
 
 -- ---- each end: what was made so far is kept, and who is connected has room for its end still
+
+at-most : (k m n : ℕ) → k ≤ m → m ≤ n → k ≤ n
+at-most k m n h l = omega arith
+
+-- the room for keys is enough for the switch that is pending, whatever room came to it
+keys-kept : (p : Part) (es fs : List Entry) (had got has : KeyRoom) → keys_in p (trail_of es) + switch_keys p (trail_of es) ≤ keys_of p had → fs ≡ es
+    → keys_of p had ≤ keys_of p got → has ≡ got → keys_in p (trail_of fs) + switch_keys p (trail_of fs) ≤ keys_of p has
+keys-kept p es fs had got has h items more same =
+    let P : List Entry → Type 0 = λ js. keys_in p (trail_of js) + switch_keys p (trail_of js) ≤ keys_of p got in
+    let Q : KeyRoom → Type 0 = λ r. keys_in p (trail_of fs) + switch_keys p (trail_of fs) ≤ keys_of p r in
+    subst Q (sym same) (subst P (sym items) (at-most _ _ _ h more))
 
 pub invariant_of-self-in_err-make_rings : goal.invariant_of-self-in_err-make_rings
 invariant_of-self-in_err-make_rings c = record {
@@ -239,7 +251,9 @@ invariant_of-self-3 c = record {
   stop_is = search rules;
   entries = search rules;
   reach = search rules;
-  keys = search rules;
+  keys = λ p. keys-kept p c.self.inside.board.journal.items c.make_ends.new.self.journal.items c.self.inside.board.draft.keys c.reserve.new.self.draft.keys c.make_rings.new.self.keys
+      (c.self.invariant.keys p) (c.make_ends.ensures.same.items ∙ c.reserve.ensures.items) (c.reserve.ensures.keeps_keys p)
+      (ap (λ (d : DraftState). d.keys) c.make_rings.ensures.rest ∙ ap (λ (d : DraftState). d.keys) c.make_ends.ensures.same.draft);
   within = search rules;
   ends = c.make_ends.ensures.have (reserved-have c.self.inside.board c.reserve.new.self c.reserve.ensures.ends c.reserve.ensures.items c.self.invariant.ends);
   ears = search rules;

@@ -63,12 +63,12 @@ welcome-requires-clause-taker_room c =
     let lost-spare = ap (λ (r : Room (ℕ × ℕ)). r.spare) c.lose.ensures.taken in
     let put-spare = ap (λ (w : Owing). w.taken.spare) put in
     let fits : now.fresh.taken ≤ c.self-2.inside.owing.taken.spare = search rules in
-    taker-room now c.args.key few.marks c.self.inside.owing c.lose.new.self c.self-2.inside.owing c.taker_key-keyed.result now.fresh (opened now few.marks few.stand) inside.takers c.lose.ensures.taken put
-    c.taker_key-keyed.ensures fits c.requires.fresh
+    taker-room now c.args.key few.marks c.self.inside.owing c.lose.new.self c.self-2.inside.owing c.taker_in_key-keyed.result now.fresh (opened now few.marks few.stand) inside.takers c.lose.ensures.taken put
+    c.taker_in_key-keyed.ensures fits c.requires.fresh
 
 pub shift-requires-clause-row : goal.shift-requires-clause-row
 shift-requires-clause-row c =
-    gained-row c.args.key c.args.fact c.welcome.new.self c.taker_key-keyed.result c.taker_in-taker.result c.taker_key-keyed.ensures c.taker_in-taker.ensures c.welcome.ensures.taker
+    gained-row c.args.key c.args.fact c.welcome.new.self c.taker_in_key-keyed.result c.taker_in-taker.result c.taker_in_key-keyed.ensures c.taker_in-taker.ensures c.welcome.ensures.taker
 
 pub of-gained-requires : goal.of-gained-requires
 of-gained-requires c =
@@ -137,7 +137,7 @@ invariant_of-self-3 c =
     let fresh = c.put_in.ensures.fresh in
     let fresh-is = ap (λ (f : Tables). f.fresh) c.self-2.view_is in
     let put-spare = ap (λ (w : Owing). w.marks.spare) put in
-    let takers = takers-few _ c.args.key few.marks c.self.inside.owing c.lose.new.self c.self-2.inside.owing c.taker_key-keyed.result stand inside.takers c.lose.ensures.taken put c.taker_key-keyed.ensures in
+    let takers = takers-few _ c.args.key few.marks c.self.inside.owing c.lose.new.self c.self-2.inside.owing c.taker_in_key-keyed.result stand inside.takers c.lose.ensures.taken put c.taker_in_key-keyed.ensures in
     let lost-spare = ap (λ (r : Room (ℕ × ℕ)). r.spare) c.lose.ensures.taken in
     let put-taken = ap (λ (w : Owing). w.taken.spare) put in
     let gained-spare = ap (λ (r : Room (ℕ × ℕ)). r.spare) c.gain.ensures.taken in
@@ -173,6 +173,6 @@ returns-clause-stands c = λ t s.
       known = known-set c.args.key c.args.fact t (named-there now t c.args.fact (opened now t s) c.requires.known) o.known;
       rows = λ d e. c.gain.ensures.rows d.0 (rows-behind c.args.key c.args.fact t c.self.inside.owing c.lose.new.self c.self-2.inside.owing c.welcome.new.self c.shift.new.self c.connection_in-comer.result
           inside.rows c.lose.ensures.rows put c.connection_in-comer.ensures c.welcome.ensures.row c.welcome.ensures.rows c.shift.ensures.marks d e);
-      takers = λ r d e. ap (λ (w : Room (ℕ × ℕ)). has_row w.items r.0) c.gain.ensures.taken ∙ takers-behind c.args.key c.args.fact t c.self.inside.owing c.lose.new.self c.self-2.inside.owing c.welcome.new.self c.shift.new.self c.taker_key-keyed.result
-          inside.takers c.lose.ensures.taken put c.taker_key-keyed.ensures c.welcome.ensures.taker c.welcome.ensures.takers c.shift.ensures.rows r d e;
+      takers = λ r d e. ap (λ (w : Room (ℕ × ℕ)). has_row w.items r.0) c.gain.ensures.taken ∙ takers-behind c.args.key c.args.fact t c.self.inside.owing c.lose.new.self c.self-2.inside.owing c.welcome.new.self c.shift.new.self c.taker_in_key-keyed.result
+          inside.takers c.lose.ensures.taken put c.taker_in_key-keyed.ensures c.welcome.ensures.taker c.welcome.ensures.takers c.shift.ensures.rows r d e;
     })
