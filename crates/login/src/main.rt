@@ -1,8 +1,10 @@
 //! The program `login`: the top call over the standard streams, Unix sockets, and the machine's clock and threads.
 #![tactic(auto)]
 
+mod heap;
 mod words;
 
+use heap::share_mappings;
 use login_edge::write_all;
 use login_prog::{Outside, StatusLine, run};
 use login_real::{
@@ -15,6 +17,7 @@ use words::words_of;
 const NO_MEMORY: u8 = 5;
 
 fn main(rt: HostRuntime) -> ExitCode {
+    share_mappings(rt.alloc());
     let mut errors = WriterSink::new(rt.stderr());
     let Ok(words) = words_of(&rt) else {
         let _end = write_all(&mut errors, StatusLine::NoMemory.text());
