@@ -41,7 +41,7 @@ use Rattle.login_core.specs.inner.Ledger.{end_room, next_room}
 use Rattle.login_core.specs.Ready.{AreReady}
 use Rattle.login_core.specs.inner.Spares.{HaveTexts}
 use Rattle.login_core.specs.inner.UnderWay.{entry_of}
-use Rattle.login_core.specs.State.{CoreState, IsReady, IsRoomFor, NextIsWide, keys_of}
+use Rattle.login_core.specs.State.{CoreState, IsReady, IsRoomFor, NextIsWide, keys_of, keys_with, marks_with}
 use Rattle.login_core.specs.inner.State.{answer_next, stop_next}
 use Rattle.login_core.specs.declared.board.Board.{Board}
 use Rattle.login_core.specs.declared.room.ready.Ready.{Ready}
@@ -166,7 +166,8 @@ other-within U m x a stop e Granted reach n r h s =
     let k = most_taken t in
     let P : Verdict → Type 0 = λ w. length (stepped U w e t) ≤ length t + most_marks k t e in
     let marks = subst P (sym s.verdict_is) (other U k t e s.sound (each-takes-few U m.journal.items s.core.legal) n).marks in
-    let room = r.reach (sym s.verdict_is) in
+    let M : Verdict → Type 0 = λ w. length t + marks_with w t e ≤ m.draft.reach in
+    let room = subst M (sym s.verdict_is) r.reach in
     omega arith
 other-within U m x a stop e (Denied broken) reach n r h s = (let within = s.core.within in omega arith)
 
@@ -216,7 +217,8 @@ other-keys U m x a stop e Granted n r s = λ p.
     let t = trail_of m.journal.items in
     let P : Verdict → Type 0 = λ w. keys_in p (stepped U w e t) + switch_keys p (stepped U w e t) ≤ keys_in p t + most_keys p t e in
     let law = subst P (sym s.verdict_is) ((keys-are-kept U p).other t e s.sound (each-takes-few U m.journal.items s.core.legal) n) in
-    let room = r.keys (sym s.verdict_is) p in
+    let K : Verdict → Type 0 = λ w. keys_in p t + keys_with w p t e ≤ keys_of p m.draft.keys in
+    let room = subst K (sym s.verdict_is) (r.keys p) in
     omega arith
 other-keys U m x a stop e (Denied broken) n r s = s.core.keys
 

@@ -6,7 +6,7 @@ use Rattle.login_model.specs.Full.{connected_after, full, taken_count}
 use Rattle.login_model.specs.Legal.{answered, trail_of}
 use Rattle.login_laws.specs.Amounts.{OfOthers, OfTaken, Part, keys_in}
 use Rattle.login_laws.specs.Few.{most_taken}
-use Rattle.login_laws.specs.Keys.{most_keys}
+use Rattle.login_laws.specs.Keys.{most_keys, switch_keys}
 use Rattle.login_laws.specs.Need.{most_marks, most_of_any, most_rise, need}
 use Rattle.login_laws.specs.Shares.{concerns, most_share_rise, share}
 use Rattle.login_model.specs.Policy.{verdict}
@@ -69,15 +69,26 @@ abbrev pub NextIsWide : Verdict → Trail → Event → ℕ → Type 0
 NextIsWide Granted t (Connect who u) next = end_marks Granted t (Connect who u) who ≤ next
 NextIsWide _ t _ next = Unit {0}
 
+-- the most marks that an event with this verdict makes which is no disconnect, with those of a switch that may complete
+-- behind it: one that is denied makes none
+abbrev pub marks_with : Verdict → Trail → Event → ℕ
+marks_with Granted t e = most_marks (most_taken t) t e
+marks_with (Denied broken) t e = 0
+
+-- the most keys of a part that an event with this verdict sets for the first time which is no disconnect, with those of a
+-- switch that is pending behind it: one that is denied sets none, and leaves the switch as it was
+abbrev pub keys_with : Verdict → Part → Trail → Event → ℕ
+keys_with Granted p t e = most_keys p t e
+keys_with (Denied broken) p t e = switch_keys p t
+
 -- room was made for the event's entry and marks, for one device more that is taken, and for all that connections and
--- the stop need after it: in the tables for the keys of all of it, where the event is granted; beside them for the marks
--- of any event and of the ends; in the list of the entry for the marks of this event, where it is granted, and in that of
--- each connection for those of its own end
+-- the stop need after it: in the tables for the keys of all of it; beside them for the marks of any event and of the ends;
+-- in the list of the entry for the marks that this event may make, and in that of each connection for those of its own end
 pub record IsRoomFor (c : CoreState) (e : Event) : Type 0 where
   pub entries : connected_after c.setup (trail_of c.journal) e + 2 ≤ c.entries
   pub far : length (trail_of c.journal) + need (trail_of c.journal) + most_of_any (trail_of c.journal) + most_rise (trail_of c.journal) ≤ c.far
-  pub keys : verdict c.setup (trail_of c.journal) e ≡ Granted → (p : Part) → keys_in p (trail_of c.journal) + most_keys p (trail_of c.journal) e ≤ keys_of p c.keys
-  pub reach : verdict c.setup (trail_of c.journal) e ≡ Granted → length (trail_of c.journal) + most_marks (most_taken (trail_of c.journal)) (trail_of c.journal) e ≤ c.reach
+  pub keys : (p : Part) → keys_in p (trail_of c.journal) + keys_with (verdict c.setup (trail_of c.journal) e) p (trail_of c.journal) e ≤ keys_of p c.keys
+  pub reach : length (trail_of c.journal) + marks_with (verdict c.setup (trail_of c.journal) e) (trail_of c.journal) e ≤ c.reach
   pub ends : (who : ConnId) → is_connected (trail_of c.journal) who ≡ true → end_marks (verdict c.setup (trail_of c.journal) e) (trail_of c.journal) e who ≤ room_of c.ends who
   pub next_end : NextIsWide (verdict c.setup (trail_of c.journal) e) (trail_of c.journal) e c.next_end
   pub rings : taken_count (trail_of c.journal) + 1 ≤ c.rings

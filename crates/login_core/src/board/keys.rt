@@ -179,7 +179,8 @@ impl Draft {
         }
     }
 
-    /// For how many keys there has to be room behind an event with this verdict. One that is denied sets none.
+    /// For how many keys room is made for an event with this verdict. For one that is denied it is none: it sets none, and
+    /// room for those of a pending switch is there.
     pub fn keys_needed(&self, event: &Event, verdict: Verdict) -> KeyRoom
         ensures granted { verdict ≡ Verdict.Granted → HoldersAreThere self.now.trail → (p : AnyPart) → keys_of p result ≡ most_keys p self.now.trail event.now }
         ensures bound { (p : AnyPart) → keys_of p result < 2 ^ 33 }

@@ -1,4 +1,4 @@
-use Rattle.std.proofs.Common.{rules, ℕ, ◌≡◌, ◌<◌, ◌≤◌, ◌+◌, ◌∙◌, true, List, ap, sym, subst, length, arith}
+use Rattle.std.proofs.Common.{rules, ℕ, ◌≡◌, ◌<◌, ◌≤◌, ◌+◌, ◌∙◌, true, List, ap, sym, subst, refl, length, arith}
 use Rattle.login_base.specs.declared.ids.ConnId.{ConnId}
 use Rattle.std.proofs.Math.Nat.{min-le_left}
 use Rattle.login_model.specs.Full.{connected_after, full, mark_count, marks_needed, taken_count}
@@ -9,7 +9,9 @@ use Rattle.login_laws.specs.Few.{most_taken}
 use Rattle.login_laws.specs.Keys.{most_keys, switch_keys}
 use Rattle.login_laws.specs.Need.{most_marks}
 use Rattle.login_model.specs.Trail.{Trail}
+use Rattle.login_model.specs.declared.event.Event.{Event}
 use Rattle.login_model.specs.declared.rule.Verdict.{Verdict}
+use Rattle.login_model.specs.declared.rule.Verdict.TheVariants.{Granted, Denied}
 use Rattle.login_model.specs.declared.mark.Entry.{Entry}
 use Rattle.login_laws.specs.Shares.{most_share_rise, share}
 use Rattle.login_laws.specs.Sound.{IsSound}
@@ -18,7 +20,7 @@ use Rattle.login_laws.proofs.SoundLaws.{sound-journal}
 use Rattle.login_core.specs.declared.board.keys.KeyRoom.{KeyRoom}
 use Rattle.login_core.specs.inner.Counts.{AreCounted, HoldersAreThere}
 use Rattle.login_core.specs.inner.Draft.{DraftState}
-use Rattle.login_core.specs.State.{CoreState, NextIsWide, keys_of, may_raise}
+use Rattle.login_core.specs.State.{CoreState, NextIsWide, keys_of, keys_with, marks_with, may_raise}
 use Rattle.login_core.specs.inner.Inside.{HaveEnds}
 use Rattle.login_core.specs.inner.Ledger.{end_room, next_room}
 use Rattle.login_core.proofs.EndRooms.{AreWide, all-wide, reserved-have}
@@ -89,6 +91,27 @@ make_ends-requires-clause-sound c =
     let P : Trail → Type 0 = IsSound U in
     record { setup = U; sound = subst P (sym (c.reserve.ensures.trail ∙ c.self.invariant.no_marks)) (sound-journal U m.journal.items c.self.invariant.legal) }
 
+at-most : (k m n : ℕ) → k ≤ m → m ≤ n → k ≤ n
+at-most k m n h l = omega arith
+
+-- the room for keys is enough for the switch that is pending, whatever room came to it
+keys-kept : (p : Part) (es fs : List Entry) (had got has : KeyRoom) → keys_in p (trail_of es) + switch_keys p (trail_of es) ≤ keys_of p had → fs ≡ es
+    → keys_of p had ≤ keys_of p got → has ≡ got → keys_in p (trail_of fs) + switch_keys p (trail_of fs) ≤ keys_of p has
+keys-kept p es fs had got has h items more same =
+    let P : List Entry → Type 0 = λ js. keys_in p (trail_of js) + switch_keys p (trail_of js) ≤ keys_of p got in
+    let Q : KeyRoom → Type 0 = λ r. keys_in p (trail_of fs) + switch_keys p (trail_of fs) ≤ keys_of p r in
+    subst Q (sym same) (subst P (sym items) (at-most _ _ _ h more))
+
+-- room for what was asked for is room for what an event with this verdict makes
+marks-enough : (v : Verdict) (t : Trail) (e : Event) (next reach : ℕ) → (v ≡ Granted → next ≡ most_marks (most_taken t) t e) → length t + next ≤ reach → length t + marks_with v t e ≤ reach
+marks-enough Granted t e next reach asked room = let most = asked refl in omega arith
+marks-enough (Denied broken) t e next reach asked room = omega arith
+
+keys-enough : (p : Part) (v : Verdict) (t : Trail) (e : Event) (next has : ℕ) → (v ≡ Granted → next ≡ most_keys p t e) → keys_in p t + next ≤ has → keys_in p t + switch_keys p t ≤ has
+    → keys_in p t + keys_with v p t e ≤ has
+keys-enough p Granted t e next has asked room kept = let most = asked refl in omega arith
+keys-enough p (Denied broken) t e next has asked room kept = kept
+
 pub returns-clause-ready : goal.returns-clause-ready
 returns-clause-ready c =
     let U = c.self.inside.setup in
@@ -139,15 +162,22 @@ returns-clause-ready c =
     record {
       entries = omega arith;
       far = omega arith;
-      keys = λ granted p. (
-          let asked = c.keys_needed-keys.ensures.granted (judged ∙ granted) (subst HoldersAreThere (sym before) holders) p in
+      keys = λ p. (
+          let K : Verdict → Type 0 = λ w. keys_in p t + keys_with w p t e ≤ keys_of p c.make_rings.new.self.keys in
           let most = ap (λ (u : Trail). most_keys p u e) before in
           let known = ap (keys_in p) before in
           let room = keys p in
           let same = ap (keys_of p) same_keys in
-          omega arith
+          subst K judged (keys-enough p v t e (keys_of p c.keys_needed-keys.result) (keys_of p c.make_rings.new.self.keys)
+          (λ granted. c.keys_needed-keys.ensures.granted granted (subst HoldersAreThere (sym before) holders) p ∙ most) (omega arith)
+          (keys-kept p m.journal.items es m.draft.keys r.draft.keys c.make_rings.new.self.keys (c.self.invariant.keys p) items (c.reserve.ensures.keeps_keys p) same_keys))
           );
-      reach = λ granted. (let most = c.entry_marks-next.ensures.granted (judged ∙ granted) (subst HoldersAreThere (sym before) holders) ∙ ap (λ (u : Trail). most_marks (most_taken u) u e) before in omega arith);
+      reach = (
+          let M : Verdict → Type 0 = λ w. length t + marks_with w t e ≤ c.make_rings.new.self.reach in
+          let most = ap (λ (u : Trail). most_marks (most_taken u) u e) before in
+          subst M judged (marks-enough v t e c.entry_marks-next.result c.make_rings.new.self.reach
+          (λ granted. c.entry_marks-next.ensures.granted granted (subst HoldersAreThere (sym before) holders) ∙ most) (omega arith))
+          );
       ends = subst A judged (all-wide v t e (end_room r.journal) (end_room n.journal) (λ who i. (let h = have who i in let k = c.reserve.ensures.ends who in omega arith)) (subst K behind w.keeps) wide);
       next_end = subst L judged (subst N behind c.in_ok-make_ends.ensures.next);
       rings = omega arith;
@@ -158,17 +188,6 @@ returns-clause-ready c =
     }
 
 -- ---- each end: what was made so far is kept, and who is connected has room for its end still
-
-at-most : (k m n : ℕ) → k ≤ m → m ≤ n → k ≤ n
-at-most k m n h l = omega arith
-
--- the room for keys is enough for the switch that is pending, whatever room came to it
-keys-kept : (p : Part) (es fs : List Entry) (had got has : KeyRoom) → keys_in p (trail_of es) + switch_keys p (trail_of es) ≤ keys_of p had → fs ≡ es
-    → keys_of p had ≤ keys_of p got → has ≡ got → keys_in p (trail_of fs) + switch_keys p (trail_of fs) ≤ keys_of p has
-keys-kept p es fs had got has h items more same =
-    let P : List Entry → Type 0 = λ js. keys_in p (trail_of js) + switch_keys p (trail_of js) ≤ keys_of p got in
-    let Q : KeyRoom → Type 0 = λ r. keys_in p (trail_of fs) + switch_keys p (trail_of fs) ≤ keys_of p r in
-    subst Q (sym same) (subst P (sym items) (at-most _ _ _ h more))
 
 pub invariant_of-self-in_err-make_rings : goal.invariant_of-self-in_err-make_rings
 invariant_of-self-in_err-make_rings c = record {
