@@ -7,8 +7,13 @@ use login_base::{NoMemory, Reserved};
 use std::alloc::Global;
 use std::marker::Model;
 
+/// For how many entries at least memory is taken beside those that are asked for, where there is not enough. With them the
+/// list is wide enough to be a mapping of its own from the first entry on, so it leaves no gaps among other lists as it
+/// grows.
+const LEAST_SPARE: usize = 3_400;
+
 /// The entries so far, the oldest first, and room for more.
-#[derive(Debug, Drop)]
+#[derive(Drop)]
 pub struct Journal {
     entries: Vec<Entry>,
 }
@@ -57,7 +62,8 @@ impl Journal {
     }
 
     /// Makes room for so many more entries. Where there is none yet, it takes memory for an eighth of those that there are
-    /// beside these, so that a long journal seldom gets memory and has little that it does not use.
+    /// beside these, and for `LEAST_SPARE` at least, so that a long journal seldom gets memory and has little that it does
+    /// not use.
     pub fn reserve(&mut self, more: usize) -> Result<(), NoMemory>
         ensures ok { OnOk result (more ≤ self.new.spare) }
         ensures items { self.new.items ≡ self.old.items }
@@ -65,8 +71,8 @@ impl Journal {
     {
         let entries = self.entries.len();
         if self.entries.capacity() - entries < more {
-            self.entries
-                .reserve_exact(more.saturating_add(entries / 8))?;
+            let spare = (entries / 8).max(LEAST_SPARE);
+            self.entries.reserve_exact(more.saturating_add(spare))?;
         }
         Ok(())
     }
