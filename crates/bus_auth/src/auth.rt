@@ -18,7 +18,7 @@ use std::alloc::Global;
 use std::marker::Model;
 
 /// The server's side of a handshake with a client that is to be the user of its socket.
-#[derive(Debug, Drop)]
+#[derive(Drop)]
 pub struct Auth {
     uid: Uid,
     guid: Word,

@@ -18,7 +18,7 @@ const MOST_BYTES: usize = 512;
 const MOST_LINES: u8 = 64;
 
 /// A handshake between two lines.
-#[derive(Clone, Copy, Debug)]
+#[derive(Clone, Copy)]
 pub struct Talk {
     /// What the server waits for.
     pub stage: Stage,
@@ -27,7 +27,7 @@ pub struct Talk {
 }
 
 /// How far a handshake is.
-#[derive(Clone, Copy, Debug)]
+#[derive(Clone, Copy)]
 pub enum Progress {
     /// The NUL has not come.
     WaitingForNul,

@@ -4,7 +4,7 @@ use crate::table::Ending;
 use login_base::Bytes;
 
 /// How far a handshake is.
-#[derive(Debug, Drop)]
+#[derive(Drop)]
 pub enum AuthState {
     /// It goes on.
     Going,
@@ -15,7 +15,7 @@ pub enum AuthState {
 }
 
 /// What a piece led to.
-#[derive(Debug, Drop)]
+#[derive(Drop)]
 pub struct AuthStep {
     /// What is to be sent to the client.
     pub replies: Bytes,

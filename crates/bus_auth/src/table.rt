@@ -7,7 +7,7 @@ use crate::command::{Command, Response};
 use login_base::NoMemory;
 
 /// What the server waits for ("Authentication state diagrams").
-#[derive(Clone, Copy, Debug)]
+#[derive(Clone, Copy)]
 pub enum Stage {
     WaitingForAuth,
     WaitingForData,

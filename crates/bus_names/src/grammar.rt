@@ -9,7 +9,7 @@ ghost use Rattle.bus_names.specs.inner.Grammar.{start};
 const MOST_BYTES: usize = 255;
 
 /// The kinds of names.
-#[derive(Clone, Copy, Debug, PartialEq, Eq)]
+#[derive(Clone, Copy, PartialEq, Eq)]
 pub enum Grammar {
     Path,
     Interface,
@@ -21,7 +21,7 @@ pub enum Grammar {
 }
 
 /// What was read of a name.
-#[derive(Clone, Copy, Debug, PartialEq, Eq)]
+#[derive(Clone, Copy, PartialEq, Eq)]
 pub enum Place {
     /// Nothing of a path.
     Slash,

@@ -14,25 +14,25 @@ use std::alloc::Global;
 use std::marker::Model;
 
 /// The path of an object.
-#[derive(Debug, Drop)]
+#[derive(Drop)]
 pub struct ObjectPath {
     text: Word,
 }
 
 /// The name of an interface or of an error.
-#[derive(Debug, Drop)]
+#[derive(Drop)]
 pub struct Interface {
     text: Word,
 }
 
 /// The name of a method, a signal or a property.
-#[derive(Debug, Drop)]
+#[derive(Drop)]
 pub struct Member {
     text: Word,
 }
 
 /// The name of a connection: a well-known one, or a unique one, which begins with a colon.
-#[derive(Debug, Drop)]
+#[derive(Drop)]
 pub struct BusName {
     text: Word,
 }

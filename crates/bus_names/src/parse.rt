@@ -46,7 +46,7 @@ pub struct Parser {
 }
 
 /// Why a letter is refused.
-#[derive(Clone, Copy, Debug, PartialEq, Eq)]
+#[derive(Clone, Copy, PartialEq, Eq)]
 pub enum Refusal {
     /// No signature goes on so.
     Bad,

@@ -1,7 +1,7 @@
 // The two orders of bytes.
 
 /// The order of the bytes in a number.
-#[derive(Clone, Copy, Debug, PartialEq, Eq)]
+#[derive(Clone, Copy, PartialEq, Eq)]
 pub enum Order {
     /// The lowest byte first.
     Little,

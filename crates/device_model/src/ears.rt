@@ -15,7 +15,7 @@ use std::marker::Model;
 use std::mem;
 
 /// A handle that listens to a device, and what it has heard.
-#[derive(Debug, Drop)]
+#[derive(Drop)]
 pub struct Ear {
     pub handle: HandleNo,
     pub device: DevNo,

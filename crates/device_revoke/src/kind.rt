@@ -6,7 +6,7 @@ ghost use Rattle.device_revoke.specs.inner.Kinds.{kind_at};
 use login_table::{LIVES, OWNERS, TAKES};
 
 /// A kind of key that has rows of its own.
-#[derive(Clone, Copy, Debug)]
+#[derive(Clone, Copy)]
 pub enum Kind {
     /// Whose a handle is.
     Owners,

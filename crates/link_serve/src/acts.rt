@@ -29,7 +29,7 @@ fn event_who(event: &Event) -> ConnId
 }
 
 /// What an entry that was made is answered as.
-#[derive(Clone, Copy, Debug, PartialEq, Eq)]
+#[derive(Clone, Copy, PartialEq, Eq)]
 pub struct Made {
     /// Whether its event was granted.
     pub granted: bool,

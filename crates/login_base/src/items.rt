@@ -9,7 +9,7 @@ use std::marker::Model;
 use std::mem;
 
 /// A list. It keeps the allocator that it was made with.
-#[derive(Debug, Drop)]
+#[derive(Drop)]
 pub struct Items<T> {
     items: Vec<T>,
 }

@@ -10,7 +10,7 @@ use std::marker::Model;
 use std::mem;
 
 /// A list and its spare: how many items can be put at its end without memory.
-#[derive(Debug, Drop)]
+#[derive(Drop)]
 pub struct Reserved<T> {
     items: Vec<T>,
 }

@@ -24,7 +24,7 @@ pub enum SeatFault {
 
 /// A seat's name: it begins with `seat`, has only letters, digits, dashes and underscores of ASCII,
 /// and at most 255 bytes (sd-login(3)). It is kept in place, and copied without memory.
-#[derive(Clone, Copy, Debug)]
+#[derive(Clone, Copy)]
 pub struct SeatName {
     size: usize,
     bytes: [u8; LONGEST_SEAT_NAME],

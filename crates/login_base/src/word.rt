@@ -10,7 +10,7 @@ use std::alloc::Global;
 use std::marker::Model;
 
 /// A text, as its bytes.
-#[derive(Debug, Drop)]
+#[derive(Drop)]
 pub struct Word {
     bytes: Vec<u8>,
 }

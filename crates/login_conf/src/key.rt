@@ -7,7 +7,7 @@ ghost use Rattle.login_model.specs.Words.{named};
 ghost use Rattle.login_conf.specs.Keys.{key_word, key_named, is_skipped};
 
 /// A key whose value is a number.
-#[derive(Clone, Copy, Debug)]
+#[derive(Clone, Copy)]
 pub enum NumberKey {
     AutoVts,
     SessionsMax,
@@ -15,7 +15,7 @@ pub enum NumberKey {
 }
 
 /// A key whose value is a span of time.
-#[derive(Clone, Copy, Debug)]
+#[derive(Clone, Copy)]
 pub enum SpanKey {
     InhibitDelayMax,
     UserStopDelay,
@@ -23,7 +23,7 @@ pub enum SpanKey {
 }
 
 /// A key whose value is what a key of the machine, the lid or idleness brings about.
-#[derive(Clone, Copy, Debug)]
+#[derive(Clone, Copy)]
 pub enum ActionKey {
     HandlePowerKey,
     HandleSuspendKey,
@@ -34,7 +34,7 @@ pub enum ActionKey {
 }
 
 /// A key whose value is a boolean.
-#[derive(Clone, Copy, Debug)]
+#[derive(Clone, Copy)]
 pub enum FlagKey {
     PowerKeyIgnoreInhibited,
     SuspendKeyIgnoreInhibited,
@@ -43,7 +43,7 @@ pub enum FlagKey {
 }
 
 /// A key that is kept.
-#[derive(Clone, Copy, Debug)]
+#[derive(Clone, Copy)]
 pub enum Key {
     Number(NumberKey),
     Span(SpanKey),

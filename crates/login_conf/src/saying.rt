@@ -9,7 +9,7 @@ use crate::key::{is_skipped, read_key};
 use crate::setting::{Setting, read_setting};
 
 /// Where a line stands.
-#[derive(Clone, Copy, Debug)]
+#[derive(Clone, Copy)]
 pub enum Section {
     /// Before any section.
     Before,
@@ -20,7 +20,7 @@ pub enum Section {
 }
 
 /// What a line says.
-#[derive(Clone, Copy, Debug)]
+#[derive(Clone, Copy)]
 pub enum Saying {
     Nothing,
     /// A section begins.

@@ -10,7 +10,7 @@ use login_base::Millis;
 use login_model::{Conf, KeyAction};
 
 /// A key with its value.
-#[derive(Clone, Copy, Debug)]
+#[derive(Clone, Copy)]
 pub enum Setting {
     Number(NumberKey, u32),
     Span(SpanKey, Millis),

@@ -7,7 +7,7 @@ ghost use Rattle.login_edge.specs.Readings.{Readings, with_reading, ClockCause};
 use login_base::Millis;
 
 /// What a clock answers.
-#[derive(Clone, Copy, Debug, PartialEq, Eq)]
+#[derive(Clone, Copy, PartialEq, Eq)]
 pub enum Reading {
     /// The present moment.
     At(Millis),

@@ -5,7 +5,7 @@ ghost use Rattle.std.specs.Prelude.{◌≡◌};
 use login_base::ConnId;
 
 /// Whether a call may go on.
-#[derive(Clone, Copy, Debug, PartialEq, Eq)]
+#[derive(Clone, Copy, PartialEq, Eq)]
 pub enum Leave {
     /// The call may be made.
     Go,
@@ -27,7 +27,7 @@ pub trait Gate {
 }
 
 /// A gate that lets every call go.
-#[derive(Clone, Copy, Debug, Drop)]
+#[derive(Clone, Copy, Drop)]
 pub struct OpenGate;
 
 impl OpenGate {

@@ -42,7 +42,7 @@ pub use talk::Mark;
 pub use writing::{WriteEnd, write_all};
 
 /// What a read answers.
-#[derive(Clone, Copy, Debug, PartialEq, Eq)]
+#[derive(Clone, Copy, PartialEq, Eq)]
 pub enum Got {
     /// So many bytes, at least one, stand at the front of the buffer.
     Bytes(usize),
@@ -53,7 +53,7 @@ pub enum Got {
 }
 
 /// What a write answers.
-#[derive(Clone, Copy, Debug, PartialEq, Eq)]
+#[derive(Clone, Copy, PartialEq, Eq)]
 pub enum Took {
     /// So many bytes of the front of the piece, at least one, were taken.
     Bytes(usize),

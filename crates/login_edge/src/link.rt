@@ -8,7 +8,7 @@ ghost use Rattle.login_edge.specs.Edge.{WriteCause};
 use crate::Took;
 
 /// What a read of a link answers.
-#[derive(Clone, Copy, Debug, PartialEq, Eq)]
+#[derive(Clone, Copy, PartialEq, Eq)]
 pub enum Heard {
     /// So many bytes, at least one, stand at the front of the buffer.
     Bytes(usize),

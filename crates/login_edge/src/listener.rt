@@ -8,7 +8,7 @@ use crate::link::Link;
 use login_base::{ConnId, Items, Uid};
 
 /// What opening a listener answers.
-#[derive(Clone, Copy, Debug, PartialEq, Eq)]
+#[derive(Clone, Copy, PartialEq, Eq)]
 pub enum Opened {
     /// Links may come.
     Ready,

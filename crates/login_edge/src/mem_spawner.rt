@@ -11,7 +11,7 @@ use std::marker::Model;
 
 /// A spawner that starts threads, but for the starts whose numbers, from 1, are listed: there the job
 /// declines. The count of starts stands still at its last value.
-#[derive(Debug, Drop)]
+#[derive(Drop)]
 pub struct MemSpawner {
     declined: Items<u64>,
     starts: u64,

@@ -20,7 +20,7 @@ pub(crate) fn is_listed(numbers: &Items<u64>, number: u64) -> bool
 ///
 /// The calls of `read` whose numbers, from 1, are listed fail, and no others. The count of calls stands
 /// still at its last value.
-#[derive(Debug, Drop)]
+#[derive(Drop)]
 pub struct MemSource {
     bytes: Bytes,
     at: usize,
@@ -110,7 +110,7 @@ impl Source for MemSource {
 /// The calls of `write` whose numbers, from 1, are listed fail, and those whose piece is longer than
 /// the room that is left. All others take the whole piece. The count of calls stands still at its last
 /// value.
-#[derive(Debug, Drop)]
+#[derive(Drop)]
 pub struct MemSink {
     held: Vec<u8>,
     room: usize,

@@ -9,7 +9,7 @@ use std::alloc::Global;
 use std::marker::Model;
 
 /// A piece by its length, or an answer without bytes.
-#[derive(Clone, Copy, Debug, PartialEq, Eq)]
+#[derive(Clone, Copy, PartialEq, Eq)]
 pub enum Mark {
     Heard(usize),
     Said(usize),
@@ -18,7 +18,7 @@ pub enum Mark {
 }
 
 /// A talk that is kept in memory, up to a room that is made at the start.
-#[derive(Debug, Drop)]
+#[derive(Drop)]
 pub(crate) struct Talk {
     marks: Vec<Mark>,
     hears: Vec<u8>,

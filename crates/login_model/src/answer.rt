@@ -10,7 +10,7 @@ use login_base::{ConnId, HandleNo, Items, SeatName, SessId, Uid, Word};
 
 /// What CreateSession of org.freedesktop.login1(5) answers. The object path and the runtime
 /// directory follow from the session and the user; that the session existed before is always false.
-#[derive(Clone, Copy, Debug)]
+#[derive(Clone, Copy)]
 pub struct Created {
     pub session: SessId,
     pub fifo: HandleNo,
@@ -21,7 +21,7 @@ pub struct Created {
 
 /// A row of what ListSessions of org.freedesktop.login1(5) answers. The object path follows from the
 /// session.
-#[derive(Debug, Drop)]
+#[derive(Drop)]
 pub struct SessionRow {
     pub session: SessId,
     pub uid: Uid,
@@ -43,7 +43,7 @@ impl SessionRow {
 }
 
 /// A row of what ListUsers of org.freedesktop.login1(5) answers. The object path follows from the user.
-#[derive(Debug, Drop)]
+#[derive(Drop)]
 pub struct KnownUser {
     pub uid: Uid,
     /// The user's name in the setup.
@@ -51,7 +51,7 @@ pub struct KnownUser {
 }
 
 /// What an input device reported (struct input_event of Linux).
-#[derive(Clone, Copy, Debug, PartialEq, Eq)]
+#[derive(Clone, Copy, PartialEq, Eq)]
 pub struct Input {
     pub kind: u16,
     pub code: u16,
@@ -59,7 +59,7 @@ pub struct Input {
 }
 
 /// The values of a reply.
-#[derive(Debug, Drop)]
+#[derive(Drop)]
 pub enum Answer {
     /// No value: an event that is no call, a denied one, and a call that answers nothing.
     Nothing,

@@ -8,7 +8,7 @@ use std::alloc::Global;
 use std::marker::Model;
 
 /// A value in memory of its own, so that what holds it stays small. Contracts see it as the value.
-#[derive(Debug, Drop)]
+#[derive(Drop)]
 pub struct Boxed<T> {
     inner: Box<Option<T>>,
     ghost is_there: { IsTrue (is_some inner.value) },
@@ -23,7 +23,7 @@ impl<T> Model for Boxed<T> {
 }
 
 /// Memory for one value, taken before the value is there.
-#[derive(Debug, Drop)]
+#[derive(Drop)]
 pub struct Slot<T> {
     inner: Box<Option<T>>,
 }

@@ -10,7 +10,7 @@ use login_base::{DevNo, HandleNo, Uid, Word};
 pub const LONGEST_CALL_TEXT: usize = 512;
 
 /// What CreateSession of org.freedesktop.login1(5) is called with.
-#[derive(Debug, Drop)]
+#[derive(Drop)]
 pub struct Creation {
     pub uid: Uid,
     /// The leader's process, which is a connection's number; 0 is the caller.
@@ -29,7 +29,7 @@ pub struct Creation {
 }
 
 /// What Inhibit of org.freedesktop.login1(5) is called with.
-#[derive(Debug, Drop)]
+#[derive(Drop)]
 pub struct Inhibition {
     /// What is inhibited: words parted by colons.
     pub what: Word,
@@ -41,7 +41,7 @@ pub struct Inhibition {
 }
 
 /// A property of an object, as org.freedesktop.DBus.Properties names it.
-#[derive(Debug, Drop)]
+#[derive(Drop)]
 pub struct PropertyName {
     /// The path of the object.
     pub path: Word,
@@ -52,7 +52,7 @@ pub struct PropertyName {
 
 /// A call of a client, with its arguments. Sessions are named by their ids, seats by their names, as
 /// the client wrote them.
-#[derive(Debug, Drop)]
+#[derive(Drop)]
 pub enum Call {
     /// Manager.CreateSession.
     Create(Boxed<Creation>),

@@ -6,7 +6,7 @@ use crate::operation::OpKind;
 use login_base::Millis;
 
 /// What a key, the lid or idleness brings about.
-#[derive(Clone, Copy, Debug, PartialEq, Eq)]
+#[derive(Clone, Copy, PartialEq, Eq)]
 pub enum KeyAction {
     Ignore,
     /// All sessions are locked.
@@ -16,7 +16,7 @@ pub enum KeyAction {
 }
 
 /// The configuration: a field for each key of logind.conf(5) that is kept.
-#[derive(Clone, Copy, Debug, PartialEq, Eq)]
+#[derive(Clone, Copy, PartialEq, Eq)]
 pub struct Conf {
     /// NAutoVTs: the last virtual terminal on which a getty is asked for.
     pub auto_vts: u32,

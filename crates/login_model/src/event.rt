@@ -5,7 +5,7 @@ use crate::hardware::Hardware;
 use login_base::{ConnId, Millis, Uid};
 
 /// A call with its caller.
-#[derive(Debug, Drop)]
+#[derive(Drop)]
 pub struct Request {
     pub who: ConnId,
     /// The caller's number of the call, at least 1.
@@ -16,7 +16,7 @@ pub struct Request {
 }
 
 /// What one entry of the journal is about.
-#[derive(Debug, Drop)]
+#[derive(Drop)]
 pub enum Event {
     /// A client of this user connects.
     Connect(ConnId, Uid),

@@ -13,7 +13,7 @@ use crate::setup::Setup;
 use login_base::{ConnId, DevNo, HandleNo, LockNo, Millis, SeatName, SessId, Uid};
 
 /// What a fact is about.
-#[derive(Clone, Copy, Debug)]
+#[derive(Clone, Copy)]
 pub enum Key {
     /// Whose a connection is.
     Conn(ConnId),
@@ -64,7 +64,7 @@ pub enum Key {
 }
 
 /// Whose a handle is, and what for.
-#[derive(Clone, Copy, Debug)]
+#[derive(Clone, Copy)]
 pub enum Owner {
     /// The connection has it to use the device in the session.
     Device(ConnId, SessId, DevNo),
@@ -77,7 +77,7 @@ pub enum Owner {
 }
 
 /// A fact. Each key has those that its meaning allows.
-#[derive(Debug, Drop)]
+#[derive(Drop)]
 pub enum Fact {
     /// Nothing is there.
     Absent,

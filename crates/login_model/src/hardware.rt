@@ -4,7 +4,7 @@ use crate::boxed::Boxed;
 use login_base::{DevNo, SeatName, Word};
 
 /// A kind of device that a session can take.
-#[derive(Clone, Copy, Debug, PartialEq, Eq)]
+#[derive(Clone, Copy, PartialEq, Eq)]
 pub enum DevKind {
     /// An input device (evdev).
     Evdev,
@@ -45,7 +45,7 @@ impl DevKind {
 }
 
 /// A key or switch of the machine that logind.conf(5) gives an action.
-#[derive(Clone, Copy, Debug, PartialEq, Eq)]
+#[derive(Clone, Copy, PartialEq, Eq)]
 pub enum HardKey {
     Power,
     Suspend,
@@ -91,7 +91,7 @@ impl HardKey {
 }
 
 /// An event of the hardware, or of the machine that runs sessions and operations.
-#[derive(Debug, Drop)]
+#[derive(Drop)]
 pub enum Hardware {
     /// A device of this kind appears on a seat.
     Add(DevNo, DevKind, Boxed<SeatName>),

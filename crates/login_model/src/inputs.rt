@@ -13,7 +13,7 @@ use std::marker::Model;
 const INPUTS_LIMIT: usize = 64;
 
 /// At most 64 inputs, the oldest first. It has the memory of all of them from the start.
-#[derive(Debug, Drop)]
+#[derive(Drop)]
 pub struct Inputs {
     items: Vec<Input>,
 }

@@ -69,7 +69,7 @@ fn push_word_if(out: &mut Vec<u8>, there: bool, word: &[u8]) -> Result<(), NoMem
 }
 
 /// What a lock holds up.
-#[derive(Clone, Copy, Debug)]
+#[derive(Clone, Copy)]
 pub struct Inhibited {
     pub shutdown: bool,
     pub sleep: bool,
@@ -211,7 +211,7 @@ impl Inhibited {
 }
 
 /// How a lock holds it up.
-#[derive(Clone, Copy, Debug, PartialEq, Eq)]
+#[derive(Clone, Copy, PartialEq, Eq)]
 pub enum LockMode {
     /// It is refused.
     Block,
@@ -252,7 +252,7 @@ impl LockMode {
 }
 
 /// A lock that stands.
-#[derive(Debug, Drop)]
+#[derive(Drop)]
 pub struct Lock {
     pub what: Inhibited,
     pub mode: LockMode,

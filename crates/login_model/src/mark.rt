@@ -7,7 +7,7 @@ use crate::rule::Verdict;
 use login_base::{ConnId, DevNo, HandleNo, Items, SeatName, SessId, Uid};
 
 /// Why a device is paused (org.freedesktop.login1(5), PauseDevice).
-#[derive(Clone, Copy, Debug, PartialEq, Eq)]
+#[derive(Clone, Copy, PartialEq, Eq)]
 pub enum PauseKind {
     /// The session is asked to let go of it, and has to acknowledge that.
     Pause,
@@ -34,7 +34,7 @@ impl PauseKind {
 }
 
 /// What clients are told by a signal of org.freedesktop.login1(5).
-#[derive(Clone, Copy, Debug)]
+#[derive(Clone, Copy)]
 pub enum Notice {
     /// Session.PauseDevice.
     Pause(SessId, DevNo, PauseKind),
@@ -65,21 +65,21 @@ pub enum Notice {
 }
 
 /// Whom a notice goes to.
-#[derive(Clone, Copy, Debug, PartialEq, Eq)]
+#[derive(Clone, Copy, PartialEq, Eq)]
 pub enum Whom {
     One(ConnId),
     All,
 }
 
 /// One thing that an event does.
-#[derive(Debug, Drop)]
+#[derive(Drop)]
 pub enum Mark {
     Set(Key, Fact),
     Say(Whom, Notice),
 }
 
 /// One step of the journal: an event, what the policy said to it, the answer, and what it did.
-#[derive(Debug, Drop)]
+#[derive(Drop)]
 pub struct Entry {
     pub event: Event,
     pub verdict: Verdict,

@@ -7,7 +7,7 @@ use login_base::{SessId, Word};
 use std::marker::Model;
 
 /// A session as a client names it: a text, which is read as an id once, when it is given.
-#[derive(Debug, Drop)]
+#[derive(Drop)]
 pub struct NamedSession {
     text: Word,
     session: Option<SessId>,

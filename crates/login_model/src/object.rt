@@ -18,7 +18,7 @@ use login_base::{
 use std::alloc::Global;
 
 /// An object with properties, whether there is such a one or not.
-#[derive(Clone, Copy, Debug)]
+#[derive(Clone, Copy)]
 pub enum Object {
     Manager,
     Session(SessId),

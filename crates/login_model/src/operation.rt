@@ -71,7 +71,7 @@ impl OpKind {
 }
 
 /// How far an operation has come.
-#[derive(Clone, Copy, Debug)]
+#[derive(Clone, Copy)]
 pub enum Operation {
     /// There is none.
     Idle,

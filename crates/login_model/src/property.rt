@@ -5,7 +5,7 @@ use crate::lock::Inhibited;
 use login_base::{Items, Millis, SeatName, SessId, Uid, Word};
 
 /// A property of the manager.
-#[derive(Clone, Copy, Debug)]
+#[derive(Clone, Copy)]
 pub enum ManagerProperty {
     BlockInhibited,
     DelayInhibited,
@@ -61,7 +61,7 @@ impl ManagerProperty {
 }
 
 /// A property of a session.
-#[derive(Clone, Copy, Debug)]
+#[derive(Clone, Copy)]
 pub enum SessionProperty {
     Id,
     User,
@@ -153,7 +153,7 @@ impl SessionProperty {
 }
 
 /// A property of a user.
-#[derive(Clone, Copy, Debug)]
+#[derive(Clone, Copy)]
 pub enum UserProperty {
     Uid,
     Gid,
@@ -206,7 +206,7 @@ impl UserProperty {
 }
 
 /// A property of a seat.
-#[derive(Clone, Copy, Debug)]
+#[derive(Clone, Copy)]
 pub enum SeatProperty {
     Id,
     ActiveSession,
@@ -253,7 +253,7 @@ impl SeatProperty {
 }
 
 /// A property of an object of some kind.
-#[derive(Clone, Copy, Debug)]
+#[derive(Clone, Copy)]
 pub enum Property {
     Manager(ManagerProperty),
     Session(SessionProperty),
@@ -279,7 +279,7 @@ impl Property {
 }
 
 /// The value of a property, by its type. Object paths follow from what they name.
-#[derive(Debug, Drop)]
+#[derive(Drop)]
 pub enum PropertyValue {
     Text(Word),
     /// A number of 32 bits.
@@ -302,7 +302,7 @@ pub enum PropertyValue {
 }
 
 /// A property with its value.
-#[derive(Debug, Drop)]
+#[derive(Drop)]
 pub struct PropertyRow {
     pub property: Property,
     pub value: PropertyValue,

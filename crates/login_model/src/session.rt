@@ -3,7 +3,7 @@
 use login_base::{ConnId, HandleNo, SeatName, Uid, Word};
 
 /// How far a session's life has come (sd-login(3)).
-#[derive(Clone, Copy, Debug, PartialEq, Eq)]
+#[derive(Clone, Copy, PartialEq, Eq)]
 pub enum Phase {
     Open,
     Closing,
@@ -11,7 +11,7 @@ pub enum Phase {
 }
 
 /// The type of a session (org.freedesktop.login1(5), Session objects).
-#[derive(Clone, Copy, Debug, PartialEq, Eq)]
+#[derive(Clone, Copy, PartialEq, Eq)]
 pub enum SessionType {
     Unspecified,
     Tty,
@@ -71,7 +71,7 @@ impl SessionType {
 }
 
 /// The class of a session (org.freedesktop.login1(5), Session objects).
-#[derive(Clone, Copy, Debug, PartialEq, Eq)]
+#[derive(Clone, Copy, PartialEq, Eq)]
 pub enum Class {
     User,
     Greeter,
@@ -119,7 +119,7 @@ impl Class {
 }
 
 /// Which processes of a session a signal is sent to (org.freedesktop.login1(5), KillSession).
-#[derive(Clone, Copy, Debug, PartialEq, Eq)]
+#[derive(Clone, Copy, PartialEq, Eq)]
 pub enum KillWhom {
     Leader,
     All,
@@ -158,7 +158,7 @@ impl KillWhom {
 }
 
 /// The texts that a session was created with.
-#[derive(Debug, Drop)]
+#[derive(Drop)]
 pub struct SessionTexts {
     pub service: Word,
     pub desktop: Word,
@@ -169,7 +169,7 @@ pub struct SessionTexts {
 }
 
 /// A session that was created. Its data stay when it closes and when it is gone.
-#[derive(Debug, Drop)]
+#[derive(Drop)]
 pub struct Session {
     pub phase: Phase,
     pub uid: Uid,

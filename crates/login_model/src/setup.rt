@@ -8,7 +8,7 @@ use crate::table::Table;
 use login_base::{Bytes, Items, Uid, Word};
 
 /// A user of the machine, as a line of passwd(5) has it.
-#[derive(Debug, Drop)]
+#[derive(Drop)]
 pub struct UserRow {
     pub uid: Uid,
     pub gid: u32,
@@ -18,7 +18,7 @@ pub struct UserRow {
 
 /// The machine before the first event: who it is, its users, its configuration and its policy. Root,
 /// with number 0, is always one beside the users.
-#[derive(Debug, Drop)]
+#[derive(Drop)]
 pub struct Setup {
     /// The identity of the server: 32 hex digits in lower case.
     pub guid: Word,

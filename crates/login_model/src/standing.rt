@@ -1,7 +1,7 @@
 // Who asks, in the eyes of the policy.
 
 /// How a connection stands to the machine's seats.
-#[derive(Clone, Copy, Debug, PartialEq, Eq)]
+#[derive(Clone, Copy, PartialEq, Eq)]
 pub enum Standing {
     /// Its user is root.
     Root,

@@ -9,7 +9,7 @@ use crate::operation::Operation;
 use login_base::Millis;
 
 /// What holds before the first mark: each fact that stands under some key then.
-#[derive(Debug, Drop)]
+#[derive(Drop)]
 pub struct StartFacts {
     facts: [Fact; 7],
     ghost facts_are: { facts ≡ start_facts },

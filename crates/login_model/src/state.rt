@@ -1,7 +1,7 @@
 // What state sessions and users are in.
 
 /// The state of a session or a user (sd-login(3)).
-#[derive(Clone, Copy, Debug, PartialEq, Eq)]
+#[derive(Clone, Copy, PartialEq, Eq)]
 pub enum State {
     /// A session is active on its seat, or open without one; a user has such a session.
     Active,

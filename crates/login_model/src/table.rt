@@ -33,7 +33,7 @@ impl Say {
 }
 
 /// What the policy says to one action, to all but root.
-#[derive(Clone, Copy, Debug, PartialEq, Eq)]
+#[derive(Clone, Copy, PartialEq, Eq)]
 pub struct Row {
     /// To those whose user has no open session with a seat.
     pub any: Say,
@@ -44,7 +44,7 @@ pub struct Row {
 }
 
 /// A row for each action, in the order of `Action::ALL`.
-#[derive(Clone, Copy, Debug)]
+#[derive(Clone, Copy)]
 pub struct Table {
     rows: [Row; 29],
 }

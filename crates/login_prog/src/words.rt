@@ -7,7 +7,7 @@ ghost use Rattle.login_prog.specs.inner.Words.{Means};
 use login_base::{Items, Word};
 
 /// What the program is told to do.
-#[derive(Clone, Copy, Debug)]
+#[derive(Clone, Copy)]
 pub enum Command<'w> {
     /// To read a recording and to write its transcript.
     Replay,

@@ -6,7 +6,7 @@ use login_edge::Spawner;
 use std::marker::Model;
 
 /// A spawner that starts a thread wherever the machine lets it.
-#[derive(Debug, Drop)]
+#[derive(Drop)]
 pub struct ThreadSpawner {
     faults: u64,
 }

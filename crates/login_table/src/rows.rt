@@ -20,7 +20,7 @@ use std::alloc::Global;
 use std::marker::Model;
 
 /// A fact under its key.
-#[derive(Debug, Drop)]
+#[derive(Drop)]
 pub struct Row {
     pub key: Key,
     pub fact: Fact,
@@ -29,7 +29,7 @@ pub struct Row {
 /// Facts, each under its own key: a row for each key that was ever set. Under all other keys stand the facts at the
 /// start. The places of what is there are kept beside them, so that going over what is there passes nothing that is
 /// gone.
-#[derive(Debug, Drop)]
+#[derive(Drop)]
 pub struct Rows {
     rows: Vec<Row>,
     there: Places,

@@ -21,7 +21,7 @@ use login_model::{
 use std::alloc::Global;
 
 /// A kind of word.
-#[derive(Clone, Copy, Debug, PartialEq, Eq)]
+#[derive(Clone, Copy, PartialEq, Eq)]
 pub(crate) enum WordKind {
     /// A number below 2^32.
     Number,

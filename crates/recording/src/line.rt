@@ -20,7 +20,7 @@ use login_model::{Event, UserRow};
 use std::alloc::{AllocError, Global};
 
 /// A line of a recording.
-#[derive(Debug, Drop)]
+#[derive(Drop)]
 pub enum Line {
     /// The first line, with the version of the form.
     Header(u8),

@@ -21,7 +21,7 @@ const LINE_ROOM: usize = 16385;
 const CHUNK: usize = 4096;
 
 /// What the reading of the next line answers.
-#[derive(Clone, Copy, Debug, PartialEq, Eq)]
+#[derive(Clone, Copy, PartialEq, Eq)]
 pub enum Next {
     /// There is a line.
     Line,
@@ -94,7 +94,7 @@ fn fill<S: Source>(source: &mut S, chunk: &mut Vec<u8>, at: usize, end: usize) -
 
 /// Reads lines from a source. It may have read on behind the last line: read one source with it, from
 /// its start, and through it alone.
-#[derive(Debug, Drop)]
+#[derive(Drop)]
 pub struct LineReader {
     line: Vec<u8>,
     chunk: Vec<u8>,

@@ -12,7 +12,7 @@ use std::alloc::Global;
 use std::marker::Model;
 
 /// The text of lines while it is printed. After want of memory it may hold a part of what was to be added.
-#[derive(Debug, Drop)]
+#[derive(Drop)]
 pub struct LineText {
     alloc: Global,
     bytes: Vec<u8>,

@@ -24,7 +24,7 @@ pub(crate) const LONGEST_TEXT: usize = 16384;
 pub(crate) const LONGEST_USER: usize = 255;
 
 /// Why words are not read.
-#[derive(Clone, Copy, Debug, PartialEq, Eq)]
+#[derive(Clone, Copy, PartialEq, Eq)]
 pub(crate) enum Misread {
     /// They say no value of the form that is asked for.
     Misfit,

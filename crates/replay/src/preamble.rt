@@ -28,7 +28,7 @@ use std::alloc::Global;
 const DEFAULT_GUID: &[u8] = b"0123456789abcdef0123456789abcdef";
 
 /// How the reading of a preamble ended.
-#[derive(Debug, Drop)]
+#[derive(Drop)]
 pub enum SetupEnd {
     /// The setup, what is wrong with the lines of the configuration, and how many lines were read, through `go`.
     Ready(Setup, Items<Diagnostic>, u32),

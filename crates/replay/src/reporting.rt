@@ -12,7 +12,7 @@ use login_model::Fullness;
 use std::alloc::{AllocError, Global};
 
 /// A line that is the same whenever it is said.
-#[derive(Clone, Copy, Debug, PartialEq, Eq)]
+#[derive(Clone, Copy, PartialEq, Eq)]
 pub enum StatusLine {
     /// The words of the command line are no command.
     Usage,

@@ -11,7 +11,7 @@ use login_model::{Call, PropertyName};
 use std::alloc::Global;
 
 /// A method of the bus itself (D-Bus Specification, "Message Bus Messages").
-#[derive(Clone, Copy, Debug)]
+#[derive(Clone, Copy)]
 pub enum BusMethod {
     Hello,
     GetNameOwner,
@@ -67,7 +67,7 @@ impl BusMethod {
 
 /// A method of the interface of properties, which objects have beside their own (D-Bus Specification, "Standard
 /// Interfaces").
-#[derive(Clone, Copy, Debug)]
+#[derive(Clone, Copy)]
 pub enum PropertiesMethod {
     Get,
     GetAll,
@@ -120,7 +120,7 @@ impl PropertiesMethod {
 }
 
 /// A method of the interface of peers, which every path has (D-Bus Specification, "Standard Interfaces").
-#[derive(Clone, Copy, Debug)]
+#[derive(Clone, Copy)]
 pub enum PeerMethod {
     Ping,
     GetMachineId,

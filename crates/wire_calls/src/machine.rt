@@ -9,7 +9,7 @@ use login_base::HandleNo;
 use login_model::Call;
 
 /// A method of the modelled machine, each of a handle.
-#[derive(Clone, Copy, Debug)]
+#[derive(Clone, Copy)]
 pub enum MachineMethod {
     Read,
     SetMode,

@@ -10,7 +10,7 @@ use login_model::{Boxed, Call, Creation, Inhibition, NamedSession, OpKind};
 use std::alloc::Global;
 
 /// A method of the manager (org.freedesktop.login1(5), "The Manager Object").
-#[derive(Clone, Copy, Debug)]
+#[derive(Clone, Copy)]
 pub enum ManagerMethod {
     CreateSession,
     GetSession,

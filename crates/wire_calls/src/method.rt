@@ -29,7 +29,7 @@ pub(crate) const PROPERTIES: &[u8] = b"org.freedesktop.DBus.Properties";
 pub(crate) const PEER: &[u8] = b"org.freedesktop.DBus.Peer";
 
 /// A method of an object's own interface.
-#[derive(Debug, Drop)]
+#[derive(Drop)]
 pub enum Method {
     Manager(ManagerMethod),
     /// Of the session with this id.
@@ -131,7 +131,7 @@ impl Method {
 }
 
 /// A method of any interface.
-#[derive(Debug, Drop)]
+#[derive(Drop)]
 pub enum AnyMethod {
     /// Of an object's own interface.
     Own(Method),

@@ -20,7 +20,7 @@ const MACHINE: &[u8] = b"/login/model/machine";
 const BUS: &[u8] = b"/org/freedesktop/DBus";
 
 /// An object with an interface of its own, whether there is such a one or not (org.freedesktop.login1(5)).
-#[derive(Debug, Drop)]
+#[derive(Drop)]
 pub enum Object {
     Manager,
     /// The session with this id.

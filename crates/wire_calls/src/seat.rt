@@ -10,7 +10,7 @@ use login_model::Call;
 use std::alloc::Global;
 
 /// A method of a seat (org.freedesktop.login1(5), "Seat Objects").
-#[derive(Clone, Copy, Debug)]
+#[derive(Clone, Copy)]
 pub enum SeatMethod {
     Terminate,
     ActivateSession,

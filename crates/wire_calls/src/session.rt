@@ -10,7 +10,7 @@ use login_model::{Call, NamedSession};
 use std::alloc::Global;
 
 /// A method of a session (org.freedesktop.login1(5), "Session Objects").
-#[derive(Clone, Copy, Debug)]
+#[derive(Clone, Copy)]
 pub enum SessionMethod {
     Terminate,
     Activate,

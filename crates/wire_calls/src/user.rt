@@ -9,7 +9,7 @@ use login_base::Uid;
 use login_model::Call;
 
 /// A method of a user (org.freedesktop.login1(5), "User Objects").
-#[derive(Clone, Copy, Debug)]
+#[derive(Clone, Copy)]
 pub enum UserMethod {
     Terminate,
     Kill,

@@ -11,7 +11,7 @@ use std::alloc::Global;
 use std::marker::Model;
 
 /// The place up to which the mail of a connection was fetched. It keeps no entry and no message.
-#[derive(Debug, Drop)]
+#[derive(Drop)]
 pub struct Cursor {
     who: ConnId,
     fetched: u32,

@@ -3,7 +3,7 @@
 use bus_auth::Ending;
 
 /// Where a handshake is in the end.
-#[derive(Clone, Copy, Debug, PartialEq, Eq)]
+#[derive(Clone, Copy, PartialEq, Eq)]
 pub(super) enum End {
     Going,
     Begun,

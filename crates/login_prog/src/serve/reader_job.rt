@@ -19,7 +19,7 @@ use std::sync::Wait;
 use std::thread::Promise;
 
 /// How the reading of the input ended.
-#[derive(Clone, Copy, Debug, PartialEq, Eq)]
+#[derive(Clone, Copy, PartialEq, Eq)]
 pub enum ReaderEnd {
     /// The line `stop` was read.
     Stop,

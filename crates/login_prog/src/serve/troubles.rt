@@ -9,7 +9,7 @@ use login_model::Fullness;
 use replay::Cause;
 
 /// What went wrong, in the order in which the status tells it.
-#[derive(Clone, Copy, Debug, Drop)]
+#[derive(Clone, Copy, Drop)]
 pub struct Troubles {
     pub no_memory: bool,
     pub read_fault: bool,
@@ -21,7 +21,7 @@ pub struct Troubles {
 }
 
 /// How serving ended.
-#[derive(Clone, Copy, Debug, PartialEq, Eq)]
+#[derive(Clone, Copy, PartialEq, Eq)]
 pub enum ServeEnd {
     Done,
     NoMemory,
