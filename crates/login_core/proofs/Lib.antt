@@ -13,6 +13,7 @@ pub mod OwedLaws
 pub mod OwedShares
 pub mod ConcernLaws
 pub mod TallyLaws
+pub mod SeatedLaws
 pub mod HeldOrder
 pub mod HeldRows
 pub mod HeldNext

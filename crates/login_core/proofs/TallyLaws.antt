@@ -1,7 +1,6 @@
 -- The tallies of the open sessions that have a seat.
-use Rattle.std.proofs.Common.{◌≡◌, ℕ, ◌+◌, ◌&&◌, ◌==◌, ◌<◌, ◌^◌, Bool, true, false, cond, Option, Some, None, List, [], ◌∷◌, find, length, refl, ap, sym, subst, ◌∙◌, arith, inl, inr}
+use Rattle.std.proofs.Common.{◌≡◌, ℕ, ◌+◌, ◌==◌, ◌<◌, ◌^◌, Bool, true, false, cond, Option, Some, None, List, [], ◌∷◌, find, length, refl, ap, sym, subst, ◌∙◌, arith, inl, inr}
 use Rattle.std.specs.Prelude.{slice_index}
-use Rattle.std.specs.Option.{is_some}
 use Rattle.std.proofs.lemmas.Bool.Decides.{nat_tests}
 use Rattle.std.proofs.lemmas.Nat.{mod_below}
 use Rattle.login_base.specs.declared.ids.SessId.{SessId}
@@ -12,21 +11,18 @@ use Rattle.login_model.specs.declared.fact.Fact.TheVariants as fact
 use Rattle.login_model.specs.declared.mark.Mark.TheVariants.{Set, Say}
 use Rattle.login_model.specs.declared.mark.Whom.{Whom}
 use Rattle.login_model.specs.declared.mark.Notice.{Notice}
-use Rattle.login_model.specs.Facts.{is_on_terminal, is_open_phase, is_open_fact, is_seat0, is_seated_of, seated_user, terminal_in}
+use Rattle.login_model.specs.Facts.{seated_user, terminal_in}
 use Rattle.login_model.specs.Kind.{AreKeys}
 use Rattle.login_model.specs.Names.{names, session_in, session_lt}
-use Rattle.login_model.specs.Standing.{has_seat}
 use Rattle.login_model.specs.Trail.{Trail, value}
-use Rattle.login_model.specs.Where.{session_on, sessions}
 use Rattle.login_model.proofs.InOrder.{IsIn}
-use Rattle.login_model.proofs.Keys.{both, same-number, test}
+use Rattle.login_model.proofs.Keys.{test}
 use Rattle.login_model.proofs.NameLaws.{session_keys, session_order}
-use Rattle.login_laws.proofs.Paying.{open-session}
-use Rattle.login_table.proofs.Listing.{Kind, all, kind, session_kind, sessions-all}
+use Rattle.login_table.proofs.Listing.{Kind, all, kind}
 use Rattle.login_core.specs.declared.board.seating.Seating.{Seating}
 use Rattle.login_core.specs.declared.board.seating.Tally.{Tally}
 use Rattle.login_core.specs.inner.Counts.{one_if, one_there}
-use Rattle.login_core.specs.inner.Seating.{AreLow, AreSeated, AreTallied, CanSeat, CanShift, Seats, Shifts, bucket_of, buckets, high_in, is_at, is_none_at, is_one_at, place_under, placed_at}
+use Rattle.login_core.specs.inner.Seating.{AreSeated, AreTallied, CanSeat, CanShift, Seats, Shifts, bucket_of, buckets, elsewhere_in, high_in, is_at, place_under, placed_at}
 use Rattle.login_core.proofs.CountLaws.{count-say, fits, follows, kind-list}
 
 -- ---- the sessions of a bucket
@@ -34,7 +30,7 @@ use Rattle.login_core.proofs.CountLaws.{count-say, fits, follows, kind-list}
 no-session : {s : SessId} → None ≡ Some s → ⊥
 no-session e = cc
 
-not-so : {b : Bool} → b ≡ true → b ≡ false → ⊥
+pub not-so : {b : Bool} → b ≡ true → b ≡ false → ⊥
 not-so {b} p q = let z : true ≡ false = sym p ∙ q in cc
 
 -- what is absent is in no bucket
@@ -89,6 +85,7 @@ seated-set s u k x t a f = record {
   terminals = tallied-set terminal_in refl s.terminals u.terminals k x t a.terminals f.terminals;
   high = tallied-set high_in refl s.high u.high k x t a.high f.high;
   users = tallied-set seated_user refl s.users u.users k x t a.users f.users;
+  elsewhere = tallied-set elsewhere_in refl s.elsewhere u.elsewhere k x t a.elsewhere f.elsewhere;
 }
 
 seated-fit : (s : Seating) (k : Key) (x : Fact) (t : Trail) → AreSeated s t → length t + 2 < 2 ^ 32 → CanSeat s k (value t k) x
@@ -96,6 +93,7 @@ seated-fit s k x t a few = record {
   terminals = tallied-fit terminal_in refl s.terminals k x t a.terminals few;
   high = tallied-fit high_in refl s.high k x t a.high few;
   users = tallied-fit seated_user refl s.users k x t a.users few;
+  elsewhere = tallied-fit elsewhere_in refl s.elsewhere k x t a.elsewhere few;
 }
 
 pub seated-say : (s : Seating) (w : Whom) (n : Notice) (t : Trail) → AreSeated s t → AreSeated s (Say w n ∷ t)
@@ -103,6 +101,7 @@ seated-say s w n t a = record {
   terminals = tallied-say terminal_in refl s.terminals w n t a.terminals;
   high = tallied-say high_in refl s.high w n t a.high;
   users = tallied-say seated_user refl s.users w n t a.users;
+  elsewhere = tallied-say elsewhere_in refl s.elsewhere w n t a.elsewhere;
 }
 
 tallied-none : (place_in : Fact → Option ℕ) (c : Tally) → ((v : ℕ) → v < buckets → slice_index c.counts v ≡ 0) → AreTallied place_in c []
@@ -110,8 +109,13 @@ unfolding placed_at names
 tallied-none place_in c e = record { at = e }
 
 pub seated-none : (s : Seating) → ((v : ℕ) → v < buckets → slice_index s.terminals.counts v ≡ 0) → ((v : ℕ) → v < buckets → slice_index s.high.counts v ≡ 0)
-    → ((v : ℕ) → v < buckets → slice_index s.users.counts v ≡ 0) → AreSeated s []
-seated-none s e h f = record { terminals = tallied-none terminal_in s.terminals e; high = tallied-none high_in s.high h; users = tallied-none seated_user s.users f }
+    → ((v : ℕ) → v < buckets → slice_index s.users.counts v ≡ 0) → ((v : ℕ) → v < buckets → slice_index s.elsewhere.counts v ≡ 0) → AreSeated s []
+seated-none s e h f g = record {
+  terminals = tallied-none terminal_in s.terminals e;
+  high = tallied-none high_in s.high h;
+  users = tallied-none seated_user s.users f;
+  elsewhere = tallied-none elsewhere_in s.elsewhere g;
+}
 
 -- a fact that was read of the tables, and one that is a copy
 pub seated-room : (s : Seating) (k : Key) (x y : Fact) (t : Trail) → AreSeated s t → y ≡ value t k → length t + 2 < 2 ^ 32 → CanSeat s k y x
@@ -125,10 +129,10 @@ seated-noted s u k x y z t a e f h =
 
 -- ---- no session in a bucket, or one alone
 
-bound : (n : ℕ) → bucket_of n < buckets
+pub bound : (n : ℕ) → bucket_of n < buckets
 bound n = mod_below n buckets (omega arith)
 
-equal : (n m : ℕ) → n ≡ m → (n == m) ≡ true
+pub equal : (n m : ℕ) → n ≡ m → (n == m) ≡ true
 equal n m e = grind (arith, nat_tests)
 
 none-in : {A : Type 0} (a : A) (xs : List A) → length xs ≡ 0 → IsIn a xs → ⊥
@@ -142,11 +146,11 @@ one-in a b (x ∷ []) e (inr i) j = absurd i
 one-in a b (x ∷ []) e i (inr j) = absurd j
 one-in a b (x ∷ y ∷ ys) e i j = absurd (omega arith)
 
-find-nobody : {A : Type 0} (p : A → Bool) (xs : List A) → ((a : A) → p a ≡ false) → find p xs ≡ None
+pub find-nobody : {A : Type 0} (p : A → Bool) (xs : List A) → ((a : A) → p a ≡ false) → find p xs ≡ None
 find-nobody p [] h = refl
 find-nobody p (x ∷ xs) h = ap (λ (b : Bool). cond b (Some x) (find p xs)) (h x) ∙ find-nobody p xs h
 
-find-only : {A : Type 0} (p : A → Bool) (a : A) (xs : List A) → p a ≡ true → ((b : A) → p b ≡ true → b ≡ a) → IsIn a xs → find p xs ≡ Some a
+pub find-only : {A : Type 0} (p : A → Bool) (a : A) (xs : List A) → p a ≡ true → ((b : A) → p b ≡ true → b ≡ a) → IsIn a xs → find p xs ≡ Some a
 find-only p a [] e h i = absurd i
 find-only p a (x ∷ xs) e h (inl q) = ap (λ (b : Bool). cond b (Some x) (find p xs)) (ap p (sym q) ∙ e) ∙ ap Some (sym q)
 find-only p a (x ∷ xs) e h (inr i) = elim (test (p x)) [
@@ -155,77 +159,15 @@ find-only p a (x ∷ xs) e h (inr i) = elim (test (p x)) [
 ]
 
 -- there is none where there are no more than none
-nobody-at : (place_in : Fact → Option ℕ) (v : ℕ) (t : Trail) → place_in fact.Absent ≡ None → length (placed_at place_in t v) ≡ 0 → (s : SessId) → is_at (place_in (value t (key.Sess s))) v ≡ false
+pub nobody-at : (place_in : Fact → Option ℕ) (v : ℕ) (t : Trail) → place_in fact.Absent ≡ None → length (placed_at place_in t v) ≡ 0 → (s : SessId) → is_at (place_in (value t (key.Sess s))) v ≡ false
 nobody-at place_in v t none e s = elim (test (is_at (place_in (value t (key.Sess s))) v)) [
   | inl y ↦ absurd (none-in s (all (at place_in v none) t) (sym (at-all place_in v none t) ∙ e) ((kind-list (at place_in v none) t).has s y))
   | inr n ↦ n
 ]
 
 -- and no other than one where there is one
-alone-at : (place_in : Fact → Option ℕ) (v : ℕ) (t : Trail) → place_in fact.Absent ≡ None → length (placed_at place_in t v) ≡ 1
+pub alone-at : (place_in : Fact → Option ℕ) (v : ℕ) (t : Trail) → place_in fact.Absent ≡ None → length (placed_at place_in t v) ≡ 1
     → (s r : SessId) → is_at (place_in (value t (key.Sess s))) v ≡ true → is_at (place_in (value t (key.Sess r))) v ≡ true → r ≡ s
 alone-at place_in v t none e s r i j =
     let l = kind-list (at place_in v none) t in
     one-in s r (all (at place_in v none) t) (sym (at-all place_in v none t) ∙ e) (l.has s i) (l.has r j)
-
--- ---- terminals
-
-in-bucket : (a b : Bool) (n m : ℕ) → a ≡ true → b ≡ true → n ≡ m → is_at (cond (a && b) (Some n) None) (bucket_of m) ≡ true
-in-bucket true true n m p q e = equal (bucket_of n) (bucket_of m) (ap bucket_of e)
-in-bucket true false n m p q e = absurd (not-so q refl)
-in-bucket false b n m p q e = absurd (not-so p refl)
-
-on-parts : (a b c : Bool) → (a && b && c) ≡ true → (a ≡ true) × (b ≡ true) × (c ≡ true)
-on-parts a b c e = (let h = both (a && b) c e in let i = both a b h.0 in (i.0, i.1, h.1))
-
-terminal-at : (x : Fact) (v : ℕ) → is_on_terminal (fact.Number v) x ≡ true → is_at (terminal_in x) (bucket_of v) ≡ true
-terminal-at (fact.Session x) v e =
-    let h = on-parts (is_open_phase x.phase) (is_seat0 x.seat) (x.vt == v) e in
-    in-bucket (is_open_phase x.phase) (is_seat0 x.seat) x.vt v h.0 h.1 (same-number x.vt v h.2)
-terminal-at _ v e = cc
-
-open-fact : (x : Fact) (v : ℕ) → is_on_terminal (fact.Number v) x ≡ true → is_open_fact x ≡ true
-open-fact (fact.Session x) v e = (on-parts (is_open_phase x.phase) (is_seat0 x.seat) (x.vt == v) e).0
-open-fact _ v e = cc
-
-pub terminal-free : (c : Tally) (t : Trail) (v : ℕ) → AreTallied terminal_in c t → is_none_at c v ≡ true → session_on t v ≡ None
-unfolding session_on
-terminal-free c t v a e =
-    let p = λ (s : SessId). is_on_terminal (fact.Number v) (value t (key.Sess s)) in
-    let none = sym (a.at (bucket_of v) (bound v)) ∙ same-number (slice_index c.counts (bucket_of v)) 0 e in
-    find-nobody p (sessions t) (λ s. elim (test (p s)) [
-      | inl y ↦ absurd (not-so (terminal-at (value t (key.Sess s)) v y) (nobody-at terminal_in (bucket_of v) t refl none s))
-      | inr n ↦ n
-    ])
-
-pub terminal-alone : (c : Tally) (t : Trail) (v : ℕ) (s : SessId) → AreTallied terminal_in c t → is_one_at c v ≡ true → is_on_terminal (fact.Number v) (value t (key.Sess s)) ≡ true → session_on t v ≡ Some s
-unfolding session_on
-terminal-alone c t v s a e on =
-    let p = λ (r : SessId). is_on_terminal (fact.Number v) (value t (key.Sess r)) in
-    let one = sym (a.at (bucket_of v) (bound v)) ∙ same-number (slice_index c.counts (bucket_of v)) 1 e in
-    let P : List SessId → Type 0 = IsIn s in
-    find-only p s (sessions t) on
-    (λ r h. alone-at terminal_in (bucket_of v) t refl one s r (terminal-at (value t (key.Sess s)) v on) (terminal-at (value t (key.Sess r)) v h))
-    (subst P (sym (sessions-all t)) ((kind-list session_kind t).has s (open-session t s (open-fact (value t (key.Sess s)) v on))))
-
-pub none-high : (c : Tally) (t : Trail) → AreTallied high_in c t → is_none_at c 0 ≡ true → AreLow t
-none-high c t a e = record {
-  low = λ s. nobody-at high_in 0 t refl (sym (a.at 0 (omega arith)) ∙ same-number (slice_index c.counts 0) 0 e) s;
-}
-
--- ---- users
-
-seated-at : (x : Fact) (uid : ℕ) → is_seated_of uid x ≡ true → is_at (seated_user x) (bucket_of uid) ≡ true
-seated-at (fact.Session x) uid e =
-    let h = on-parts (is_open_phase x.phase) (x.uid.0 == uid) (is_some x.seat) e in
-    in-bucket (is_open_phase x.phase) (is_some x.seat) x.uid.0 uid h.0 h.2 (same-number x.uid.0 uid h.1)
-seated-at _ uid e = cc
-
-pub seatless : (c : Tally) (t : Trail) (uid : ℕ) → AreTallied seated_user c t → is_none_at c uid ≡ true → has_seat t uid ≡ false
-seatless c t uid a e =
-    let p = λ (s : SessId). is_seated_of uid (value t (key.Sess s)) in
-    let none = sym (a.at (bucket_of uid) (bound uid)) ∙ same-number (slice_index c.counts (bucket_of uid)) 0 e in
-    ap is_some (find-nobody p (sessions t) (λ s. elim (test (p s)) [
-      | inl y ↦ absurd (not-so (seated-at (value t (key.Sess s)) uid y) (nobody-at seated_user (bucket_of uid) t refl none s))
-      | inr n ↦ n
-    ]))

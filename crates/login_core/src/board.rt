@@ -10,6 +10,7 @@ pub mod holding;
 pub mod keys;
 pub mod owing;
 pub mod rounds;
+pub mod seated;
 pub mod seating;
 pub mod setting;
 pub mod shares;
@@ -332,6 +333,10 @@ impl Look for Draft {
 
     fn is_seated(&self, uid: u32) -> bool {
         self.so_far().has_seat(uid)
+    }
+
+    fn is_active_user(&self, uid: u32) -> bool {
+        self.so_far().has_active(uid)
     }
 }
 

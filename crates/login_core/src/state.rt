@@ -418,4 +418,8 @@ impl Look for Core {
     fn is_seated(&self, uid: u32) -> bool {
         self.draft().is_seated(uid)
     }
+
+    fn is_active_user(&self, uid: u32) -> bool {
+        self.draft().is_active_user(uid)
+    }
 }

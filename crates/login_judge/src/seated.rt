@@ -1,25 +1,12 @@
-// Tests of sessions by their users.
+// A test of sessions by their users.
 
 ghost use Rattle.login_model.specs.declared.fact.Key.TheVariants.{Sess};
 ghost use Rattle.login_model.specs.Facts.{is_other_user};
-ghost use Rattle.login_model.specs.Standing.{is_active_of};
 ghost use Rattle.login_model.specs.Trail.{value};
 
 use login_base::SessId;
 use login_model::{Key, Look};
-use login_table::{Test, is_active};
-
-/// It is open, its user's, and active on its seat.
-#[derive(Drop)]
-pub(crate) struct ActiveOf(pub u32);
-
-impl Test<SessId> for ActiveOf {
-    ghost meets = { λ test t s. is_active_of t test.0 s };
-
-    fn is_met<F: Look>(&self, facts: &F, session: SessId) -> bool {
-        facts.fact(&Key::Sess(session)).is_open_of(self.0) && is_active(facts, session)
-    }
-}
+use login_table::Test;
 
 /// It is open, of the class of users, and another user's.
 #[derive(Drop)]

@@ -5,15 +5,13 @@ ghost use Rattle.login_model.specs.Standing.{standing_of, standing};
 ghost use Rattle.login_model.specs.Policy.{say, action_refused, action_challenge, first_broken, is_own, own_or_refused, own_or_challenge, meant_user, linger_action, uid_of};
 ghost use Rattle.login_judge.specs.inner.Needed.{needed, objection};
 
-use crate::seated::ActiveOf;
 use crate::session_calls::first_broken;
 use login_base::ConnId;
 use login_model::{Action, Key, Look, Rule, Say, Setup, Standing, Verdict};
 use login_policy::ask;
-use login_table::find_session;
 
-/// How a user's connections stand. Who has no open session with a seat has none that is active on one, so the
-/// sessions are gone over for those users alone who have.
+/// How a user's connections stand. Who has no open session with a seat has none that is active on one, so that is
+/// asked first.
 #[tactic(auto, using(crate::proofs::Seatless::seatless), unfolding(login_model::specs::Standing::standing_of))]
 fn standing_of<F: Look>(facts: &F, uid: u32) -> Standing
     ensures { result ≡ standing_of (F.trail facts.now) uid }
@@ -22,7 +20,7 @@ fn standing_of<F: Look>(facts: &F, uid: u32) -> Standing
         Standing::Root
     } else if !facts.is_seated(uid) {
         Standing::Any
-    } else if find_session(facts, &ActiveOf(uid)).is_some() {
+    } else if facts.is_active_user(uid) {
         Standing::Active
     } else {
         Standing::Inactive

@@ -79,6 +79,10 @@ seat_interface = codes "org.freedesktop.login1.Seat"
 abbrev pub user_interface : List ℕ
 user_interface = codes "org.freedesktop.login1.User"
 
+-- that of properties, which some objects have beside their own
+abbrev pub properties_interface : List ℕ
+properties_interface = codes "org.freedesktop.DBus.Properties"
+
 -- the interface that is an object's own
 abbrev pub own_interface : Object → List ℕ
 own_interface Manager = manager_interface

@@ -50,8 +50,8 @@ pub use named::NamedSession;
 pub use object::{Object, is_object, named_object};
 pub use operation::{OpKind, Operation};
 pub use paths::{
-    MANAGER_INTERFACE, MANAGER_PATH, SEAT_FRONT, SEAT_INTERFACE, SESSION_FRONT, SESSION_INTERFACE,
-    USER_FRONT, USER_INTERFACE,
+    MANAGER_INTERFACE, MANAGER_PATH, PROPERTIES_INTERFACE, SEAT_FRONT, SEAT_INTERFACE,
+    SESSION_FRONT, SESSION_INTERFACE, USER_FRONT, USER_INTERFACE,
 };
 pub use property::{
     ManagerProperty, Property, PropertyRow, PropertyValue, SeatProperty, SessionProperty,

@@ -5,7 +5,7 @@ ghost use Rattle.login_model.specs.Trail.{Trail, value};
 ghost use Rattle.login_model.specs.Fresh.{next_handle};
 ghost use Rattle.login_model.specs.Names.{IsNext, session_lt, user_lt, conn_lt, seat_lt, device_lt, lock_lt};
 ghost use Rattle.login_model.specs.Where.{is_session, is_user, is_connected, is_seat, is_device, is_lock, sessions, connections, devices, locks, session_on};
-ghost use Rattle.login_model.specs.Standing.{has_seat};
+ghost use Rattle.login_model.specs.Standing.{has_active, has_seat};
 ghost use Rattle.login_model.specs.Devices.{is_taken};
 
 use crate::fact::{Fact, Key};
@@ -82,4 +82,8 @@ pub trait Look {
     /// Whether an open session of a user has a seat.
     fn is_seated(&self, uid: u32) -> bool
         ensures { result ≡ has_seat (trail self.now) uid };
+
+    /// Whether an open session of a user is active on its seat.
+    fn is_active_user(&self, uid: u32) -> bool
+        ensures { result ≡ has_active (trail self.now) uid };
 }

@@ -23,3 +23,7 @@ pub const SEAT_INTERFACE: &[u8] = b"org.freedesktop.login1.Seat";
 
 /// The interface of users.
 pub const USER_INTERFACE: &[u8] = b"org.freedesktop.login1.User";
+
+/// The interface of properties, which some objects have beside their own (D-Bus Specification, "Standard
+/// Interfaces").
+pub const PROPERTIES_INTERFACE: &[u8] = b"org.freedesktop.DBus.Properties";

@@ -16,7 +16,7 @@ use Rattle.login_model.specs.Names.{IsNext, conn_lt, device_lt, is_above, lock_l
 use Rattle.login_model.specs.Procedure.{each, force, if_some, resume, untake}
 use Rattle.login_model.specs.Facts.{is_number_fact}
 use Rattle.login_model.specs.Same.{same_fact}
-use Rattle.login_model.specs.Standing.{has_seat}
+use Rattle.login_model.specs.Standing.{has_active, has_seat}
 use Rattle.login_model.specs.Start.{seat0}
 use Rattle.login_model.specs.Switching.{ask_switch, await_devices, request, settle_switch, withdraw_switch}
 use Rattle.login_model.specs.Taking.{acknowledge}
@@ -181,3 +181,7 @@ none-on v = no-one v
 pub none-seated : (u : ℕ) → has_seat [] u ≡ false
 unfolding sessions names
 none-seated u = refl
+
+pub nobody-active : (u : ℕ) → has_active [] u ≡ false
+unfolding sessions names
+nobody-active u = refl

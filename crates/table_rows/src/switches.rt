@@ -84,6 +84,10 @@ impl Look for Blank {
     fn is_seated(&self, uid: u32) -> bool {
         false
     }
+
+    fn is_active_user(&self, uid: u32) -> bool {
+        false
+    }
 }
 
 /// A list with a notice in it, and room for one mark more.

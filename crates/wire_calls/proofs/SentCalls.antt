@@ -21,7 +21,7 @@ use Rattle.wire_calls.specs.Methods.{peer_named, properties_named, signed_any}
 use Rattle.wire_calls.specs.Methods.{object_of as method_object}
 use Rattle.wire_calls.specs.Objects.{HasName, interface_of, object_of}
 use Rattle.wire_calls.specs.Reading.{call_of, is_peer, lets}
-use Rattle.wire_calls.specs.Reading.{properties as properties_interface}
+use Rattle.login_model.specs.Objects.{properties_interface}
 use Rattle.wire_calls.specs.inner.Fitting.{FitsAny, FitsMethod}
 use Rattle.wire_calls.specs.Sending.{HasTexts, IsSent, arguments_of, is_other, message_with, own_sent_as, path_at, sent_as}
 use Rattle.wire_calls.proofs.TextBytes.{short_text, text_is}

@@ -52,7 +52,8 @@ use Rattle.wire_calls.specs.Laws.{MayStand}
 use Rattle.wire_calls.specs.Methods.{method_named, signed_any}
 use Rattle.wire_calls.specs.Objects.{begins, behind, bus_path, has_properties, if_text, interface_of, machine_path, manager_path, object_of, seat_front, session_front, user_front, user_of}
 use Rattle.wire_calls.specs.Reading.{at_path, call_of, is_peer, lets, method_of, on_method, on_object, own_method, peer_method, properties_method, request_of}
-use Rattle.wire_calls.specs.Reading.{peer as peer_interface, properties as properties_interface}
+use Rattle.login_model.specs.Objects.{properties_interface}
+use Rattle.wire_calls.specs.Reading.{peer as peer_interface}
 use Rattle.wire_calls.specs.Sending.{HasTexts}
 use Rattle.wire_calls.proofs.TextBytes.{both}
 use Rattle.wire_calls.proofs.PropertyPaths.{properties_object}

@@ -11,14 +11,12 @@ use Rattle.bus_message.specs.declared.message.Message.{Message}
 use Rattle.wire_calls.specs.declared.object.Object.{Object}
 use Rattle.wire_calls.specs.declared.method.AnyMethod.{AnyMethod}
 use Rattle.wire_calls.specs.declared.method.AnyMethod.TheVariants.{Own}
+use Rattle.login_model.specs.Objects.{properties_interface}
 use Rattle.wire_calls.specs.Objects.{has_properties, interface_of, object_of}
 use Rattle.wire_calls.specs.Methods.{method_named, peer_named, properties_named}
 use Rattle.wire_calls.specs.Calls.{call_with}
 
--- the interface of properties, and that of peers, which every path has
-abbrev pub properties : List ℕ
-properties = codes "org.freedesktop.DBus.Properties"
-
+-- the interface of peers, which every path has
 abbrev pub peer : List ℕ
 peer = codes "org.freedesktop.DBus.Peer"
 
@@ -37,7 +35,7 @@ own_method interface member o = if lets interface (interface_of o) then option_m
 
 abbrev pub properties_method : List ℕ → Option (List ℕ) → List ℕ → Object → Option AnyMethod
 properties_method path interface member o =
-    if has_properties o && lets interface properties then properties_named path member else None
+    if has_properties o && lets interface properties_interface then properties_named path member else None
 
 abbrev pub peer_method : Option (List ℕ) → List ℕ → Option AnyMethod
 peer_method interface member = if lets interface peer then peer_named member else None

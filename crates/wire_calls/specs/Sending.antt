@@ -30,7 +30,8 @@ use Rattle.wire_calls.specs.declared.bus.PropertiesMethod.TheVariants as propert
 use Rattle.wire_calls.specs.declared.bus.PeerMethod.TheVariants as peer
 use Rattle.wire_calls.specs.declared.method.Method.TheVariants.{Manager, Session, Seat, User, Machine, Bus}
 use Rattle.wire_calls.specs.Objects.{interface_of, manager_path, path_of}
-use Rattle.wire_calls.specs.Reading.{peer as peer_interface, properties as properties_interface}
+use Rattle.login_model.specs.Objects.{properties_interface}
+use Rattle.wire_calls.specs.Reading.{peer as peer_interface}
 use Rattle.wire_calls.specs.Methods.{object_of, signed_any}
 
 -- the method of an object's own interface as which a call is sent: the manager's where it has one

@@ -18,12 +18,8 @@ use bus_message::made_path;
 use bus_names::ObjectPath;
 use bus_value::{Value, Values};
 use login_base::{NoMemory, Uid, Word};
-use login_model::{Call, NamedSession};
+use login_model::{Call, NamedSession, PROPERTIES_INTERFACE};
 use std::alloc::Global;
-
-/// The interface of properties, which some objects have beside their own (D-Bus Specification, "Standard
-/// Interfaces").
-pub(crate) const PROPERTIES: &[u8] = b"org.freedesktop.DBus.Properties";
 
 /// The interface of peers, which every path has.
 pub(crate) const PEER: &[u8] = b"org.freedesktop.DBus.Peer";
@@ -217,7 +213,10 @@ impl AnyMethod {
                 let interface = object.interface();
                 Ok((object.path(alloc)?, interface))
             }
-            AnyMethod::Properties(path, _) => Ok((made_path(alloc, path.as_slice())?, PROPERTIES)),
+            AnyMethod::Properties(path, _) => Ok((
+                made_path(alloc, path.as_slice())?,
+                PROPERTIES_INTERFACE,
+            )),
             AnyMethod::Peer(_) => Ok((Object::Manager.path(alloc)?, PEER)),
         }
     }

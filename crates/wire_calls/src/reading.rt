@@ -3,15 +3,16 @@
 ghost use Rattle.std.specs.Prelude.{◌≡◌, ◌&&◌, if◌then◌else◌, IfOk, None, Some};
 ghost use Rattle.std.specs.Option.{option_and_then};
 ghost use Rattle.wire_calls.specs.Methods.{properties_named};
-ghost use Rattle.wire_calls.specs.Reading.{at_path, call_of, is_peer, lets, method_of, on_method, on_object, own_method, peer_method, properties, request_of};
+ghost use Rattle.login_model.specs.Objects.{properties_interface};
+ghost use Rattle.wire_calls.specs.Reading.{at_path, call_of, is_peer, lets, method_of, on_method, on_object, own_method, peer_method, request_of};
 
 use crate::bus::{PeerMethod, PropertiesMethod};
-use crate::method::{AnyMethod, Method, PEER, PROPERTIES, call_with};
+use crate::method::{AnyMethod, Method, PEER, call_with};
 use crate::object::{Object, object_of};
 use bus_message::Message;
 use bus_names::{Interface, ObjectPath};
 use login_base::{ConnId, NoMemory, Word};
-use login_model::{Call, Request};
+use login_model::{Call, PROPERTIES_INTERFACE, Request};
 use std::alloc::Global;
 
 /// The kind of messages that are calls.
@@ -84,9 +85,9 @@ fn properties_method(
     name: &[u8],
     has_properties: bool,
 ) -> Result<Option<AnyMethod>, NoMemory>
-    ensures { IfOk result (λ method. method ≡ if has_properties && lets interface.now properties then properties_named path.now name.now else None) }
+    ensures { IfOk result (λ method. method ≡ if has_properties && lets interface.now properties_interface then properties_named path.now name.now else None) }
 {
-    if has_properties && lets(interface, PROPERTIES) {
+    if has_properties && lets(interface, PROPERTIES_INTERFACE) {
         properties_named(alloc, path, name)
     } else {
         Ok(None)

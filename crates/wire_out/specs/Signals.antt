@@ -2,10 +2,13 @@
 -- Interfaces").
 use Rattle.std.specs.Prelude.{ℕ, Bool, true, false, Option, Some, None, List, [], ◌∷◌, ◌++◌, codes}
 use Rattle.login_base.specs.declared.ids.SessId.{SessId}
-pub use Rattle.login_model.specs.Objects.{manager_interface, session_interface, seat_interface}
+pub use Rattle.login_model.specs.Objects.{manager_interface, properties_interface, session_interface, seat_interface}
 pub use Rattle.login_model.specs.Paths.{manager_path}
 use Rattle.login_model.specs.Paths.{session_path, seat_path}
+use Rattle.login_model.specs.PropertyNames.{seat_property_name, session_property_name}
 use Rattle.login_model.specs.Words.{pause_word}
+use Rattle.login_model.specs.declared.property.SeatProperty.TheVariants as of_seat
+use Rattle.login_model.specs.declared.property.SessionProperty.TheVariants as of_session
 use Rattle.login_model.specs.declared.mark.Notice.{Notice}
 use Rattle.login_model.specs.declared.mark.Notice.TheVariants as notice
 use Rattle.bus_names.specs.declared.basic.Basic.TheVariants as types
@@ -26,17 +29,17 @@ manager_signal member vs = signal_message manager_path manager_interface member 
 -- a property of an object has changed to this value, and no other has
 abbrev pub changed : List ℕ → List ℕ → List ℕ → Val → Message
 changed object interface property value =
-    signal_message object (codes "org.freedesktop.DBus.Properties") (codes "PropertiesChanged")
+    signal_message object properties_interface (codes "PropertiesChanged")
     (text interface ∷ dict types.Str variant_type (entry (Str property) (variant value) no_entries) ∷ array (basic_type types.Str) none ∷ [])
 
 -- whether a session is active has changed, if it is one
 abbrev pub active_changed : Option SessId → Bool → List Message
-active_changed (Some s) active = changed (session_path s) session_interface (codes "Active") (flag active) ∷ []
+active_changed (Some s) active = changed (session_path s) session_interface (session_property_name of_session.Active) (flag active) ∷ []
 active_changed None active = []
 
 -- which session a seat has active has changed
 abbrev pub seat_changed : List ℕ → Option SessId → Message
-seat_changed seat now = changed (seat_path seat) seat_interface (codes "ActiveSession") (structure (reference_or_none now))
+seat_changed seat now = changed (seat_path seat) seat_interface (seat_property_name of_seat.ActiveSession) (structure (reference_or_none now))
 
 -- a change of a seat's active session is told of the session before, of the one now, and of the seat
 unfoldable pub signals : Notice → List Message

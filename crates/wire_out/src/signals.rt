@@ -21,7 +21,10 @@ use bus_message::{Message, alone, flag, made_path, number};
 use bus_names::{Basic, ObjectPath, Type};
 use bus_value::{BasicValue, Value};
 use login_base::{DevNo, NoMemory, SeatName, SessId, Word};
-use login_model::{MANAGER_INTERFACE, MANAGER_PATH, Notice, SEAT_INTERFACE, SESSION_INTERFACE};
+use login_model::{
+    MANAGER_INTERFACE, MANAGER_PATH, Notice, PROPERTIES_INTERFACE, SEAT_INTERFACE,
+    SESSION_INTERFACE, SeatProperty, SessionProperty,
+};
 use std::alloc::Global;
 
 /// A signal of a session.
@@ -90,8 +93,13 @@ fn changed(
         &mut values,
         Value::array(Type::basic(Basic::Str), Vec::new(alloc)),
     )?;
-    let properties = b"org.freedesktop.DBus.Properties";
-    signal_message(alloc, object, properties, b"PropertiesChanged", values)
+    signal_message(
+        alloc,
+        object,
+        PROPERTIES_INTERFACE,
+        b"PropertiesChanged",
+        values,
+    )
 }
 
 /// Adds a message.
@@ -115,7 +123,13 @@ fn push_active(
     match session {
         Some(s) => {
             let object = session_path(alloc, s)?;
-            let message = changed(alloc, object, SESSION_INTERFACE, b"Active", flag(active))?;
+            let message = changed(
+                alloc,
+                object,
+                SESSION_INTERFACE,
+                SessionProperty::Active.name(),
+                flag(active),
+            )?;
             push_message(out, message)
         }
         None => Ok(()),
@@ -129,7 +143,13 @@ fn seat_changed(alloc: Global, seat: &SeatName, now: Option<SessId>) -> Result<M
 {
     let object = seat_path(alloc, seat)?;
     let value = Value::structure(reference_or_none(alloc, now)?);
-    changed(alloc, object, SEAT_INTERFACE, b"ActiveSession", value)
+    changed(
+        alloc,
+        object,
+        SEAT_INTERFACE,
+        SeatProperty::ActiveSession.name(),
+        value,
+    )
 }
 
 /// The signals of a change of a seat's active session.

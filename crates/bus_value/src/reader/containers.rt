@@ -1,6 +1,6 @@
 // How values of any type are read.
 
-ghost use Rattle.std.specs.Prelude.{◌≡◌, ◌≤◌, ◌<◌, ◌+◌, ◌-◌, ◌^◌, length, drop, nat_le, IfOk, IsTrue};
+ghost use Rattle.std.specs.Prelude.{◌≡◌, ◌≤◌, ◌<◌, ◌+◌, ◌-◌, ◌^◌, [], length, drop, nat_le, IfOk, IsTrue};
 ghost use Rattle.bus_names.specs.Types.{variant, array, dict, struct_of};
 ghost use Rattle.bus_value.specs.Alignment.{IsAlignment};
 ghost use Rattle.bus_value.specs.Reading.{element_bytes, levels, read, read_entry, to_end, in_turn};
@@ -17,9 +17,10 @@ use crate::basic_value::BasicValue;
 use crate::fault::ValueFault;
 use crate::numbers::{pad_size, read_u32};
 use crate::reader::Reader;
+use crate::reader::basic::plain_size;
 use crate::value::{Value, boundary};
 use bus_names::{Basic, Kind, Type};
-use login_base::Items;
+use login_base::{Items, NoMemory};
 
 /// The largest size of an array's elements, in bytes.
 const MOST_ELEMENT_BYTES: usize = 1 << 26;
@@ -178,6 +179,20 @@ impl Reader {
         Ok((Value::array(kind.shared()?, elements.into_vec()), place.end))
     }
 
+    /// No elements, with room for those of this type in so many bytes, where the bytes tell how many these are.
+    fn room_for(self, kind: &Type, bytes: usize) -> Result<Items<Value>, NoMemory>
+        ensures { IfOk result (λ elements. elements ≡ []) }
+    {
+        let size = match kind.kind() {
+            Kind::Basic(kind) => plain_size(kind),
+            _ => None,
+        };
+        match size {
+            Some(size) => Ok(Items::from_vec(Vec::with_capacity(self.alloc, bytes / size)?)),
+            None => Ok(Items::new(self.alloc)),
+        }
+    }
+
     /// The elements that stand from here to the end.
     #[cycle(reading)]
     fn elements(self, kind: &Type, bytes: &[u8], at: usize) -> Result<Items<Value>, ValueFault>
@@ -185,7 +200,7 @@ impl Reader {
         requires within { at ≤ length bytes.now }
         ensures { Gives result (to_end (read (levels self.depth) self.order self.depth self.array kind.now) (self.start + at) (drop at bytes.now)) }
     {
-        let mut elements = Items::new(self.alloc);
+        let mut elements = self.room_for(kind, bytes.len() - at)?;
         let mut next = at;
         while next < bytes.len() {
             let (element, end) = self.value(kind, bytes, next)?;

@@ -1,13 +1,17 @@
 -- Where the open sessions with a seat are: how many each bucket of terminals and of users has.
-use Rattle.std.specs.Prelude.{ℕ, ◌≡◌, ◌==◌, ◌+◌, ◌<◌, ◌≤◌, ◌^◌, ◌%◌, nat_le, Bool, false, if◌then◌else◌, Option, Some, None, List, length, filter, option_and_then, slice_index}
+use Rattle.std.specs.Prelude.{ℕ, ◌≡◌, ◌==◌, ◌&&◌, ◌||◌, ◌+◌, ◌<◌, ◌≤◌, ◌^◌, ◌%◌, nat_le, Bool, true, false, if◌then◌else◌, Option, Some, None, List, find, length, filter, option_and_then, slice_index}
+use Rattle.std.specs.Option.{is_some}
 use Rattle.login_base.specs.declared.ids.SessId.{SessId}
 use Rattle.login_model.specs.declared.fact.Key.{Key}
 use Rattle.login_model.specs.declared.fact.Key.TheVariants as key
 use Rattle.login_model.specs.declared.fact.Fact.{Fact}
-use Rattle.login_model.specs.Facts.{seated_user, terminal_in}
+use Rattle.login_model.specs.Facts.{is_on_terminal, is_open_of, is_seat0, seat_in_fact, seated_user, terminal_in}
 use Rattle.login_model.specs.Names.{names, session_in, session_lt}
 use Rattle.login_model.specs.Trail.{Trail, value}
+use Rattle.login_model.specs.Where.{is_acting, sessions}
 use Rattle.login_core.specs.declared.board.seating.Tally.{Tally}
+use Rattle.login_core.specs.declared.board.seating.Crowd.{Crowd}
+use Rattle.login_core.specs.declared.board.seating.Crowd.TheVariants.{Nobody, Alone, Several}
 use Rattle.login_core.specs.declared.board.seating.Seating.{Seating}
 use Rattle.login_core.specs.inner.Counts.{one_if}
 
@@ -18,6 +22,10 @@ buckets = 64
 -- zero for an open session of seat0 whose terminal has no bucket of its own
 abbrev pub high_in : Fact → Option ℕ
 high_in x = option_and_then (λ v. if nat_le buckets v then Some 0 else None) (terminal_in x)
+
+-- the user of an open session whose seat is not seat0
+abbrev pub elsewhere_in : Fact → Option ℕ
+elsewhere_in x = if is_some (terminal_in x) then None else seated_user x
 
 -- the bucket of a number
 abbrev pub bucket_of : ℕ → ℕ
@@ -55,18 +63,21 @@ pub record AreSeated (s : Seating) (t : Trail) : Type 0 where
   pub terminals : AreTallied terminal_in s.terminals t
   pub high : AreTallied high_in s.high t
   pub users : AreTallied seated_user s.users t
+  pub elsewhere : AreTallied elsewhere_in s.elsewhere t
 
 -- a setting can move them
 pub record CanSeat (s : Seating) (k : Key) (x y : Fact) : Type 0 where
   pub terminals : CanShift s.terminals (place_under terminal_in k x) (place_under terminal_in k y)
   pub high : CanShift s.high (place_under high_in k x) (place_under high_in k y)
   pub users : CanShift s.users (place_under seated_user k x) (place_under seated_user k y)
+  pub elsewhere : CanShift s.elsewhere (place_under elsewhere_in k x) (place_under elsewhere_in k y)
 
 -- a setting of a key from one fact to another moved them
 pub record Seats (s : Seating) (k : Key) (x y : Fact) (u : Seating) : Type 0 where
   pub terminals : Shifts s.terminals (place_under terminal_in k x) (place_under terminal_in k y) u.terminals
   pub high : Shifts s.high (place_under high_in k x) (place_under high_in k y) u.high
   pub users : Shifts s.users (place_under seated_user k x) (place_under seated_user k y) u.users
+  pub elsewhere : Shifts s.elsewhere (place_under elsewhere_in k x) (place_under elsewhere_in k y) u.elsewhere
 
 -- the bucket of a number has none
 abbrev pub is_none_at : Tally → ℕ → Bool
@@ -79,3 +90,41 @@ is_one_at c n = slice_index c.counts (bucket_of n) == 1
 -- each open session of seat0 is on a terminal that has a bucket of its own
 pub record AreLow (t : Trail) : Type 0 where
   pub low : (s : SessId) → is_at (high_in (value t (key.Sess s))) 0 ≡ false
+
+-- who is in the bucket of a number
+abbrev pub IsCrowd : (Fact → Option ℕ) → Trail → ℕ → Crowd → Type 0
+IsCrowd place_in t n Nobody = (s : SessId) → is_at (place_in (value t (key.Sess s))) (bucket_of n) ≡ false
+IsCrowd place_in t n (Alone r) = (is_at (place_in (value t (key.Sess r))) (bucket_of n) ≡ true) × ((s : SessId) → is_at (place_in (value t (key.Sess s))) (bucket_of n) ≡ true → s ≡ r)
+IsCrowd place_in t n Several = Several ≡ Several
+
+-- what two parts say together, where both are known
+abbrev pub either : Option Bool → Option Bool → Option Bool
+either (Some a) (Some b) = Some (a || b)
+either _ _ = None
+
+-- a session is an open one of a user, on the current terminal
+abbrev pub is_current_of : Trail → ℕ → SessId → Bool
+is_current_of t uid s = is_open_of uid (value t (key.Sess s)) && is_on_terminal (value t key.Vt) (value t (key.Sess s))
+
+abbrev pub is_some_current : Trail → ℕ → Bool
+is_some_current t uid = is_some (find (is_current_of t uid) (sessions t))
+
+-- another seat than seat0 has it as its active one
+abbrev pub is_acting_of : Trail → ℕ → SessId → Bool
+is_acting_of t uid s = is_open_of uid (value t (key.Sess s)) && is_acting t s (value t (key.Sess s))
+
+abbrev pub is_some_acting : Trail → ℕ → Bool
+is_some_acting t uid = is_some (find (is_acting_of t uid) (sessions t))
+
+-- it is on seat0, or on another seat
+abbrev pub is_on_seat0_of : Trail → ℕ → SessId → Bool
+is_on_seat0_of t uid s = is_open_of uid (value t (key.Sess s)) && is_seat0 (seat_in_fact (value t (key.Sess s)))
+
+abbrev pub is_some_on_seat0 : Trail → ℕ → Bool
+is_some_on_seat0 t uid = is_some (find (is_on_seat0_of t uid) (sessions t))
+
+abbrev pub is_elsewhere_of : Trail → ℕ → SessId → Bool
+is_elsewhere_of t uid s = is_open_of uid (value t (key.Sess s)) && is_some (elsewhere_in (value t (key.Sess s)))
+
+abbrev pub is_some_elsewhere : Trail → ℕ → Bool
+is_some_elsewhere t uid = is_some (find (is_elsewhere_of t uid) (sessions t))

@@ -132,6 +132,10 @@ impl<'a> Look for SoFar<'a> {
     fn is_seated(&self, uid: u32) -> bool {
         self.has_seat(uid)
     }
+
+    fn is_active_user(&self, uid: u32) -> bool {
+        self.has_active(uid)
+    }
 }
 
 /// The sessions that are there.

@@ -1,7 +1,7 @@
 use Rattle.std.proofs.Common.{◌∙◌, ap, subst, sym}
 use Rattle.login_core.specs.inner.Draft.{DraftState}
 use Rattle.login_core.specs.inner.Seating.{AreSeated}
-use Rattle.login_core.proofs.TallyLaws.{none-high}
+use Rattle.login_core.proofs.SeatedLaws.{none-high}
 use Rattle.login_core.proofs.board.Draft.are_low.Goals as goal
 
 pub returns : goal.returns

@@ -3,7 +3,7 @@ use Rattle.login_model.specs.declared.fact.Fact.TheVariants.{Number}
 use Rattle.login_model.specs.declared.fact.Key.TheVariants.{Sess}
 use Rattle.login_model.specs.Facts.{is_on_terminal}
 use Rattle.login_model.specs.Trail.{value}
-use Rattle.login_core.proofs.TallyLaws.{terminal-alone}
+use Rattle.login_core.proofs.SeatedLaws.{terminal-alone}
 use Rattle.login_core.proofs.board.so_far.SoFar.is_alone_on.Goals as goal
 
 pub returns-then-is_one_at : goal.returns-then-is_one_at

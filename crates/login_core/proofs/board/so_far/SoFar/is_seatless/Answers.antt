@@ -1,5 +1,5 @@
 use Rattle.std.proofs.Common.{◌∙◌, sym}
-use Rattle.login_core.proofs.TallyLaws.{seatless}
+use Rattle.login_core.proofs.SeatedLaws.{seatless}
 use Rattle.login_core.proofs.board.so_far.SoFar.is_seatless.Goals as goal
 
 pub returns : goal.returns

@@ -1,5 +1,5 @@
 use Rattle.std.proofs.Common.{◌∙◌, sym}
-use Rattle.login_core.proofs.TallyLaws.{terminal-free}
+use Rattle.login_core.proofs.SeatedLaws.{terminal-free}
 use Rattle.login_core.proofs.board.so_far.SoFar.is_terminal_free.Goals as goal
 
 pub returns : goal.returns

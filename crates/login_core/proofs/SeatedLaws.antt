@@ -1,0 +1,360 @@
+-- Who is on a terminal, who has a seat and who is active on one, by the tallies.
+use Rattle.std.proofs.Common.{◌≡◌, ℕ, ◌+◌, ◌<◌, ◌&&◌, ◌||◌, ◌==◌, Bool, true, false, not, cond, Option, Some, None, List, [], ◌∷◌, find, length, refl, ap, sym, subst, ◌∙◌, arith, inl, inr}
+use Rattle.std.specs.Prelude.{slice_index}
+use Rattle.std.proofs.lemmas.Bool.Decides.{nat_tests}
+use Rattle.std.specs.Option.{is_some}
+use Rattle.std.specs.Str.{bytes_eq}
+use Rattle.login_model.specs.Start.{seat0}
+use Rattle.login_base.specs.declared.ids.SessId.{SessId}
+use Rattle.login_model.specs.declared.fact.Key.TheVariants as key
+use Rattle.login_model.specs.declared.fact.Fact.{Fact}
+use Rattle.login_model.specs.declared.fact.Fact.TheVariants as fact
+use Rattle.login_model.specs.Facts.{is_on_terminal, is_open_fact, is_open_of, is_open_phase, is_seat0, is_seated_of, is_this_number, is_acting_fact, number_in_fact, seat_in_fact, seated_user, terminal_in, user_or_root, vt_in}
+use Rattle.login_model.specs.Standing.{has_active, has_seat, is_active_of}
+use Rattle.login_model.specs.Trail.{Trail, value}
+use Rattle.login_model.specs.Where.{is_acting, is_acting_on, session_on, sessions}
+use Rattle.login_model.proofs.InOrder.{IsIn}
+use Rattle.login_model.proofs.Keys.{both, same-number, test}
+use Rattle.login_laws.proofs.Paying.{open-session}
+use Rattle.login_table.proofs.Listing.{all, session_kind, sessions-all}
+use Rattle.login_core.specs.declared.board.seating.Tally.{Tally}
+use Rattle.login_core.specs.declared.board.seating.Crowd.TheVariants.{Nobody, Alone}
+use Rattle.login_core.specs.inner.Seating.{AreLow, AreTallied, IsCrowd, bucket_of, buckets, either, elsewhere_in, high_in, is_acting_of, is_at, is_current_of, is_elsewhere_of, is_none_at, is_on_seat0_of, is_one_at, is_some_acting, is_some_current, is_some_elsewhere, is_some_on_seat0, placed_at}
+use Rattle.login_core.proofs.CountLaws.{kind-list}
+use Rattle.login_core.proofs.TallyLaws.{alone-at, bound, equal, find-nobody, find-only, nobody-at, not-so}
+
+-- what is told is so
+pub told : {a b : Bool} → Some a ≡ Some b → a ≡ b
+told e = cc
+
+-- ---- who is in a bucket
+
+none : {c : Tally} {t : Trail} {place_in : Fact → Option ℕ} (n : ℕ) → AreTallied place_in c t → is_none_at c n ≡ true → length (placed_at place_in t (bucket_of n)) ≡ 0
+none {c} n a e = sym (a.at (bucket_of n) (bound n)) ∙ same-number (slice_index c.counts (bucket_of n)) 0 e
+
+one : {c : Tally} {t : Trail} {place_in : Fact → Option ℕ} (n : ℕ) → AreTallied place_in c t → is_one_at c n ≡ true → length (placed_at place_in t (bucket_of n)) ≡ 1
+one {c} n a e = sym (a.at (bucket_of n) (bound n)) ∙ same-number (slice_index c.counts (bucket_of n)) 1 e
+
+pub nobody-there : (place_in : Fact → Option ℕ) → place_in fact.Absent ≡ None → (c : Tally) (t : Trail) (n : ℕ) → AreTallied place_in c t → is_none_at c n ≡ true → IsCrowd place_in t n Nobody
+nobody-there place_in start c t n a e = λ s. nobody-at place_in (bucket_of n) t start (none n a e) s
+
+pub alone-there : (place_in : Fact → Option ℕ) → place_in fact.Absent ≡ None → (c : Tally) (t : Trail) (n : ℕ) (r : SessId) → AreTallied place_in c t → is_one_at c n ≡ true
+    → is_at (place_in (value t (key.Sess r))) (bucket_of n) ≡ true → IsCrowd place_in t n (Alone r)
+alone-there place_in start c t n r a e i = (i, λ s h. alone-at place_in (bucket_of n) t start (one n a e) r s i h)
+
+-- ---- a test that only sessions of one bucket meet
+
+among-sessions : (t : Trail) (s : SessId) → is_open_fact (value t (key.Sess s)) ≡ true → IsIn s (sessions t)
+among-sessions t s e =
+    let P : List SessId → Type 0 = IsIn s in
+    subst P (sym (sessions-all t)) ((kind-list session_kind t).has s (open-session t s e))
+
+-- nobody meets it where the bucket has none
+nobody-meets : (place_in : Fact → Option ℕ) (t : Trail) (n : ℕ) (p : SessId → Bool) → IsCrowd place_in t n Nobody
+    → ((s : SessId) → p s ≡ true → is_at (place_in (value t (key.Sess s))) (bucket_of n) ≡ true) → find p (sessions t) ≡ None
+nobody-meets place_in t n p nobody h =
+    find-nobody p (sessions t) (λ s. elim (test (p s)) [
+      | inl y ↦ absurd (not-so (h s y) (nobody s))
+      | inr m ↦ m
+    ])
+
+-- where one session is alone there, the test of it tells
+alone-meets : (place_in : Fact → Option ℕ) (t : Trail) (n : ℕ) (r : SessId) (p : SessId → Bool) → IsCrowd place_in t n (Alone r)
+    → (is_at (place_in (value t (key.Sess r))) (bucket_of n) ≡ true → is_open_fact (value t (key.Sess r)) ≡ true)
+    → ((s : SessId) → p s ≡ true → is_at (place_in (value t (key.Sess s))) (bucket_of n) ≡ true) → is_some (find p (sessions t)) ≡ p r
+alone-meets place_in t n r p alone opens h =
+    let same : (s : SessId) → p s ≡ true → s ≡ r = λ s y. alone.1 s (h s y) in
+    elim (test (p r)) [
+      | inl y ↦ ap is_some (find-only p r (sessions t) y same (among-sessions t r (opens alone.0))) ∙ sym y
+      | inr m ↦ ap is_some (find-nobody p (sessions t) (λ s. elim (test (p s)) [
+        | inl y ↦ absurd (not-so y (ap p (same s y) ∙ m))
+        | inr q ↦ q
+      ])) ∙ sym m
+    ]
+
+-- what meets it is found
+found : {A : Type 0} (p : A → Bool) (a : A) (xs : List A) → p a ≡ true → IsIn a xs → is_some (find p xs) ≡ true
+found p a [] e i = absurd i
+found p a (x ∷ xs) e (inl q) = ap (λ (b : Bool). is_some (cond b (Some x) (find p xs))) (ap p (sym q) ∙ e)
+found p a (x ∷ xs) e (inr i) = elim (test (p x)) [
+  | inl y ↦ ap (λ (b : Bool). is_some (cond b (Some x) (find p xs))) y
+  | inr n ↦ ap (λ (b : Bool). is_some (cond b (Some x) (find p xs))) n ∙ found p a xs e i
+]
+
+or-true : (b : Bool) → (b || true) ≡ true
+or-true true = refl
+or-true false = refl
+
+-- what meets one of two tests is found by one of them
+found-by : {A : Type 0} (p q r : A → Bool) (xs : List A) → ((a : A) → r a ≡ (p a || q a)) → is_some (find r xs) ≡ (is_some (find p xs) || is_some (find q xs))
+found-by p q r [] h = refl
+found-by {A} p q r (x ∷ xs) h =
+    let at : (A → Bool) → Bool → Bool = λ f b. is_some (cond b (Some x) (find f xs)) in
+    elim (test (p x)) [
+      | inl y ↦ ap (at r) (h x ∙ ap (λ (b : Bool). b || q x) y) ∙ sym (ap (λ (b : Bool). at p b || at q (q x)) y)
+      | inr n ↦ elim (test (q x)) [
+        | inl y ↦ ap (at r) (h x ∙ ap (λ (b : Bool). b || q x) n ∙ y) ∙ sym (ap (λ (b : Bool). at p (p x) || at q b) y ∙ or-true (at p (p x)))
+        | inr m ↦ ap (at r) (h x ∙ ap (λ (b : Bool). b || q x) n ∙ m) ∙ found-by p q r xs h ∙ sym (ap (λ (b : Bool). at p b || at q (q x)) n ∙ ap (λ (b : Bool). at p false || at q b) m)
+      ]
+    ]
+
+-- what is known of two parts is known of both together
+pub either-known : (a b : Option Bool) (p q v : Bool) → ((x : Bool) → a ≡ Some x → p ≡ x) → ((x : Bool) → b ≡ Some x → q ≡ x) → v ≡ (p || q) → (x : Bool) → either a b ≡ Some x → v ≡ x
+either-known (Some a) (Some b) p q v f g e x h = e ∙ ap (λ (c : Bool). c || q) (f a refl) ∙ ap (λ (c : Bool). a || c) (g b refl) ∙ told h
+either-known (Some a) None p q v f g e x h = cc
+either-known None b p q v f g e x h = cc
+
+-- ---- parts of facts
+
+on-parts : (a b c : Bool) → (a && b && c) ≡ true → (a ≡ true) × (b ≡ true) × (c ≡ true)
+on-parts a b c e = (let h = both (a && b) c e in let i = both a b h.0 in (i.0, i.1, h.1))
+
+in-bucket : (a b : Bool) (n m : ℕ) → a ≡ true → b ≡ true → n ≡ m → is_at (cond (a && b) (Some n) None) (bucket_of m) ≡ true
+in-bucket true true n m p q e = equal (bucket_of n) (bucket_of m) (ap bucket_of e)
+in-bucket true false n m p q e = absurd (not-so q refl)
+in-bucket false b n m p q e = absurd (not-so p refl)
+
+-- what is in a bucket by an open session's number is one
+opened : (a b : Bool) (n v : ℕ) → is_at (cond (a && b) (Some n) None) v ≡ true → a ≡ true
+opened true b n v e = refl
+opened false b n v e = cc
+
+-- ---- terminals
+
+terminal-at : (x : Fact) (v : ℕ) → is_on_terminal (fact.Number v) x ≡ true → is_at (terminal_in x) (bucket_of v) ≡ true
+terminal-at (fact.Session x) v e =
+    let h = on-parts (is_open_phase x.phase) (is_seat0 x.seat) (x.vt == v) e in
+    in-bucket (is_open_phase x.phase) (is_seat0 x.seat) x.vt v h.0 h.1 (same-number x.vt v h.2)
+terminal-at _ v e = cc
+
+open-fact : (x : Fact) (v : ℕ) → is_on_terminal (fact.Number v) x ≡ true → is_open_fact x ≡ true
+open-fact (fact.Session x) v e = (on-parts (is_open_phase x.phase) (is_seat0 x.seat) (x.vt == v) e).0
+open-fact _ v e = cc
+
+pub terminal-free : (c : Tally) (t : Trail) (v : ℕ) → AreTallied terminal_in c t → is_none_at c v ≡ true → session_on t v ≡ None
+unfolding session_on
+terminal-free c t v a e =
+    nobody-meets terminal_in t v (λ (s : SessId). is_on_terminal (fact.Number v) (value t (key.Sess s))) (nobody-there terminal_in refl c t v a e) (λ s h. terminal-at (value t (key.Sess s)) v h)
+
+pub terminal-alone : (c : Tally) (t : Trail) (v : ℕ) (s : SessId) → AreTallied terminal_in c t → is_one_at c v ≡ true → is_on_terminal (fact.Number v) (value t (key.Sess s)) ≡ true → session_on t v ≡ Some s
+unfolding session_on
+terminal-alone c t v s a e on =
+    let p = λ (r : SessId). is_on_terminal (fact.Number v) (value t (key.Sess r)) in
+    let alone = alone-there terminal_in refl c t v s a e (terminal-at (value t (key.Sess s)) v on) in
+    find-only p s (sessions t) on (λ r h. alone.1 r (terminal-at (value t (key.Sess r)) v h)) (among-sessions t s (open-fact (value t (key.Sess s)) v on))
+
+pub none-high : (c : Tally) (t : Trail) → AreTallied high_in c t → is_none_at c 0 ≡ true → AreLow t
+none-high c t a e = record {
+  low = λ s. nobody-at high_in 0 t refl (sym (a.at 0 (omega arith)) ∙ same-number (slice_index c.counts 0) 0 e) s;
+}
+
+-- ---- seats
+
+seated-at : (x : Fact) (uid : ℕ) → is_seated_of uid x ≡ true → is_at (seated_user x) (bucket_of uid) ≡ true
+seated-at (fact.Session x) uid e =
+    let h = on-parts (is_open_phase x.phase) (x.uid.0 == uid) (is_some x.seat) e in
+    in-bucket (is_open_phase x.phase) (is_some x.seat) x.uid.0 uid h.0 h.2 (same-number x.uid.0 uid h.1)
+seated-at _ uid e = cc
+
+seated-open : (x : Fact) (uid : ℕ) → is_seated_of uid x ≡ true → is_open_fact x ≡ true
+seated-open (fact.Session x) uid e = (on-parts (is_open_phase x.phase) (x.uid.0 == uid) (is_some x.seat) e).0
+seated-open _ uid e = cc
+
+pub seatless : (c : Tally) (t : Trail) (uid : ℕ) → AreTallied seated_user c t → is_none_at c uid ≡ true → has_seat t uid ≡ false
+seatless c t uid a e =
+    ap is_some (nobody-meets seated_user t uid (λ (s : SessId). is_seated_of uid (value t (key.Sess s))) (nobody-there seated_user refl c t uid a e) (λ s h. seated-at (value t (key.Sess s)) uid h))
+
+-- ---- who is on seat0
+
+-- no session in a bucket of terminals is an open one of a user
+pub record NoneAt (t : Trail) (uid v : ℕ) : Type 0 where
+  pub none : (s : SessId) → is_at (terminal_in (value t (key.Sess s))) v ≡ true → is_open_of uid (value t (key.Sess s)) ≡ false
+
+own-bucket : (v : ℕ) → v < buckets → bucket_of v ≡ v
+own-bucket v h = omega arith
+
+at-own : (t : Trail) (v : ℕ) (s : SessId) → v < buckets → is_at (terminal_in (value t (key.Sess s))) v ≡ true → is_at (terminal_in (value t (key.Sess s))) (bucket_of v) ≡ true
+at-own t v s h e = ap (is_at (terminal_in (value t (key.Sess s)))) (own-bucket v h) ∙ e
+
+pub none-by-nobody : (t : Trail) (uid v : ℕ) → v < buckets → IsCrowd terminal_in t v Nobody → NoneAt t uid v
+none-by-nobody t uid v h nobody = record { none = λ s e. absurd (not-so (at-own t v s h e) (nobody s)) }
+
+pub none-by-alone : (t : Trail) (uid v : ℕ) (r : SessId) → v < buckets → IsCrowd terminal_in t v (Alone r) → is_open_of uid (value t (key.Sess r)) ≡ false → NoneAt t uid v
+none-by-alone t uid v r h alone never = record {
+  none = λ s e. ap (λ (q : SessId). is_open_of uid (value t (key.Sess q))) (alone.1 s (at-own t v s h e)) ∙ never;
+}
+
+below-one : (w v : ℕ) → w < v + 1 → (w == v) ≡ false → w < v
+below-one w v h n = grind (arith, nat_tests)
+
+pub none-before : (t : Trail) (uid v : ℕ) → ((w : ℕ) → w < v → NoneAt t uid w) → NoneAt t uid v → (w : ℕ) → w < v + 1 → NoneAt t uid w
+none-before t uid v before at w h =
+    elim (test (w == v)) [
+      | inl y ↦ (let P : ℕ → Type 0 = NoneAt t uid in subst P (sym (same-number w v y)) at)
+      | inr n ↦ before w (below-one w v h n)
+    ]
+
+open-seat0 : (x : Fact) (uid : ℕ) → (is_open_of uid x && is_seat0 (seat_in_fact x)) ≡ true → is_at (terminal_in x) (bucket_of (vt_in x)) ≡ true
+open-seat0 (fact.Session x) uid e =
+    let h = on-parts (is_open_phase x.phase) (x.uid.0 == uid) (is_seat0 x.seat) e in
+    in-bucket (is_open_phase x.phase) (is_seat0 x.seat) x.vt x.vt h.0 h.2 refl
+open-seat0 _ uid e = cc
+
+pub none-on-seat0 : (t : Trail) (uid : ℕ) → ((v : ℕ) → v < buckets → NoneAt t uid v) → is_some_on_seat0 t uid ≡ false
+none-on-seat0 t uid all =
+    ap is_some (find-nobody (is_on_seat0_of t uid) (sessions t) (λ s. elim (test (is_on_seat0_of t uid s)) [
+      | inl y ↦ (let x = value t (key.Sess s) in
+          absurd (not-so (both (is_open_of uid x) (is_seat0 (seat_in_fact x)) y).0 ((all (bucket_of (vt_in x)) (bound (vt_in x))).none s (open-seat0 x uid y))))
+      | inr n ↦ n
+    ]))
+
+placed-both : (a b : Bool) (n v : ℕ) → is_at (cond (a && b) (Some n) None) v ≡ true → (a ≡ true) × (b ≡ true)
+placed-both true true n v e = (refl, refl)
+placed-both true false n v e = cc
+placed-both false b n v e = cc
+
+pub some-on-seat0 : (t : Trail) (uid v : ℕ) (r : SessId) → IsCrowd terminal_in t v (Alone r) → is_open_of uid (value t (key.Sess r)) ≡ true → is_some_on_seat0 t uid ≡ true
+some-on-seat0 t uid v r alone is_so =
+    let x = value t (key.Sess r) in
+    let h = placed-both (is_open_fact x) (is_seat0 (seat_in_fact x)) (vt_in x) (bucket_of v) alone.0 in
+    found (is_on_seat0_of t uid) r (sessions t) (ap (λ (b : Bool). b && is_seat0 (seat_in_fact x)) is_so ∙ h.1) (among-sessions t r h.0)
+
+-- ---- who is on another seat
+
+elsewhere-in : (g a b : Bool) (u uid : ℕ) → (a && (u == uid)) ≡ true → is_some (cond g None (cond (a && b) (Some u) None)) ≡ true
+    → is_at (cond g None (cond (a && b) (Some u) None)) (bucket_of uid) ≡ true
+elsewhere-in true a b u uid e h = cc
+elsewhere-in false true true u uid e h = equal (bucket_of u) (bucket_of uid) (ap bucket_of (same-number u uid e))
+elsewhere-in false true false u uid e h = cc
+elsewhere-in false false b u uid e h = cc
+
+elsewhere-at : (x : Fact) (uid : ℕ) → (is_open_of uid x && is_some (elsewhere_in x)) ≡ true → is_at (elsewhere_in x) (bucket_of uid) ≡ true
+elsewhere-at (fact.Session x) uid e =
+    let h = both (is_open_of uid (fact.Session x)) (is_some (elsewhere_in (fact.Session x))) e in
+    elsewhere-in (is_some (terminal_in (fact.Session x))) (is_open_phase x.phase) (is_some x.seat) x.uid.0 uid h.0 h.1
+elsewhere-at _ uid e = cc
+
+opened-beyond : (g a b : Bool) (n v : ℕ) → is_at (cond g None (cond (a && b) (Some n) None)) v ≡ true → a ≡ true
+opened-beyond true a b n v e = cc
+opened-beyond false a b n v e = opened a b n v e
+
+is-there : (o : Option ℕ) (v : ℕ) → is_at o v ≡ true → is_some o ≡ true
+is-there (Some n) v e = refl
+is-there None v e = cc
+
+and-true : (b : Bool) → (b && true) ≡ b
+and-true true = refl
+and-true false = refl
+
+pub none-elsewhere : (t : Trail) (uid : ℕ) → IsCrowd elsewhere_in t uid Nobody → is_some_elsewhere t uid ≡ false
+none-elsewhere t uid nobody = ap is_some (nobody-meets elsewhere_in t uid (is_elsewhere_of t uid) nobody (λ s h. elsewhere-at (value t (key.Sess s)) uid h))
+
+pub alone-elsewhere : (t : Trail) (uid : ℕ) (r : SessId) → IsCrowd elsewhere_in t uid (Alone r) → is_some_elsewhere t uid ≡ is_open_of uid (value t (key.Sess r))
+alone-elsewhere t uid r alone =
+    let x = value t (key.Sess r) in
+    alone-meets elsewhere_in t uid r (is_elsewhere_of t uid) alone (opened-beyond (is_some (terminal_in x)) (is_open_fact x) (is_some (seat_in_fact x)) (user_or_root x).0 (bucket_of uid))
+    (λ s h. elsewhere-at (value t (key.Sess s)) uid h)
+    ∙ ap (λ (b : Bool). is_open_of uid x && b) (is-there (elsewhere_in x) (bucket_of uid) alone.0) ∙ and-true (is_open_of uid x)
+
+-- ---- who has a seat
+
+seat-named : (z : Bool) (vt u : ℕ) → true ≡ (z || is_some (cond (is_some (cond z (Some vt) None)) None (Some u)))
+seat-named true vt u = refl
+seat-named false vt u = refl
+
+seat-parts : (o m : Bool) (seat : Option (List ℕ)) (vt u : ℕ) → (o && m && is_some seat)
+    ≡ ((o && m && is_seat0 seat) || (o && m && is_some (cond (is_some (cond (o && is_seat0 seat) (Some vt) None)) None (cond (o && is_some seat) (Some u) None))))
+seat-parts true true (Some name) vt u = seat-named (bytes_eq name seat0) vt u
+seat-parts true true None vt u = refl
+seat-parts true false (Some name) vt u = refl
+seat-parts true false None vt u = refl
+seat-parts false m (Some name) vt u = refl
+seat-parts false m None vt u = refl
+
+seated-parts : (x : Fact) (uid : ℕ) → is_seated_of uid x ≡ ((is_open_of uid x && is_seat0 (seat_in_fact x)) || (is_open_of uid x && is_some (elsewhere_in x)))
+seated-parts (fact.Session x) uid = seat-parts (is_open_phase x.phase) (x.uid.0 == uid) x.seat x.vt x.uid.0
+seated-parts _ uid = refl
+
+pub seated-by : (t : Trail) (uid : ℕ) → has_seat t uid ≡ (is_some_on_seat0 t uid || is_some_elsewhere t uid)
+seated-by t uid =
+    found-by (is_on_seat0_of t uid) (is_elsewhere_of t uid) (λ (s : SessId). is_seated_of uid (value t (key.Sess s))) (sessions t) (λ s. seated-parts (value t (key.Sess s)) uid)
+
+-- ---- who is on the current terminal
+
+same-some : (n m : ℕ) → Some n ≡ Some m → n ≡ m
+same-some n m e = cc
+
+current-at : (y x : Fact) (uid v : ℕ) → number_in_fact y ≡ Some v → (is_open_of uid x && is_on_terminal y x) ≡ true → is_at (terminal_in x) (bucket_of v) ≡ true
+current-at (fact.Number n) x uid v e h =
+    let P : ℕ → Type 0 = λ m. is_at (terminal_in x) (bucket_of m) ≡ true in
+    subst P (same-some n v e) (terminal-at x n (both (is_open_of uid x) (is_on_terminal (fact.Number n) x) h).1)
+current-at _ x uid v e h = cc
+
+pub current-free : (t : Trail) (uid v : ℕ) → number_in_fact (value t key.Vt) ≡ Some v → IsCrowd terminal_in t v Nobody → is_some_current t uid ≡ false
+current-free t uid v n nobody =
+    ap is_some (nobody-meets terminal_in t v (is_current_of t uid) nobody (λ s h. current-at (value t key.Vt) (value t (key.Sess s)) uid v n h))
+
+pub current-alone : (t : Trail) (uid v : ℕ) (r : SessId) → number_in_fact (value t key.Vt) ≡ Some v → IsCrowd terminal_in t v (Alone r) → is_some_current t uid ≡ is_current_of t uid r
+current-alone t uid v r n alone =
+    let x = value t (key.Sess r) in
+    alone-meets terminal_in t v r (is_current_of t uid) alone (opened (is_open_fact x) (is_seat0 (seat_in_fact x)) (vt_in x) (bucket_of v))
+    (λ s h. current-at (value t key.Vt) (value t (key.Sess s)) uid v n h)
+
+and-false : (b : Bool) → (b && false) ≡ false
+and-false true = refl
+and-false false = refl
+
+off-number : (y : Fact) (v : ℕ) → number_in_fact y ≡ None → is_this_number v y ≡ false
+off-number (fact.Number n) v e = cc
+off-number _ v e = refl
+
+-- nobody is on it where it is none
+off-terminals : (y x : Fact) → number_in_fact y ≡ None → is_on_terminal y x ≡ false
+off-terminals y (fact.Session x) e =
+    ap (λ (b : Bool). is_open_phase x.phase && is_seat0 x.seat && b) (off-number y x.vt e) ∙ and-false (is_open_phase x.phase && is_seat0 x.seat)
+off-terminals y _ e = refl
+
+pub current-nowhere : (t : Trail) (uid : ℕ) → number_in_fact (value t key.Vt) ≡ None → is_some_current t uid ≡ false
+current-nowhere t uid n =
+    ap is_some (find-nobody (is_current_of t uid) (sessions t)
+    (λ s. ap (λ (b : Bool). is_open_of uid (value t (key.Sess s)) && b) (off-terminals (value t key.Vt) (value t (key.Sess s)) n) ∙ and-false (is_open_of uid (value t (key.Sess s)))))
+
+-- ---- who is active on another seat
+
+negated : (b : Bool) → not b ≡ true → b ≡ false
+negated true e = cc
+negated false e = refl
+
+other : (t : Trail) (s : SessId) (o : Bool) (seat : Option (List ℕ)) (vt u uid : ℕ) → (o && (u == uid)) ≡ true → (o && is_acting_on t s seat) ≡ true
+    → is_at (cond (is_some (cond (o && is_seat0 seat) (Some vt) None)) None (cond (o && is_some seat) (Some u) None)) (bucket_of uid) ≡ true
+other t s true (Some name) vt u uid e h =
+    let off = negated (bytes_eq name seat0) (both (not (bytes_eq name seat0)) (is_acting_fact s (value t (key.Act name))) h).0 in
+    ap (λ (b : Bool). is_at (cond (is_some (cond b (Some vt) None)) None (Some u)) (bucket_of uid)) off ∙ equal (bucket_of u) (bucket_of uid) (ap bucket_of (same-number u uid e))
+other t s true None vt u uid e h = cc
+other t s false seat vt u uid e h = cc
+
+acting-at : (t : Trail) (s : SessId) (x : Fact) (uid : ℕ) → (is_open_of uid x && is_acting t s x) ≡ true → is_at (elsewhere_in x) (bucket_of uid) ≡ true
+acting-at t s (fact.Session x) uid e =
+    let h = both (is_open_of uid (fact.Session x)) (is_acting t s (fact.Session x)) e in
+    other t s (is_open_phase x.phase) x.seat x.vt x.uid.0 uid h.0 h.1
+acting-at t s _ uid e = cc
+
+pub acting-free : (t : Trail) (uid : ℕ) → IsCrowd elsewhere_in t uid Nobody → is_some_acting t uid ≡ false
+acting-free t uid nobody = ap is_some (nobody-meets elsewhere_in t uid (is_acting_of t uid) nobody (λ s h. acting-at t s (value t (key.Sess s)) uid h))
+
+pub acting-alone : (t : Trail) (uid : ℕ) (r : SessId) → IsCrowd elsewhere_in t uid (Alone r) → is_some_acting t uid ≡ is_acting_of t uid r
+acting-alone t uid r alone =
+    let x = value t (key.Sess r) in
+    alone-meets elsewhere_in t uid r (is_acting_of t uid) alone (opened-beyond (is_some (terminal_in x)) (is_open_fact x) (is_some (seat_in_fact x)) (user_or_root x).0 (bucket_of uid))
+    (λ s h. acting-at t s (value t (key.Sess s)) uid h)
+
+-- ---- who is active
+
+shared : (a b c : Bool) → (a && (b || c)) ≡ ((a && b) || (a && c))
+shared true b c = refl
+shared false b c = refl
+
+pub active-by : (t : Trail) (uid : ℕ) → has_active t uid ≡ (is_some_current t uid || is_some_acting t uid)
+active-by t uid =
+    found-by (is_current_of t uid) (is_acting_of t uid) (is_active_of t uid) (sessions t)
+    (λ s. shared (is_open_of uid (value t (key.Sess s))) (is_on_terminal (value t key.Vt) (value t (key.Sess s))) (is_acting t s (value t (key.Sess s))))
