@@ -14,6 +14,7 @@ pub mod OwedShares
 pub mod ConcernLaws
 pub mod TallyLaws
 pub mod SeatedLaws
+pub mod ArrivalLaws
 pub mod HeldOrder
 pub mod HeldRows
 pub mod HeldNext
@@ -51,6 +52,7 @@ pub mod DeviceFacts
 pub mod NearestPlace
 pub mod SeatPlaces
 pub mod TerminalPlaces
+pub mod ArrivalPlaces
 pub mod Turned
 pub mod Filling
 pub mod TextsClose

@@ -64,7 +64,7 @@ both-tests : (p q : SessId → Bool) (ss : List SessId) → filter (λ s. p s &&
 both-tests p q [] = refl
 both-tests p q (s ∷ ss) = two-tests q (p s) s (filter (λ s. p s && q s) ss) (filter p ss) (both-tests p q ss)
 
-open-is : (t : Trail) (seat : List ℕ) → filter (is_open_on t seat) (sessions t) ≡ open_on t seat
+pub open-is : (t : Trail) (seat : List ℕ) → filter (is_open_on t seat) (sessions t) ≡ open_on t seat
 unfolding sessions_on
 open-is t seat = both-tests (is_on_seat t seat) (is_open t) (sessions t)
 
@@ -141,10 +141,10 @@ open-ascending t seat =
     (filter-ascending session_lt (is_on_seat t seat) (sessions t) (filter-ascending session_lt (is_session t) (names session_lt session_in t) (sessions-enumerated t).ascending))
 
 -- the places on a seat are ascending, and those of its open sessions
-record ArePlaces (t : Trail) (seat xs : List ℕ) (place : SessId → ℕ) : Type 0 where
-  ascending : Ascending nat_lt xs
-  has : (a : ℕ) → IsIn a (map place (open_on t seat)) → IsIn a xs
-  came : (a : ℕ) → IsIn a xs → IsIn a (map place (open_on t seat))
+pub record ArePlaces (t : Trail) (seat xs : List ℕ) (place : SessId → ℕ) : Type 0 where
+  pub ascending : Ascending nat_lt xs
+  pub has : (a : ℕ) → IsIn a (map place (open_on t seat)) → IsIn a xs
+  pub came : (a : ℕ) → IsIn a xs → IsIn a (map place (open_on t seat))
 
 are-terminals : (t : Trail) (seat : List ℕ) → seat ≡ seat0 → ArePlaces t seat (open_terminals t) (vt t)
 are-terminals t seat e =
@@ -158,7 +158,7 @@ places-by : (t : Trail) (seat : List ℕ) (b : Bool) → bytes_eq seat seat0 ≡
 places-by t seat true e = are-terminals t seat (same-bytes seat seat0 e)
 places-by t seat false e = are-numbers t seat
 
-are-places : (t : Trail) (seat : List ℕ) → ArePlaces t seat (places t seat) (place_of t seat)
+pub are-places : (t : Trail) (seat : List ℕ) → ArePlaces t seat (places t seat) (place_of t seat)
 are-places t seat = places-by t seat (bytes_eq seat seat0) refl
 
 -- what is found over all sessions is what is found in the list

@@ -1,5 +1,5 @@
 -- Who is on a terminal, who has a seat and who is active on one, by the tallies.
-use Rattle.std.proofs.Common.{◌≡◌, ℕ, ◌+◌, ◌<◌, ◌&&◌, ◌||◌, ◌==◌, Bool, true, false, not, cond, Option, Some, None, List, [], ◌∷◌, find, length, refl, ap, sym, subst, ◌∙◌, arith, inl, inr}
+use Rattle.std.proofs.Common.{◌≡◌, ℕ, ◌+◌, ◌<◌, ◌&&◌, ◌||◌, ◌==◌, nat_le, option_and_then, Bool, true, false, not, cond, Option, Some, None, List, [], ◌∷◌, find, length, refl, ap, sym, subst, ◌∙◌, arith, inl, inr}
 use Rattle.std.specs.Prelude.{slice_index}
 use Rattle.std.proofs.lemmas.Bool.Decides.{nat_tests}
 use Rattle.std.specs.Option.{is_some}
@@ -19,7 +19,7 @@ use Rattle.login_laws.proofs.Paying.{open-session}
 use Rattle.login_table.proofs.Listing.{all, session_kind, sessions-all}
 use Rattle.login_core.specs.declared.board.seating.Tally.{Tally}
 use Rattle.login_core.specs.declared.board.seating.Crowd.TheVariants.{Nobody, Alone}
-use Rattle.login_core.specs.inner.Seating.{AreLow, AreTallied, IsCrowd, bucket_of, buckets, either, elsewhere_in, high_in, is_acting_of, is_at, is_current_of, is_elsewhere_of, is_none_at, is_on_seat0_of, is_one_at, is_some_acting, is_some_current, is_some_elsewhere, is_some_on_seat0, placed_at}
+use Rattle.login_core.specs.inner.Seating.{AreLow, AreTallied, IsCrowd, aside_in, bucket_of, buckets, either, high_in, is_acting_of, is_at, is_current_of, is_elsewhere_of, is_none_at, is_on_seat0_of, is_one_at, is_some_acting, is_some_current, is_some_elsewhere, is_some_on_seat0, placed_at, sits_elsewhere}
 use Rattle.login_core.proofs.CountLaws.{kind-list}
 use Rattle.login_core.proofs.TallyLaws.{alone-at, bound, equal, find-nobody, find-only, nobody-at, not-so}
 
@@ -44,7 +44,7 @@ alone-there place_in start c t n r a e i = (i, λ s h. alone-at place_in (bucket
 
 -- ---- a test that only sessions of one bucket meet
 
-among-sessions : (t : Trail) (s : SessId) → is_open_fact (value t (key.Sess s)) ≡ true → IsIn s (sessions t)
+pub among-sessions : (t : Trail) (s : SessId) → is_open_fact (value t (key.Sess s)) ≡ true → IsIn s (sessions t)
 among-sessions t s e =
     let P : List SessId → Type 0 = IsIn s in
     subst P (sym (sessions-all t)) ((kind-list session_kind t).has s (open-session t s e))
@@ -73,7 +73,7 @@ alone-meets place_in t n r p alone opens h =
     ]
 
 -- what meets it is found
-found : {A : Type 0} (p : A → Bool) (a : A) (xs : List A) → p a ≡ true → IsIn a xs → is_some (find p xs) ≡ true
+pub found : {A : Type 0} (p : A → Bool) (a : A) (xs : List A) → p a ≡ true → IsIn a xs → is_some (find p xs) ≡ true
 found p a [] e i = absurd i
 found p a (x ∷ xs) e (inl q) = ap (λ (b : Bool). is_some (cond b (Some x) (find p xs))) (ap p (sym q) ∙ e)
 found p a (x ∷ xs) e (inr i) = elim (test (p x)) [
@@ -100,9 +100,13 @@ found-by {A} p q r (x ∷ xs) h =
 
 -- what is known of two parts is known of both together
 pub either-known : (a b : Option Bool) (p q v : Bool) → ((x : Bool) → a ≡ Some x → p ≡ x) → ((x : Bool) → b ≡ Some x → q ≡ x) → v ≡ (p || q) → (x : Bool) → either a b ≡ Some x → v ≡ x
-either-known (Some a) (Some b) p q v f g e x h = e ∙ ap (λ (c : Bool). c || q) (f a refl) ∙ ap (λ (c : Bool). a || c) (g b refl) ∙ told h
-either-known (Some a) None p q v f g e x h = cc
-either-known None b p q v f g e x h = cc
+either-known (Some true) b p q v f g e x h = e ∙ ap (λ (c : Bool). c || q) (f true refl) ∙ told h
+either-known (Some false) (Some true) p q v f g e x h = e ∙ ap (λ (c : Bool). p || c) (g true refl) ∙ or-true p ∙ told h
+either-known (Some false) (Some false) p q v f g e x h = e ∙ ap (λ (c : Bool). c || q) (f false refl) ∙ g false refl ∙ told h
+either-known (Some false) None p q v f g e x h = cc
+either-known None (Some true) p q v f g e x h = e ∙ ap (λ (c : Bool). p || c) (g true refl) ∙ or-true p ∙ told h
+either-known None (Some false) p q v f g e x h = cc
+either-known None None p q v f g e x h = cc
 
 -- ---- parts of facts
 
@@ -131,21 +135,36 @@ open-fact : (x : Fact) (v : ℕ) → is_on_terminal (fact.Number v) x ≡ true �
 open-fact (fact.Session x) v e = (on-parts (is_open_phase x.phase) (is_seat0 x.seat) (x.vt == v) e).0
 open-fact _ v e = cc
 
-pub terminal-free : (c : Tally) (t : Trail) (v : ℕ) → AreTallied terminal_in c t → is_none_at c v ≡ true → session_on t v ≡ None
+pub terminal-free : (t : Trail) (v : ℕ) → IsCrowd terminal_in t v Nobody → session_on t v ≡ None
 unfolding session_on
-terminal-free c t v a e =
-    nobody-meets terminal_in t v (λ (s : SessId). is_on_terminal (fact.Number v) (value t (key.Sess s))) (nobody-there terminal_in refl c t v a e) (λ s h. terminal-at (value t (key.Sess s)) v h)
+terminal-free t v nobody =
+    nobody-meets terminal_in t v (λ (s : SessId). is_on_terminal (fact.Number v) (value t (key.Sess s))) nobody (λ s h. terminal-at (value t (key.Sess s)) v h)
 
-pub terminal-alone : (c : Tally) (t : Trail) (v : ℕ) (s : SessId) → AreTallied terminal_in c t → is_one_at c v ≡ true → is_on_terminal (fact.Number v) (value t (key.Sess s)) ≡ true → session_on t v ≡ Some s
+pub terminal-alone : (t : Trail) (v : ℕ) (s : SessId) → IsCrowd terminal_in t v (Alone s) → is_on_terminal (fact.Number v) (value t (key.Sess s)) ≡ true → session_on t v ≡ Some s
 unfolding session_on
-terminal-alone c t v s a e on =
+terminal-alone t v s alone on =
+    find-only (λ (r : SessId). is_on_terminal (fact.Number v) (value t (key.Sess r))) s (sessions t) on (λ r h. alone.1 r (terminal-at (value t (key.Sess r)) v h))
+    (among-sessions t s (open-fact (value t (key.Sess s)) v on))
+
+pub terminal-none : (t : Trail) (v : ℕ) (s : SessId) → IsCrowd terminal_in t v (Alone s) → is_on_terminal (fact.Number v) (value t (key.Sess s)) ≡ false → session_on t v ≡ None
+unfolding session_on
+terminal-none t v s alone off =
     let p = λ (r : SessId). is_on_terminal (fact.Number v) (value t (key.Sess r)) in
-    let alone = alone-there terminal_in refl c t v s a e (terminal-at (value t (key.Sess s)) v on) in
-    find-only p s (sessions t) on (λ r h. alone.1 r (terminal-at (value t (key.Sess r)) v h)) (among-sessions t s (open-fact (value t (key.Sess s)) v on))
+    find-nobody p (sessions t) (λ r. elim (test (p r)) [
+      | inl y ↦ absurd (not-so y (ap p (alone.1 r (terminal-at (value t (key.Sess r)) v y)) ∙ off))
+      | inr n ↦ n
+    ])
 
-pub none-high : (c : Tally) (t : Trail) → AreTallied high_in c t → is_none_at c 0 ≡ true → AreLow t
+low-parts : (o u : Option ℕ) (f : ℕ → Option ℕ) → is_at (cond (cond (is_some o) false (is_some u)) (Some 1) (option_and_then f o)) 0 ≡ false → is_at (option_and_then f o) 0 ≡ false
+low-parts (Some v) u f h = h
+low-parts None u f h = refl
+
+low-by : (x : Fact) → is_at (aside_in x) 0 ≡ false → is_at (high_in x) 0 ≡ false
+low-by x h = low-parts (terminal_in x) (seated_user x) (λ v. cond (nat_le buckets v) (Some 0) None) h
+
+pub none-high : (c : Tally) (t : Trail) → AreTallied aside_in c t → is_none_at c 0 ≡ true → AreLow t
 none-high c t a e = record {
-  low = λ s. nobody-at high_in 0 t refl (sym (a.at 0 (omega arith)) ∙ same-number (slice_index c.counts 0) 0 e) s;
+  low = λ s. low-by (value t (key.Sess s)) (nobody-at aside_in 0 t refl (sym (a.at 0 (omega arith)) ∙ same-number (slice_index c.counts 0) 0 e) s);
 }
 
 -- ---- seats
@@ -160,9 +179,15 @@ seated-open : (x : Fact) (uid : ℕ) → is_seated_of uid x ≡ true → is_open
 seated-open (fact.Session x) uid e = (on-parts (is_open_phase x.phase) (x.uid.0 == uid) (is_some x.seat) e).0
 seated-open _ uid e = cc
 
-pub seatless : (c : Tally) (t : Trail) (uid : ℕ) → AreTallied seated_user c t → is_none_at c uid ≡ true → has_seat t uid ≡ false
-seatless c t uid a e =
-    ap is_some (nobody-meets seated_user t uid (λ (s : SessId). is_seated_of uid (value t (key.Sess s))) (nobody-there seated_user refl c t uid a e) (λ s h. seated-at (value t (key.Sess s)) uid h))
+pub seatless : (t : Trail) (uid : ℕ) → IsCrowd seated_user t uid Nobody → has_seat t uid ≡ false
+seatless t uid nobody =
+    ap is_some (nobody-meets seated_user t uid (λ (s : SessId). is_seated_of uid (value t (key.Sess s))) nobody (λ s h. seated-at (value t (key.Sess s)) uid h))
+
+pub seated-alone : (t : Trail) (uid : ℕ) (r : SessId) → IsCrowd seated_user t uid (Alone r) → has_seat t uid ≡ is_seated_of uid (value t (key.Sess r))
+seated-alone t uid r alone =
+    let x = value t (key.Sess r) in
+    alone-meets seated_user t uid r (λ (s : SessId). is_seated_of uid (value t (key.Sess s))) alone (opened (is_open_fact x) (is_some (seat_in_fact x)) (user_or_root x).0 (bucket_of uid))
+    (λ s h. seated-at (value t (key.Sess s)) uid h)
 
 -- ---- who is on seat0
 
@@ -219,59 +244,22 @@ some-on-seat0 t uid v r alone is_so =
     let h = placed-both (is_open_fact x) (is_seat0 (seat_in_fact x)) (vt_in x) (bucket_of v) alone.0 in
     found (is_on_seat0_of t uid) r (sessions t) (ap (λ (b : Bool). b && is_seat0 (seat_in_fact x)) is_so ∙ h.1) (among-sessions t r h.0)
 
--- ---- who is on another seat
-
-elsewhere-in : (g a b : Bool) (u uid : ℕ) → (a && (u == uid)) ≡ true → is_some (cond g None (cond (a && b) (Some u) None)) ≡ true
-    → is_at (cond g None (cond (a && b) (Some u) None)) (bucket_of uid) ≡ true
-elsewhere-in true a b u uid e h = cc
-elsewhere-in false true true u uid e h = equal (bucket_of u) (bucket_of uid) (ap bucket_of (same-number u uid e))
-elsewhere-in false true false u uid e h = cc
-elsewhere-in false false b u uid e h = cc
-
-elsewhere-at : (x : Fact) (uid : ℕ) → (is_open_of uid x && is_some (elsewhere_in x)) ≡ true → is_at (elsewhere_in x) (bucket_of uid) ≡ true
-elsewhere-at (fact.Session x) uid e =
-    let h = both (is_open_of uid (fact.Session x)) (is_some (elsewhere_in (fact.Session x))) e in
-    elsewhere-in (is_some (terminal_in (fact.Session x))) (is_open_phase x.phase) (is_some x.seat) x.uid.0 uid h.0 h.1
-elsewhere-at _ uid e = cc
-
-opened-beyond : (g a b : Bool) (n v : ℕ) → is_at (cond g None (cond (a && b) (Some n) None)) v ≡ true → a ≡ true
-opened-beyond true a b n v e = cc
-opened-beyond false a b n v e = opened a b n v e
-
-is-there : (o : Option ℕ) (v : ℕ) → is_at o v ≡ true → is_some o ≡ true
-is-there (Some n) v e = refl
-is-there None v e = cc
-
-and-true : (b : Bool) → (b && true) ≡ b
-and-true true = refl
-and-true false = refl
-
-pub none-elsewhere : (t : Trail) (uid : ℕ) → IsCrowd elsewhere_in t uid Nobody → is_some_elsewhere t uid ≡ false
-none-elsewhere t uid nobody = ap is_some (nobody-meets elsewhere_in t uid (is_elsewhere_of t uid) nobody (λ s h. elsewhere-at (value t (key.Sess s)) uid h))
-
-pub alone-elsewhere : (t : Trail) (uid : ℕ) (r : SessId) → IsCrowd elsewhere_in t uid (Alone r) → is_some_elsewhere t uid ≡ is_open_of uid (value t (key.Sess r))
-alone-elsewhere t uid r alone =
-    let x = value t (key.Sess r) in
-    alone-meets elsewhere_in t uid r (is_elsewhere_of t uid) alone (opened-beyond (is_some (terminal_in x)) (is_open_fact x) (is_some (seat_in_fact x)) (user_or_root x).0 (bucket_of uid))
-    (λ s h. elsewhere-at (value t (key.Sess s)) uid h)
-    ∙ ap (λ (b : Bool). is_open_of uid x && b) (is-there (elsewhere_in x) (bucket_of uid) alone.0) ∙ and-true (is_open_of uid x)
-
 -- ---- who has a seat
 
-seat-named : (z : Bool) (vt u : ℕ) → true ≡ (z || is_some (cond (is_some (cond z (Some vt) None)) None (Some u)))
-seat-named true vt u = refl
-seat-named false vt u = refl
+seat-named : (z : Bool) (vt : ℕ) → true ≡ (z || cond (is_some (cond z (Some vt) None)) false true)
+seat-named true vt = refl
+seat-named false vt = refl
 
 seat-parts : (o m : Bool) (seat : Option (List ℕ)) (vt u : ℕ) → (o && m && is_some seat)
-    ≡ ((o && m && is_seat0 seat) || (o && m && is_some (cond (is_some (cond (o && is_seat0 seat) (Some vt) None)) None (cond (o && is_some seat) (Some u) None))))
-seat-parts true true (Some name) vt u = seat-named (bytes_eq name seat0) vt u
+    ≡ ((o && m && is_seat0 seat) || (o && m && cond (is_some (cond (o && is_seat0 seat) (Some vt) None)) false (is_some (cond (o && is_some seat) (Some u) None))))
+seat-parts true true (Some name) vt u = seat-named (bytes_eq name seat0) vt
 seat-parts true true None vt u = refl
 seat-parts true false (Some name) vt u = refl
 seat-parts true false None vt u = refl
 seat-parts false m (Some name) vt u = refl
 seat-parts false m None vt u = refl
 
-seated-parts : (x : Fact) (uid : ℕ) → is_seated_of uid x ≡ ((is_open_of uid x && is_seat0 (seat_in_fact x)) || (is_open_of uid x && is_some (elsewhere_in x)))
+seated-parts : (x : Fact) (uid : ℕ) → is_seated_of uid x ≡ ((is_open_of uid x && is_seat0 (seat_in_fact x)) || (is_open_of uid x && sits_elsewhere x))
 seated-parts (fact.Session x) uid = seat-parts (is_open_phase x.phase) (x.uid.0 == uid) x.seat x.vt x.uid.0
 seated-parts _ uid = refl
 
@@ -325,28 +313,25 @@ negated : (b : Bool) → not b ≡ true → b ≡ false
 negated true e = cc
 negated false e = refl
 
-other : (t : Trail) (s : SessId) (o : Bool) (seat : Option (List ℕ)) (vt u uid : ℕ) → (o && (u == uid)) ≡ true → (o && is_acting_on t s seat) ≡ true
-    → is_at (cond (is_some (cond (o && is_seat0 seat) (Some vt) None)) None (cond (o && is_some seat) (Some u) None)) (bucket_of uid) ≡ true
-other t s true (Some name) vt u uid e h =
+acts-elsewhere : (t : Trail) (s : SessId) (o : Bool) (seat : Option (List ℕ)) (vt u : ℕ) → (o && is_acting_on t s seat) ≡ true
+    → cond (is_some (cond (o && is_seat0 seat) (Some vt) None)) false (is_some (cond (o && is_some seat) (Some u) None)) ≡ true
+acts-elsewhere t s true (Some name) vt u h =
     let off = negated (bytes_eq name seat0) (both (not (bytes_eq name seat0)) (is_acting_fact s (value t (key.Act name))) h).0 in
-    ap (λ (b : Bool). is_at (cond (is_some (cond b (Some vt) None)) None (Some u)) (bucket_of uid)) off ∙ equal (bucket_of u) (bucket_of uid) (ap bucket_of (same-number u uid e))
-other t s true None vt u uid e h = cc
-other t s false seat vt u uid e h = cc
+    ap (λ (b : Bool). cond (is_some (cond b (Some vt) None)) false true) off
+acts-elsewhere t s true None vt u h = cc
+acts-elsewhere t s false seat vt u h = cc
 
-acting-at : (t : Trail) (s : SessId) (x : Fact) (uid : ℕ) → (is_open_of uid x && is_acting t s x) ≡ true → is_at (elsewhere_in x) (bucket_of uid) ≡ true
-acting-at t s (fact.Session x) uid e =
-    let h = both (is_open_of uid (fact.Session x)) (is_acting t s (fact.Session x)) e in
-    other t s (is_open_phase x.phase) x.seat x.vt x.uid.0 uid h.0 h.1
-acting-at t s _ uid e = cc
+acting-sits : (t : Trail) (s : SessId) (x : Fact) → is_acting t s x ≡ true → sits_elsewhere x ≡ true
+acting-sits t s (fact.Session x) e = acts-elsewhere t s (is_open_phase x.phase) x.seat x.vt x.uid.0 e
+acting-sits t s _ e = cc
 
-pub acting-free : (t : Trail) (uid : ℕ) → IsCrowd elsewhere_in t uid Nobody → is_some_acting t uid ≡ false
-acting-free t uid nobody = ap is_some (nobody-meets elsewhere_in t uid (is_acting_of t uid) nobody (λ s h. acting-at t s (value t (key.Sess s)) uid h))
+pub acting-elsewhere : (t : Trail) (uid : ℕ) (s : SessId) → is_acting_of t uid s ≡ true → sits_elsewhere (value t (key.Sess s)) ≡ true
+acting-elsewhere t uid s e =
+    let x = value t (key.Sess s) in
+    acting-sits t s x (both (is_open_of uid x) (is_acting t s x) e).1
 
-pub acting-alone : (t : Trail) (uid : ℕ) (r : SessId) → IsCrowd elsewhere_in t uid (Alone r) → is_some_acting t uid ≡ is_acting_of t uid r
-acting-alone t uid r alone =
-    let x = value t (key.Sess r) in
-    alone-meets elsewhere_in t uid r (is_acting_of t uid) alone (opened-beyond (is_some (terminal_in x)) (is_open_fact x) (is_some (seat_in_fact x)) (user_or_root x).0 (bucket_of uid))
-    (λ s h. acting-at t s (value t (key.Sess s)) uid h)
+pub of-elsewhere : (t : Trail) (uid : ℕ) (s : SessId) → is_elsewhere_of t uid s ≡ true → sits_elsewhere (value t (key.Sess s)) ≡ true
+of-elsewhere t uid s e = (let x = value t (key.Sess s) in (both (is_open_of uid x) (sits_elsewhere x) e).1)
 
 -- ---- who is active
 
@@ -358,3 +343,38 @@ pub active-by : (t : Trail) (uid : ℕ) → has_active t uid ≡ (is_some_curren
 active-by t uid =
     found-by (is_current_of t uid) (is_acting_of t uid) (is_active_of t uid) (sessions t)
     (λ s. shared (is_open_of uid (value t (key.Sess s))) (is_on_terminal (value t key.Vt) (value t (key.Sess s))) (is_acting t s (value t (key.Sess s))))
+
+-- it has a seat where it is on a terminal of seat0, or where another seat has it
+on-seat0 : (a b : Bool) (seat : Option (List ℕ)) → (a && is_seat0 seat && b) ≡ true → is_some seat ≡ true
+on-seat0 a b (Some name) e = refl
+on-seat0 true b None e = e
+on-seat0 false b None e = cc
+
+on-other : (t : Trail) (s : SessId) (a : Bool) (seat : Option (List ℕ)) → (a && is_acting_on t s seat) ≡ true → is_some seat ≡ true
+on-other t s a (Some name) e = refl
+on-other t s true None e = e
+on-other t s false None e = cc
+
+by-either : (a b c : Bool) → (a || b) ≡ true → (a ≡ true → c ≡ true) → (b ≡ true → c ≡ true) → c ≡ true
+by-either true b c e f g = f refl
+by-either false b c e f g = g e
+
+active-seated : (t : Trail) (uid : ℕ) (s : SessId) (x : Fact) → (is_open_of uid x && (is_on_terminal (value t key.Vt) x || is_acting t s x)) ≡ true → is_seated_of uid x ≡ true
+active-seated t uid s (fact.Session x) e =
+    let h = both (is_open_of uid (fact.Session x)) (is_on_terminal (value t key.Vt) (fact.Session x) || is_acting t s (fact.Session x)) e in
+    let seat : is_some x.seat ≡ true = by-either (is_on_terminal (value t key.Vt) (fact.Session x)) (is_acting t s (fact.Session x)) (is_some x.seat) h.1
+    (λ e. on-seat0 (is_open_phase x.phase) (is_this_number x.vt (value t key.Vt)) x.seat e)
+    (λ e. on-other t s (is_open_phase x.phase) x.seat e) in
+    ap (λ (b : Bool). b && is_some x.seat) h.0 ∙ seat
+active-seated t uid s _ e = cc
+
+active-at : (t : Trail) (uid : ℕ) (s : SessId) → is_active_of t uid s ≡ true → is_at (seated_user (value t (key.Sess s))) (bucket_of uid) ≡ true
+active-at t uid s e = (let x = value t (key.Sess s) in seated-at x uid (active-seated t uid s x e))
+
+pub inactive : (t : Trail) (uid : ℕ) → IsCrowd seated_user t uid Nobody → has_active t uid ≡ false
+inactive t uid nobody = ap is_some (nobody-meets seated_user t uid (is_active_of t uid) nobody (active-at t uid))
+
+pub active-alone : (t : Trail) (uid : ℕ) (r : SessId) → IsCrowd seated_user t uid (Alone r) → has_active t uid ≡ is_active_of t uid r
+active-alone t uid r alone =
+    let x = value t (key.Sess r) in
+    alone-meets seated_user t uid r (is_active_of t uid) alone (opened (is_open_fact x) (is_some (seat_in_fact x)) (user_or_root x).0 (bucket_of uid)) (active-at t uid)

@@ -22,7 +22,7 @@ use Rattle.login_table.proofs.Listing.{Kind, all, kind}
 use Rattle.login_core.specs.declared.board.seating.Seating.{Seating}
 use Rattle.login_core.specs.declared.board.seating.Tally.{Tally}
 use Rattle.login_core.specs.inner.Counts.{one_if, one_there}
-use Rattle.login_core.specs.inner.Seating.{AreSeated, AreTallied, CanSeat, CanShift, Seats, Shifts, bucket_of, buckets, elsewhere_in, high_in, is_at, place_under, placed_at}
+use Rattle.login_core.specs.inner.Seating.{AreSeated, AreTallied, CanSeat, CanShift, Seats, Shifts, aside_in, bucket_of, buckets, is_at, place_under, placed_at}
 use Rattle.login_core.proofs.CountLaws.{count-say, fits, follows, kind-list}
 
 -- ---- the sessions of a bucket
@@ -37,7 +37,7 @@ not-so {b} p q = let z : true ≡ false = sym p ∙ q in cc
 nowhere : (place_in : Fact → Option ℕ) (v : ℕ) → place_in fact.Absent ≡ None → is_at (place_in fact.Absent) v ≡ false
 nowhere place_in v none = ap (λ (p : Option ℕ). is_at p v) none
 
-keys-at : (place_in : Fact → Option ℕ) (v : ℕ) → place_in fact.Absent ≡ None → AreKeys session_in key.Sess (λ (x : Fact). is_at (place_in x) v) None
+pub keys-at : (place_in : Fact → Option ℕ) (v : ℕ) → place_in fact.Absent ≡ None → AreKeys session_in key.Sess (λ (x : Fact). is_at (place_in x) v) None
 keys-at place_in v none = record {
   own = session_keys.own;
   named = λ s. refl;
@@ -45,10 +45,10 @@ keys-at place_in v none = record {
   begins = λ s e. absurd (no-session e);
 }
 
-abbrev at : (place_in : Fact → Option ℕ) (v : ℕ) → place_in fact.Absent ≡ None → Kind SessId
+abbrev pub at : (place_in : Fact → Option ℕ) (v : ℕ) → place_in fact.Absent ≡ None → Kind SessId
 at place_in v none = kind session_lt session_order session_in key.Sess (λ (x : Fact). is_at (place_in x) v) None (keys-at place_in v none)
 
-at-all : (place_in : Fact → Option ℕ) (v : ℕ) (none : place_in fact.Absent ≡ None) (t : Trail) → length (placed_at place_in t v) ≡ length (all (at place_in v none) t)
+pub at-all : (place_in : Fact → Option ℕ) (v : ℕ) (none : place_in fact.Absent ≡ None) (t : Trail) → length (placed_at place_in t v) ≡ length (all (at place_in v none) t)
 unfolding placed_at
 at-all place_in v none t = refl
 
@@ -83,38 +83,34 @@ tallied-say place_in none c w n t a = record { at = λ v h. a.at v h ∙ at-all 
 seated-set : (s u : Seating) (k : Key) (x : Fact) (t : Trail) → AreSeated s t → Seats s k (value t k) x u → AreSeated u (Set k x ∷ t)
 seated-set s u k x t a f = record {
   terminals = tallied-set terminal_in refl s.terminals u.terminals k x t a.terminals f.terminals;
-  high = tallied-set high_in refl s.high u.high k x t a.high f.high;
+  aside = tallied-set aside_in refl s.aside u.aside k x t a.aside f.aside;
   users = tallied-set seated_user refl s.users u.users k x t a.users f.users;
-  elsewhere = tallied-set elsewhere_in refl s.elsewhere u.elsewhere k x t a.elsewhere f.elsewhere;
 }
 
 seated-fit : (s : Seating) (k : Key) (x : Fact) (t : Trail) → AreSeated s t → length t + 2 < 2 ^ 32 → CanSeat s k (value t k) x
 seated-fit s k x t a few = record {
   terminals = tallied-fit terminal_in refl s.terminals k x t a.terminals few;
-  high = tallied-fit high_in refl s.high k x t a.high few;
+  aside = tallied-fit aside_in refl s.aside k x t a.aside few;
   users = tallied-fit seated_user refl s.users k x t a.users few;
-  elsewhere = tallied-fit elsewhere_in refl s.elsewhere k x t a.elsewhere few;
 }
 
 pub seated-say : (s : Seating) (w : Whom) (n : Notice) (t : Trail) → AreSeated s t → AreSeated s (Say w n ∷ t)
 seated-say s w n t a = record {
   terminals = tallied-say terminal_in refl s.terminals w n t a.terminals;
-  high = tallied-say high_in refl s.high w n t a.high;
+  aside = tallied-say aside_in refl s.aside w n t a.aside;
   users = tallied-say seated_user refl s.users w n t a.users;
-  elsewhere = tallied-say elsewhere_in refl s.elsewhere w n t a.elsewhere;
 }
 
 tallied-none : (place_in : Fact → Option ℕ) (c : Tally) → ((v : ℕ) → v < buckets → slice_index c.counts v ≡ 0) → AreTallied place_in c []
 unfolding placed_at names
 tallied-none place_in c e = record { at = e }
 
-pub seated-none : (s : Seating) → ((v : ℕ) → v < buckets → slice_index s.terminals.counts v ≡ 0) → ((v : ℕ) → v < buckets → slice_index s.high.counts v ≡ 0)
-    → ((v : ℕ) → v < buckets → slice_index s.users.counts v ≡ 0) → ((v : ℕ) → v < buckets → slice_index s.elsewhere.counts v ≡ 0) → AreSeated s []
-seated-none s e h f g = record {
+pub seated-none : (s : Seating) → ((v : ℕ) → v < buckets → slice_index s.terminals.counts v ≡ 0) → ((v : ℕ) → v < buckets → slice_index s.aside.counts v ≡ 0)
+    → ((v : ℕ) → v < buckets → slice_index s.users.counts v ≡ 0) → AreSeated s []
+seated-none s e h f = record {
   terminals = tallied-none terminal_in s.terminals e;
-  high = tallied-none high_in s.high h;
+  aside = tallied-none aside_in s.aside h;
   users = tallied-none seated_user s.users f;
-  elsewhere = tallied-none elsewhere_in s.elsewhere g;
 }
 
 -- a fact that was read of the tables, and one that is a copy

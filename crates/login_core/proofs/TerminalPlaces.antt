@@ -47,12 +47,12 @@ found-none {A} p a (x ∷ xs) e i m = elim (test (p x)) [
   ]
 ]
 
-map-in : {A : Type 0} (f : A → ℕ) (a : A) (xs : List A) → IsIn a xs → IsIn (f a) (map f xs)
+pub map-in : {A : Type 0} (f : A → ℕ) (a : A) (xs : List A) → IsIn a xs → IsIn (f a) (map f xs)
 map-in f a [] i = i
 map-in f a (x ∷ xs) (inl e) = inl (ap f e)
 map-in f a (x ∷ xs) (inr i) = inr (map-in f a xs i)
 
-map-came : {A : Type 0} (f : A → ℕ) (n : ℕ) (xs : List A) → IsIn n (map f xs) → (a : A) × (IsIn a xs × (n ≡ f a))
+pub map-came : {A : Type 0} (f : A → ℕ) (n : ℕ) (xs : List A) → IsIn n (map f xs) → (a : A) × (IsIn a xs × (n ≡ f a))
 map-came f n [] i = absurd i
 map-came f n (x ∷ xs) (inl e) = (x, (inl refl, e))
 map-came f n (x ∷ xs) (inr i) = (let h = map-came f n xs i in (h.0, (inr h.1.0, h.1.1)))

@@ -18,6 +18,7 @@ pub mod Ledger
 pub mod Ending
 pub mod UnderWay
 pub mod Seating
+pub mod Arrivals
 pub mod Draft
 pub mod TakingOver
 pub mod Board

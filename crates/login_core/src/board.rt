@@ -1,5 +1,6 @@
 // The marks of the entry under way, with the facts that the marks leave; and the journal beside them.
 
+pub mod arrivals;
 pub mod choosing;
 pub mod concerning;
 pub mod ends;

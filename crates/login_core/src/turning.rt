@@ -1,15 +1,19 @@
 // How a seat turns to the next or the previous of its sessions.
 
-ghost use Rattle.std.specs.Prelude.{◌≡◌};
+ghost use Rattle.std.specs.Prelude.{◌≡◌, false};
+ghost use Rattle.std.specs.Str.{bytes_eq};
 ghost use Rattle.login_model.specs.Names.{is_above};
+ghost use Rattle.login_model.specs.Start.{seat0};
 ghost use Rattle.login_model.specs.Procedure.{if_some};
 ghost use Rattle.login_model.specs.Turning.{open_terminals, turn_to_next, turn_to_previous};
 ghost use Rattle.login_table.specs.Nearest.{is_lower};
 ghost use Rattle.login_core.specs.inner.Places.{is_before, behind, around, is_open_on, place_of, places, current_place, nearer_place, nearer_open, nearer_terminal, turn_to_place, turn_to};
+ghost use Rattle.login_core.specs.inner.Arrivals.{AreKept};
 ghost use Rattle.login_core.specs.inner.Draft.{marked_by, Fits};
 ghost use Rattle.login_core.specs.inner.Seating.{AreLow};
 
 use crate::board::Draft;
+use crate::board::arrivals::{Arrivals, MOST_ARRIVALS};
 use crate::board::seating::BUCKETS;
 use login_base::{SeatName, SessId};
 use login_model::{Key, Look};
@@ -128,6 +132,28 @@ impl Draft {
         best
     }
 
+    /// The nearest place of an open session behind a place of a seat other than seat0, or the first of all, where the
+    /// arrivals have all sessions of such seats.
+    fn nearest_arrival(
+        &self,
+        way: Way,
+        seat: SeatName,
+        start: Option<u32>,
+        arrivals: &Arrivals,
+    ) -> Option<u32>
+        requires other { bytes_eq seat seat0 ≡ false }
+        requires kept { AreKept arrivals.now self.now.trail }
+        ensures { result ≡ behind way start (places self.now.trail seat) }
+    {
+        let mut best = None;
+        for place in 0..MOST_ARRIVALS {
+            if let Some(session) = arrivals.at(place) {
+                best = self.nearer_open(way, seat, start, session, best);
+            }
+        }
+        best
+    }
+
     /// The nearest place of an open session behind a place of a seat, or the first of all, by going over all
     /// sessions.
     fn find_nearest(&self, way: Way, seat: SeatName, start: Option<u32>) -> Option<u32>
@@ -142,11 +168,24 @@ impl Draft {
         best
     }
 
+    /// The nearest place of an open session behind a place of a seat other than seat0, or the first of all.
+    fn nearest_elsewhere(&self, way: Way, seat: SeatName, start: Option<u32>) -> Option<u32>
+        requires other { bytes_eq seat seat0 ≡ false }
+        ensures { result ≡ behind way start (places self.now.trail seat) }
+    {
+        match self.so_far().all_arrivals() {
+            Some(arrivals) => self.nearest_arrival(way, seat, start, &arrivals),
+            None => self.find_nearest(way, seat, start),
+        }
+    }
+
     /// The nearest place of an open session behind a place of a seat, or the first of all.
     fn nearest_place(&self, way: Way, seat: SeatName, start: Option<u32>) -> Option<u32>
         ensures { result ≡ behind way start (places self.now.trail seat) }
     {
-        if seat.is_seat0() && self.are_low() {
+        if !seat.is_seat0() {
+            self.nearest_elsewhere(way, seat, start)
+        } else if self.are_low() {
             self.nearest_terminal(way, start)
         } else {
             self.find_nearest(way, seat, start)

@@ -1,6 +1,5 @@
 mod Asked
 mod Broken
 mod Lowest
-mod Seatless
 mod Way
 mod Words

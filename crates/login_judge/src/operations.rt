@@ -10,7 +10,7 @@ ghost use Rattle.login_judge.specs.inner.Needed.{needs_by, said};
 
 use crate::fits::broken_if;
 use crate::locks::inhibited;
-use crate::seated::OfAnother;
+use crate::others::OfAnother;
 use crate::session_calls::first_broken;
 use crate::standing::{needed, standing, uid_of};
 use login_base::ConnId;

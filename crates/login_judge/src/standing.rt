@@ -10,20 +10,19 @@ use login_base::ConnId;
 use login_model::{Action, Key, Look, Rule, Say, Setup, Standing, Verdict};
 use login_policy::ask;
 
-/// How a user's connections stand. Who has no open session with a seat has none that is active on one, so that is
-/// asked first.
-#[tactic(auto, using(crate::proofs::Seatless::seatless), unfolding(login_model::specs::Standing::standing_of))]
+/// How a user's connections stand.
+#[tactic(auto, unfolding(login_model::specs::Standing::standing_of))]
 fn standing_of<F: Look>(facts: &F, uid: u32) -> Standing
     ensures { result ≡ standing_of (F.trail facts.now) uid }
 {
     if uid == 0 {
         Standing::Root
-    } else if !facts.is_seated(uid) {
-        Standing::Any
     } else if facts.is_active_user(uid) {
         Standing::Active
-    } else {
+    } else if facts.is_seated(uid) {
         Standing::Inactive
+    } else {
+        Standing::Any
     }
 }
 

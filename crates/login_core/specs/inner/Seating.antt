@@ -1,5 +1,5 @@
 -- Where the open sessions with a seat are: how many each bucket of terminals and of users has.
-use Rattle.std.specs.Prelude.{ℕ, ◌≡◌, ◌==◌, ◌&&◌, ◌||◌, ◌+◌, ◌<◌, ◌≤◌, ◌^◌, ◌%◌, nat_le, Bool, true, false, if◌then◌else◌, Option, Some, None, List, find, length, filter, option_and_then, slice_index}
+use Rattle.std.specs.Prelude.{ℕ, ◌≡◌, ◌==◌, ◌&&◌, ◌+◌, ◌<◌, ◌≤◌, ◌^◌, ◌%◌, nat_le, Bool, true, false, if◌then◌else◌, Option, Some, None, List, find, length, filter, option_and_then, slice_index}
 use Rattle.std.specs.Option.{is_some}
 use Rattle.login_base.specs.declared.ids.SessId.{SessId}
 use Rattle.login_model.specs.declared.fact.Key.{Key}
@@ -23,9 +23,13 @@ buckets = 64
 abbrev pub high_in : Fact → Option ℕ
 high_in x = option_and_then (λ v. if nat_le buckets v then Some 0 else None) (terminal_in x)
 
--- the user of an open session whose seat is not seat0
-abbrev pub elsewhere_in : Fact → Option ℕ
-elsewhere_in x = if is_some (terminal_in x) then None else seated_user x
+-- an open session has a seat, which is not seat0
+abbrev pub sits_elsewhere : Fact → Bool
+sits_elsewhere x = if is_some (terminal_in x) then false else is_some (seated_user x)
+
+-- 0 for an open session of seat0 whose terminal has no bucket of its own, 1 for one on another seat
+abbrev pub aside_in : Fact → Option ℕ
+aside_in x = if sits_elsewhere x then Some 1 else high_in x
 
 -- the bucket of a number
 abbrev pub bucket_of : ℕ → ℕ
@@ -61,31 +65,32 @@ pub record Shifts (c : Tally) (lost gained : Option ℕ) (d : Tally) : Type 0 wh
 -- the tallies have the numbers that the marks leave
 pub record AreSeated (s : Seating) (t : Trail) : Type 0 where
   pub terminals : AreTallied terminal_in s.terminals t
-  pub high : AreTallied high_in s.high t
+  pub aside : AreTallied aside_in s.aside t
   pub users : AreTallied seated_user s.users t
-  pub elsewhere : AreTallied elsewhere_in s.elsewhere t
 
 -- a setting can move them
 pub record CanSeat (s : Seating) (k : Key) (x y : Fact) : Type 0 where
   pub terminals : CanShift s.terminals (place_under terminal_in k x) (place_under terminal_in k y)
-  pub high : CanShift s.high (place_under high_in k x) (place_under high_in k y)
+  pub aside : CanShift s.aside (place_under aside_in k x) (place_under aside_in k y)
   pub users : CanShift s.users (place_under seated_user k x) (place_under seated_user k y)
-  pub elsewhere : CanShift s.elsewhere (place_under elsewhere_in k x) (place_under elsewhere_in k y)
 
 -- a setting of a key from one fact to another moved them
 pub record Seats (s : Seating) (k : Key) (x y : Fact) (u : Seating) : Type 0 where
   pub terminals : Shifts s.terminals (place_under terminal_in k x) (place_under terminal_in k y) u.terminals
-  pub high : Shifts s.high (place_under high_in k x) (place_under high_in k y) u.high
+  pub aside : Shifts s.aside (place_under aside_in k x) (place_under aside_in k y) u.aside
   pub users : Shifts s.users (place_under seated_user k x) (place_under seated_user k y) u.users
-  pub elsewhere : Shifts s.elsewhere (place_under elsewhere_in k x) (place_under elsewhere_in k y) u.elsewhere
+
+-- the bucket of a number has so many
+abbrev pub has_at : Tally → ℕ → ℕ → Bool
+has_at c n count = slice_index c.counts (bucket_of n) == count
 
 -- the bucket of a number has none
 abbrev pub is_none_at : Tally → ℕ → Bool
-is_none_at c n = slice_index c.counts (bucket_of n) == 0
+is_none_at c n = has_at c n 0
 
 -- the bucket of a number has one
 abbrev pub is_one_at : Tally → ℕ → Bool
-is_one_at c n = slice_index c.counts (bucket_of n) == 1
+is_one_at c n = has_at c n 1
 
 -- each open session of seat0 is on a terminal that has a bucket of its own
 pub record AreLow (t : Trail) : Type 0 where
@@ -97,9 +102,11 @@ IsCrowd place_in t n Nobody = (s : SessId) → is_at (place_in (value t (key.Ses
 IsCrowd place_in t n (Alone r) = (is_at (place_in (value t (key.Sess r))) (bucket_of n) ≡ true) × ((s : SessId) → is_at (place_in (value t (key.Sess s))) (bucket_of n) ≡ true → s ≡ r)
 IsCrowd place_in t n Several = Several ≡ Several
 
--- what two parts say together, where both are known
+-- what two parts say together, as far as they are known
 abbrev pub either : Option Bool → Option Bool → Option Bool
-either (Some a) (Some b) = Some (a || b)
+either (Some true) b = Some true
+either a (Some true) = Some true
+either (Some false) (Some false) = Some false
 either _ _ = None
 
 -- a session is an open one of a user, on the current terminal
@@ -124,7 +131,7 @@ abbrev pub is_some_on_seat0 : Trail → ℕ → Bool
 is_some_on_seat0 t uid = is_some (find (is_on_seat0_of t uid) (sessions t))
 
 abbrev pub is_elsewhere_of : Trail → ℕ → SessId → Bool
-is_elsewhere_of t uid s = is_open_of uid (value t (key.Sess s)) && is_some (elsewhere_in (value t (key.Sess s)))
+is_elsewhere_of t uid s = is_open_of uid (value t (key.Sess s)) && sits_elsewhere (value t (key.Sess s))
 
 abbrev pub is_some_elsewhere : Trail → ℕ → Bool
 is_some_elsewhere t uid = is_some (find (is_elsewhere_of t uid) (sessions t))

@@ -1,14 +1,17 @@
 // Who is on a terminal, who has a seat, and who is active on one.
 
-ghost use Rattle.std.specs.Prelude.{◌≡◌, Bool, true, false, None, Some};
-ghost use Rattle.login_model.specs.Facts.{terminal_in};
+ghost use Rattle.std.specs.Prelude.{◌≡◌, ◌&&◌, nat_lt, Bool, true, Some};
+ghost use Rattle.login_model.specs.Facts.{seated_user, terminal_in};
 ghost use Rattle.login_model.specs.Standing.{has_active, has_seat, is_active_of};
 ghost use Rattle.login_model.specs.Where.{is_acting, session_on};
-ghost use Rattle.login_core.specs.inner.Seating.{AreLow, IsCrowd, either, elsewhere_in, is_acting_of, is_current_of, is_some_acting, is_some_current, is_some_elsewhere, is_some_on_seat0};
+ghost use Rattle.login_core.specs.declared.board.arrivals.Arrivals.{Arrivals};
+ghost use Rattle.login_core.specs.inner.Arrivals.{AreCounted, AreKept, is_elsewhere};
+ghost use Rattle.login_core.specs.inner.Seating.{AreLow, IsCrowd, either, is_acting_of, is_current_of, is_elsewhere_of, is_some_acting, is_some_current, is_some_elsewhere, is_some_on_seat0};
 
 use crate::board::Draft;
+use crate::board::arrivals::{Arrivals, MOST_ARRIVALS};
 use crate::board::choosing::least_that;
-use crate::board::seating::{BUCKETS, Crowd, elsewhere_in, is_beside};
+use crate::board::seating::{BUCKETS, Crowd, ELSEWHERE, is_beside, sits_elsewhere};
 use crate::board::so_far::SoFar;
 use login_base::SessId;
 use login_model::{Fact, Key, Look};
@@ -18,51 +21,7 @@ impl Draft {
     pub fn are_low(&self) -> bool
         ensures { result ≡ true → AreLow self.now.trail }
     {
-        self.seating.high.is_none_at(0)
-    }
-}
-
-/// Terminals.
-impl<'a> SoFar<'a> {
-    /// Whether it is known that no open session of seat0 has a terminal.
-    fn is_terminal_free(&self, vt: u32) -> bool
-        ensures { result ≡ true → session_on self.now vt ≡ None }
-    {
-        self.seating().terminals.is_none_at(vt)
-    }
-
-    /// Whether it is known that this session alone is on a terminal.
-    fn is_alone_on(&self, session: SessId, vt: u32) -> bool
-        ensures { result ≡ true → session_on self.now vt ≡ Some session }
-    {
-        self.seating().terminals.is_one_at(vt)
-            && self
-                .fact(&Key::Sess(session))
-                .is_on_terminal(&Fact::Number(vt))
-    }
-
-    /// The open session of seat0 that has a terminal, by going over all sessions.
-    fn find_on_terminal(&self, vt: u32) -> Option<SessId>
-        ensures { result ≡ session_on self.now vt }
-    {
-        least_that(self, None, |session| {
-            self.fact(&Key::Sess(session))
-                .is_on_terminal(&Fact::Number(vt))
-        })
-    }
-
-    /// The open session of seat0 that has a terminal.
-    pub fn session_on(&self, vt: u32) -> Option<SessId>
-        ensures { result ≡ session_on self.now vt }
-    {
-        let alone = self.seating().terminals.alone_at(vt);
-        if self.is_terminal_free(vt) {
-            None
-        } else if self.is_alone_on(alone, vt) {
-            Some(alone)
-        } else {
-            self.find_on_terminal(vt)
-        }
+        self.seating.aside.is_none_at(0)
     }
 }
 
@@ -84,16 +43,16 @@ impl<'a> SoFar<'a> {
         }
     }
 
-    /// Who of the open sessions of other seats is in the bucket of a user.
-    fn crowd_elsewhere(&self, uid: u32) -> Crowd
-        ensures { IsCrowd elsewhere_in self.now uid result }
+    /// Who of the open sessions with a seat is in the bucket of a user.
+    fn crowd_of(&self, uid: u32) -> Crowd
+        ensures { IsCrowd seated_user self.now uid result }
     {
-        let elsewhere = &self.seating().elsewhere;
-        if elsewhere.is_none_at(uid) {
+        let users = &self.seating().users;
+        if users.is_none_at(uid) {
             return Crowd::Nobody;
         }
-        let alone = elsewhere.alone_at(uid);
-        if elsewhere.is_one_at(uid) && is_beside(elsewhere_in(self.fact(&Key::Sess(alone))), uid) {
+        let alone = users.alone_at(uid);
+        if users.is_one_at(uid) && is_beside(self.fact(&Key::Sess(alone)).seated_user(), uid) {
             Crowd::Alone(alone)
         } else {
             Crowd::Several
@@ -101,26 +60,99 @@ impl<'a> SoFar<'a> {
     }
 }
 
-/// What two parts say together, where both are known.
+/// Other seats than seat0.
+impl<'a> SoFar<'a> {
+    /// Whether a session is open, and its seat is not seat0.
+    fn is_elsewhere(&self, session: SessId) -> bool
+        ensures { result ≡ is_elsewhere self.now session }
+    {
+        sits_elsewhere(self.fact(&Key::Sess(session)))
+    }
+
+    /// Whether a session below the last that was counted is on another seat.
+    fn is_another(&self, session: SessId, last: u32) -> bool
+        ensures { result ≡ (nat_lt session.0 last && is_elsewhere self.now session) }
+    {
+        session.0 < last && self.is_elsewhere(session)
+    }
+
+    /// How many of the arrivals are on other seats: each is below those before it, so that none counts twice.
+    fn count_arrivals(&self, arrivals: &Arrivals) -> u32
+        ensures { AreCounted arrivals.now self.now result }
+    {
+        let mut last = u32::MAX;
+        let mut count = 0;
+        for place in 0..MOST_ARRIVALS {
+            if let Some(session) = arrivals.at(place) {
+                if self.is_another(session, last) {
+                    last = session.0;
+                    count += 1;
+                }
+            }
+        }
+        count
+    }
+
+    /// The arrivals, where they are known to have all open sessions on other seats.
+    pub fn all_arrivals(&self) -> Option<Arrivals>
+        ensures { (arrivals : Arrivals) → result ≡ Some arrivals → AreKept arrivals self.now }
+    {
+        let seating = self.seating();
+        let arrivals = seating.arrivals;
+        let count = self.count_arrivals(&arrivals);
+        if seating.aside.has_at(ELSEWHERE, count) {
+            Some(arrivals)
+        } else {
+            None
+        }
+    }
+}
+
+/// Terminals.
+impl<'a> SoFar<'a> {
+    /// The open session of seat0 that has a terminal, by going over all sessions.
+    fn find_on_terminal(&self, vt: u32) -> Option<SessId>
+        ensures { result ≡ session_on self.now vt }
+    {
+        least_that(self, None, |session| {
+            self.fact(&Key::Sess(session))
+                .is_on_terminal(&Fact::Number(vt))
+        })
+    }
+
+    /// The open session of seat0 that has a terminal.
+    pub fn session_on(&self, vt: u32) -> Option<SessId>
+        ensures { result ≡ session_on self.now vt }
+    {
+        match self.crowd_at(vt) {
+            Crowd::Nobody => None,
+            Crowd::Alone(session) => {
+                let fact = self.fact(&Key::Sess(session));
+                if fact.is_on_terminal(&Fact::Number(vt)) {
+                    Some(session)
+                } else {
+                    None
+                }
+            }
+            Crowd::Several => self.find_on_terminal(vt),
+        }
+    }
+}
+
+/// What two parts say together, as far as they are known.
 fn either(first: Option<bool>, second: Option<bool>) -> Option<bool>
     ensures { result ≡ either first second }
 {
     match (first, second) {
-        (Some(first), Some(second)) => Some(first || second),
+        (Some(true), _) | (_, Some(true)) => Some(true),
+        (Some(false), Some(false)) => Some(false),
         _ => None,
     }
 }
 
 /// Seats.
 impl<'a> SoFar<'a> {
-    /// Whether it is known that no open session of a user has a seat.
-    fn is_seatless(&self, uid: u32) -> bool
-        ensures { result ≡ true → has_seat self.now uid ≡ false }
-    {
-        self.seating().users.is_none_at(uid)
-    }
-
-    /// Whether an open session of a user is on seat0, where no two sessions are in one terminal's bucket.
+    /// Whether an open session of a user is on seat0: it is not known where two sessions are in one terminal's bucket.
     fn on_seat0(&self, uid: u32) -> Option<bool>
         ensures { (is_so : Bool) → result ≡ Some is_so → is_some_on_seat0 self.now uid ≡ is_so }
     {
@@ -138,14 +170,21 @@ impl<'a> SoFar<'a> {
         Some(false)
     }
 
-    /// Whether an open session of a user is on another seat, where one session at most is in the user's bucket there.
+    /// Whether a session is an open one of a user, and on another seat.
+    fn is_elsewhere_of(&self, uid: u32, session: SessId) -> bool
+        ensures { result ≡ is_elsewhere_of self.now uid session }
+    {
+        let fact = self.fact(&Key::Sess(session));
+        fact.is_open_of(uid) && sits_elsewhere(fact)
+    }
+
+    /// Whether an open session of a user is on another seat, where all of these are known.
     fn elsewhere(&self, uid: u32) -> Option<bool>
         ensures { (is_so : Bool) → result ≡ Some is_so → is_some_elsewhere self.now uid ≡ is_so }
     {
-        match self.crowd_elsewhere(uid) {
-            Crowd::Nobody => Some(false),
-            Crowd::Alone(session) => Some(self.fact(&Key::Sess(session)).is_open_of(uid)),
-            Crowd::Several => None,
+        match self.all_arrivals() {
+            Some(arrivals) => Some(arrivals.has(|session| self.is_elsewhere_of(uid, session))),
+            None => None,
         }
     }
 
@@ -159,7 +198,7 @@ impl<'a> SoFar<'a> {
         seated.is_some()
     }
 
-    /// Whether an open session of a user has a seat, where it is not known that none has.
+    /// Whether an open session of a user has a seat, where several are in the user's bucket.
     fn look_for_seated(&self, uid: u32) -> bool
         ensures { result ≡ has_seat self.now uid }
     {
@@ -173,10 +212,10 @@ impl<'a> SoFar<'a> {
     pub fn has_seat(&self, uid: u32) -> bool
         ensures { result ≡ has_seat self.now uid }
     {
-        if self.is_seatless(uid) {
-            false
-        } else {
-            self.look_for_seated(uid)
+        match self.crowd_of(uid) {
+            Crowd::Nobody => false,
+            Crowd::Alone(session) => self.fact(&Key::Sess(session)).is_seated_of(uid),
+            Crowd::Several => self.look_for_seated(uid),
         }
     }
 }
@@ -226,15 +265,13 @@ impl<'a> SoFar<'a> {
         }
     }
 
-    /// Whether an open session of a user is active on another seat, where one session at most is in the user's bucket
-    /// there.
+    /// Whether an open session of a user is active on another seat, where all sessions of such seats are known.
     fn acting(&self, uid: u32) -> Option<bool>
         ensures { (is_so : Bool) → result ≡ Some is_so → is_some_acting self.now uid ≡ is_so }
     {
-        match self.crowd_elsewhere(uid) {
-            Crowd::Nobody => Some(false),
-            Crowd::Alone(session) => Some(self.is_acting_of(uid, session)),
-            Crowd::Several => None,
+        match self.all_arrivals() {
+            Some(arrivals) => Some(arrivals.has(|session| self.is_acting_of(uid, session))),
+            None => None,
         }
     }
 
@@ -257,13 +294,24 @@ impl<'a> SoFar<'a> {
         active.is_some()
     }
 
-    /// Whether an open session of a user is active on its seat.
-    pub fn has_active(&self, uid: u32) -> bool
+    /// Whether an open session of a user is active on its seat, where several are in the user's bucket.
+    fn look_for_active(&self, uid: u32) -> bool
         ensures { result ≡ has_active self.now uid }
     {
         match either(self.current(uid), self.acting(uid)) {
             Some(is_so) => is_so,
             None => self.find_active(uid),
+        }
+    }
+
+    /// Whether an open session of a user is active on its seat.
+    pub fn has_active(&self, uid: u32) -> bool
+        ensures { result ≡ has_active self.now uid }
+    {
+        match self.crowd_of(uid) {
+            Crowd::Nobody => false,
+            Crowd::Alone(session) => self.is_active_of(uid, session),
+            Crowd::Several => self.look_for_active(uid),
         }
     }
 }

@@ -2,8 +2,9 @@
 
 ghost use Rattle.std.specs.Prelude.{◌≡◌, ℕ, ◌+◌, ◌<◌, ◌≤◌, ◌^◌, [], slice_index};
 ghost use Rattle.login_core.specs.inner.Counts.{one_if};
-ghost use Rattle.login_core.specs.inner.Seating.{buckets, AreSeated, CanSeat, CanShift, Seats, Shifts, bucket_of, elsewhere_in, high_in, is_at, is_none_at, is_one_at};
+ghost use Rattle.login_core.specs.inner.Seating.{buckets, AreSeated, CanSeat, CanShift, Seats, Shifts, aside_in, bucket_of, has_at, high_in, is_at, is_none_at, is_one_at, sits_elsewhere};
 
+use crate::board::arrivals::Arrivals;
 use login_base::SessId;
 use login_model::{Fact, Key};
 
@@ -32,13 +33,15 @@ pub fn is_beside(number: Option<u32>, other: u32) -> bool
 #[derive(Clone, Copy)]
 pub enum Crowd {
     Nobody,
+    /// This session and no other.
     Alone(SessId),
+    /// Several, or it is not known who.
     Several,
 }
 
 /// How many sessions there are by a number of each: a terminal, or a user. Numbers that leave the same remainder
-/// share a bucket. Beside it the sum of the sessions in each, modulo 2^32: the one that is alone in its bucket. No
-/// promise is made of the sums, so whoever takes one for a session looks whether it is.
+/// share a bucket. Beside each count stands the sum of the numbers of these sessions, modulo 2^32, so where there is
+/// one, its number. No promise is made of the sums: whoever takes one for a session looks whether it is.
 #[derive(Clone, Copy)]
 pub struct Tally {
     counts: [u32; BUCKETS],
@@ -89,18 +92,25 @@ impl Tally {
         self.gain(session, gained);
     }
 
+    /// Whether the bucket of a number has so many.
+    pub fn has_at(&self, number: u32, count: u32) -> bool
+        ensures { result ≡ has_at self.now number count }
+    {
+        self.counts[bucket_of(number)] == count
+    }
+
     /// Whether the bucket of a number has none.
     pub fn is_none_at(&self, number: u32) -> bool
         ensures { result ≡ is_none_at self.now number }
     {
-        self.counts[bucket_of(number)] == 0
+        self.has_at(number, 0)
     }
 
     /// Whether the bucket of a number has one.
     pub fn is_one_at(&self, number: u32) -> bool
         ensures { result ≡ is_one_at self.now number }
     {
-        self.counts[bucket_of(number)] == 1
+        self.has_at(number, 1)
     }
 
     /// The session in the bucket of a number, where one is alone there.
@@ -125,26 +135,42 @@ fn high_in(fact: &Fact) -> Option<u32>
     }
 }
 
-/// The user of an open session whose seat is not seat0.
-pub fn elsewhere_in(fact: &Fact) -> Option<u32>
-    ensures { result ≡ elsewhere_in fact.now }
+/// Whether an open session has a seat, which is not seat0.
+pub fn sits_elsewhere(fact: &Fact) -> bool
+    ensures { result ≡ sits_elsewhere fact.now }
 {
     if fact.terminal().is_some() {
-        None
+        false
     } else {
-        fact.seated_user()
+        fact.seated_user().is_some()
     }
 }
 
-/// How many open sessions of seat0 there are by their terminal, and how many open sessions with a seat by their
-/// user, on any seat and on others than seat0.
+/// The number under which open sessions on seats other than seat0 are counted.
+pub const ELSEWHERE: u32 = 1;
+
+/// 0 for an open session of seat0 whose terminal has no bucket of its own, 1 for one on another seat.
+fn aside_in(fact: &Fact) -> Option<u32>
+    ensures { result ≡ aside_in fact.now }
+{
+    if sits_elsewhere(fact) {
+        Some(ELSEWHERE)
+    } else {
+        high_in(fact)
+    }
+}
+
+/// How many open sessions with a seat there are.
 #[derive(Clone, Copy)]
 pub struct Seating {
+    /// Those of seat0, by their terminal.
     pub terminals: Tally,
-    /// Those whose terminal has no bucket of its own.
-    pub high: Tally,
+    /// Those of seat0 whose terminal has no bucket of its own, and those on other seats.
+    pub aside: Tally,
+    /// All of them, by their user.
     pub users: Tally,
-    pub elsewhere: Tally,
+    /// Which of them are on other seats.
+    pub arrivals: Arrivals,
 }
 
 impl Seating {
@@ -154,9 +180,9 @@ impl Seating {
     {
         Seating {
             terminals: Tally::new(),
-            high: Tally::new(),
+            aside: Tally::new(),
             users: Tally::new(),
-            elsewhere: Tally::new(),
+            arrivals: Arrivals::new(),
         }
     }
 
@@ -169,11 +195,11 @@ impl Seating {
             let session = *session;
             self.terminals
                 .shift(session, before.terminal(), fact.terminal());
-            self.high.shift(session, high_in(before), high_in(fact));
+            self.aside.shift(session, aside_in(before), aside_in(fact));
             self.users
                 .shift(session, before.seated_user(), fact.seated_user());
-            self.elsewhere
-                .shift(session, elsewhere_in(before), elsewhere_in(fact));
+            self.arrivals
+                .shift(session, sits_elsewhere(before), sits_elsewhere(fact));
         }
     }
 }

@@ -8,4 +8,4 @@ pub returns : goal.returns
 returns c = λ e.
     let f = c.self.inside in
     let seated = subst (AreSeated f.seating) (ap (λ (d : DraftState). d.trail) c.self.view_is) c.self.invariant.seated in
-    none-high f.seating.high c.args.self.now.trail seated.high (sym c.is_none_at.ensures ∙ e)
+    none-high f.seating.aside c.args.self.now.trail seated.aside (sym c.is_none_at.ensures ∙ e)

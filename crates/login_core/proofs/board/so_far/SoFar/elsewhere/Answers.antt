@@ -1,17 +1,17 @@
-use Rattle.std.proofs.Common.{◌∙◌, ap, subst, sym}
-use Rattle.login_model.specs.Facts.{is_open_of}
-use Rattle.login_core.specs.declared.board.seating.Crowd.{Crowd}
-use Rattle.login_core.specs.inner.Seating.{IsCrowd, elsewhere_in}
-use Rattle.login_core.proofs.SeatedLaws.{alone-elsewhere, none-elsewhere, told}
+use Rattle.std.proofs.Common.{◌≡◌, ◌∙◌, Bool, true, false, rules}
+use Rattle.login_base.specs.declared.ids.SessId.{SessId}
+use Rattle.login_core.specs.inner.Arrivals.{IsSaidOfNone, IsSaidOfOne}
+use Rattle.login_core.specs.inner.Seating.{is_elsewhere_of}
+use Rattle.login_core.proofs.ArrivalLaws.{met-or-not}
+use Rattle.login_core.proofs.SeatedLaws.{of-elsewhere, told}
 use Rattle.login_core.proofs.board.so_far.SoFar.elsewhere.Goals as goal
 
-pub returns-in-Nobody : goal.returns-in-Nobody
-returns-in-Nobody c = λ b e.
-    let P : Crowd → Type 0 = IsCrowd elsewhere_in c.args.self.now c.args.uid in
-    none-elsewhere c.args.self.now c.args.uid (subst P c.in-Nobody.is c.crowd_elsewhere.ensures) ∙ told e
-
-pub returns-in-Alone : goal.returns-in-Alone
-returns-in-Alone c = λ b e.
-    let P : Crowd → Type 0 = IsCrowd elsewhere_in c.args.self.now c.args.uid in
-    alone-elsewhere c.args.self.now c.args.uid c.in-Alone.session (subst P c.in-Alone.is c.crowd_elsewhere.ensures)
-    ∙ ap (is_open_of c.args.uid) (sym c.fact.ensures) ∙ sym c.is_open_of.ensures ∙ told e
+pub returns-in-Some : goal.returns-in-Some
+returns-in-Some c = λ b e.
+    let t = c.args.self.now in
+    let p : SessId → Bool = is_elsewhere_of t c.args.uid in
+    let one : c.has.result ≡ true → IsSaidOfOne c.in-Some.arrivals (λ s r. r ≡ p s) =
+    λ h. (let o = c.has.ensures.met h in let said = o.said in record { session = o.session; kept = o.kept; said = search rules }) in
+    let none : c.has.result ≡ false → IsSaidOfNone c.in-Some.arrivals (λ s r. r ≡ p s) =
+    λ h. (let o = c.has.ensures.unmet h in record { said = λ s k. (let said = o.said s k in search rules) }) in
+    met-or-not c.in-Some.arrivals t p c.has.result (c.all_arrivals.ensures c.in-Some.arrivals c.in-Some.is) (of-elsewhere t c.args.uid) one none ∙ told e

@@ -1,12 +1,16 @@
-use Rattle.std.proofs.Common.{◌∙◌, sym}
-use Rattle.login_model.specs.Standing.{has_active}
-use Rattle.login_core.specs.inner.Seating.{is_some_acting, is_some_current}
-use Rattle.login_core.proofs.SeatedLaws.{active-by, either-known}
+use Rattle.std.proofs.Common.{◌∙◌, subst, sym}
+use Rattle.login_model.specs.Facts.{seated_user}
+use Rattle.login_core.specs.declared.board.seating.Crowd.{Crowd}
+use Rattle.login_core.specs.inner.Seating.{IsCrowd}
+use Rattle.login_core.proofs.SeatedLaws.{active-alone, inactive}
 use Rattle.login_core.proofs.board.so_far.SoFar.has_active.Goals as goal
 
-pub returns-in-Some : goal.returns-in-Some
-returns-in-Some c =
-    let t = c.args.self.now in
-    let u = c.args.uid in
-    sym (either-known c.current.result c.acting.result (is_some_current t u) (is_some_acting t u) (has_active t u) c.current.ensures c.acting.ensures (active-by t u) c.in-Some.is_so
-    (sym c.either.ensures ∙ c.in-Some.is))
+pub returns-in-Nobody : goal.returns-in-Nobody
+returns-in-Nobody c =
+    let P : Crowd → Type 0 = IsCrowd seated_user c.args.self.now c.args.uid in
+    sym (inactive c.args.self.now c.args.uid (subst P c.in-Nobody.is c.crowd_of.ensures))
+
+pub returns-in-Alone : goal.returns-in-Alone
+returns-in-Alone c =
+    let P : Crowd → Type 0 = IsCrowd seated_user c.args.self.now c.args.uid in
+    sym (active-alone c.args.self.now c.args.uid c.in-Alone.session (subst P c.in-Alone.is c.crowd_of.ensures) ∙ sym c.is_active_of.ensures)

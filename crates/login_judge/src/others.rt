@@ -1,4 +1,4 @@
-// A test of sessions by their users.
+// A test of sessions by whose they are not.
 
 ghost use Rattle.login_model.specs.declared.fact.Key.TheVariants.{Sess};
 ghost use Rattle.login_model.specs.Facts.{is_other_user};

@@ -1,0 +1,20 @@
+use Rattle.std.proofs.Common.{◌≡◌, ◌∙◌, ℕ, true, Option, refl, ap, sym}
+use Rattle.login_model.specs.declared.fact.Fact.{Fact}
+use Rattle.login_model.specs.declared.fact.Key.TheVariants.{Sess}
+use Rattle.login_model.specs.Facts.{seated_user}
+use Rattle.login_model.specs.Trail.{value}
+use Rattle.login_core.specs.inner.Seating.{bucket_of, is_at}
+use Rattle.login_core.proofs.SeatedLaws.{alone-there, nobody-there}
+use Rattle.login_core.proofs.board.so_far.SoFar.crowd_of.Goals as goal
+
+pub returns-then-is_none_at : goal.returns-then-is_none_at
+returns-then-is_none_at c = nobody-there seated_user refl c.seating.result.now.users c.args.self.now c.args.uid c.seating.ensures.users (sym c.is_none_at.ensures ∙ c.if-is_none_at.true)
+
+pub returns-then-is_beside : goal.returns-then-is_beside
+returns-then-is_beside c =
+    let t = c.args.self.now in
+    let v = c.args.uid in
+    let r = c.alone_at-alone.result in
+    let beside : is_at (seated_user (value t (Sess r))) (bucket_of v) ≡ true =
+    ap (λ (x : Fact). is_at (seated_user x) (bucket_of v)) (sym c.fact.ensures) ∙ ap (λ (o : Option ℕ). is_at o (bucket_of v)) (sym c.seated_user.ensures) ∙ sym c.is_beside.ensures ∙ c.if-is_beside.true in
+    alone-there seated_user refl c.seating.result.now.users t v r c.seating.ensures.users (sym c.is_one_at.ensures ∙ c.if-is_one_at.true) beside
