@@ -8,14 +8,12 @@ ghost use Rattle.login_model.specs.Where.{is_connected};
 ghost use Rattle.login_model.specs.declared.event.Event.TheVariants as event;
 ghost use Rattle.login_office.specs.Offices.{teller_of};
 ghost use Rattle.recording.specs.declared.line.Line.TheVariants as line;
-ghost use Rattle.replay.specs.Played.{Played};
-ghost use Rattle.replay.specs.Recording.{MayCome};
 ghost use Rattle.replay.specs.Rising.{Rises};
 ghost use Rattle.replay.specs.Early.{failed};
 ghost use Rattle.replay.specs.inner.Early.{of_writing};
 ghost use Rattle.replay.specs.inner.Making.{Makes, connect_of, done, end_then, heard_events, is_in_then, turns_of};
-ghost use Rattle.replay.specs.inner.Player.{StandsBehind, user_at};
-ghost use Rattle.replay.specs.inner.Playing.{ComesNext, EntriesGive, MakesLine, with_own};
+ghost use Rattle.replay.specs.inner.Player.{user_at};
+ghost use Rattle.replay.specs.inner.Playing.{ComesNext, MakesLine, with_own};
 
 use crate::early::Early;
 use crate::making::{make, make_calls};
@@ -28,19 +26,32 @@ use login_model::{Event, Request};
 use login_office::{HeardPiece, LinkEnd, Office, Unbegun};
 use std::alloc::Global;
 
+/// What a piece brings that was heard on a link: as whom the link begins, if it does, its calls, and whether it ends.
+#[derive(Drop)]
+struct Brought {
+    who: ConnId,
+    begins: Option<Uid>,
+    calls: Items<Request>,
+    ends: bool,
+}
+
 /// Makes the calls of a connected link, and its disconnect where it has ended.
 fn make_turns<K: Sink>(
     alloc: Global,
     office: &mut Office,
-    who: ConnId,
-    calls: Items<Request>,
-    ends: bool,
+    brought: Brought,
     sink: &mut K,
 ) -> Result<(), Early>
-    requires placed { AreInPlace office.old.core.setup office.old.core.journal (turns_of who calls ends) }
-    ensures gives { Makes office.old (turns_of who calls ends) office.new (K.held sink.old) (K.held sink.new) result }
+    requires placed { AreInPlace office.old.core.setup office.old.core.journal (turns_of brought.who brought.calls brought.ends) }
+    ensures gives { Makes office.old (turns_of brought.who brought.calls brought.ends) office.new (K.held sink.old) (K.held sink.new) result }
     ensures cause { Rises (failed of_writing result) (K.faults sink.old) (K.faults sink.new) }
 {
+    let Brought {
+        who,
+        calls,
+        ends,
+        ..
+    } = brought;
     make_calls(alloc, office, calls, sink)?;
     if ends {
         make(alloc, office, Event::Disconnect(who), sink)?;
@@ -71,21 +82,18 @@ fn let_in<K: Sink>(
 fn make_heard<K: Sink>(
     alloc: Global,
     office: &mut Office,
-    who: ConnId,
-    begins: Option<Uid>,
-    calls: Items<Request>,
-    ends: bool,
+    brought: Brought,
     sink: &mut K,
 ) -> Result<bool, Early>
     requires legal { IsLegal office.old.core.setup office.old.core.journal }
-    requires placed { AreInPlace office.old.core.setup office.old.core.journal (heard_events office.old.core.setup office.old.core.journal who begins calls ends) }
-    ensures gives { Makes office.old (heard_events office.old.core.setup office.old.core.journal who begins calls ends) office.new (K.held sink.old) (K.held sink.new) (done result) }
-    ensures let_in { IfOk result (λ here. here ≡ is_in_then office.old.core.setup office.old.core.journal who begins) }
+    requires placed { AreInPlace office.old.core.setup office.old.core.journal (heard_events office.old.core.setup office.old.core.journal brought.who brought.begins brought.calls brought.ends) }
+    ensures gives { Makes office.old (heard_events office.old.core.setup office.old.core.journal brought.who brought.begins brought.calls brought.ends) office.new (K.held sink.old) (K.held sink.new) (done result) }
+    ensures let_in { IfOk result (λ here. here ≡ is_in_then office.old.core.setup office.old.core.journal brought.who brought.begins) }
     ensures cause { Rises (failed of_writing result) (K.faults sink.old) (K.faults sink.new) }
 {
-    let is_in = let_in(alloc, office, who, begins, sink)?;
+    let is_in = let_in(alloc, office, brought.who, brought.begins, sink)?;
     if is_in {
-        make_turns(alloc, office, who, calls, ends, sink)?;
+        make_turns(alloc, office, brought, sink)?;
     }
     Ok(is_in)
 }
@@ -129,15 +137,13 @@ fn hear_piece<K: Sink>(
         end,
     } = player.office.hear(alloc, who, piece)?;
     let user = beginner(player, who, begins);
-    let is_in = make_heard(
-        alloc,
-        &mut player.office,
+    let brought = Brought {
         who,
-        user,
+        begins: user,
         calls,
-        end.is_some(),
-        sink,
-    )?;
+        ends: end.is_some(),
+    };
+    let is_in = make_heard(alloc, &mut player.office, brought, sink)?;
     Ok(Own {
         who,
         replies,
