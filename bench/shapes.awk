@@ -1,17 +1,19 @@
 # A recording of so many entries of a shape, without its last line `end`.
 # usage: awk -v shape=SHAPE -v count=ENTRIES [-v beside=SESSIONS] -f shapes.awk
-# With `beside`, so many sessions stay from the start, two of them on terminals, and the entries come behind them; in
-# `seated_stranger` there is one more, of another user, on a terminal too.
+# With `beside`, so many sessions stay from the start, two of them on terminals, and the entries come behind them. In
+# `seated_stranger` there is one more, of another user, on a terminal too; in `next_elsewhere` and `elsewhere_stranger`
+# there are three more on another seat, two of them of another user, who is not active there.
 
 function line(text) { print text; made++ }
 
 function call(who, text) { line("call " who " " ++serial " " text) }
 
-# Creates a session with this text in each place that takes one, on a terminal if that is not 0; of this user, or alice.
-function create(who, vt, text, user) {
+# Creates a session with this text in each place that takes one, on a terminal if that is not 0; of this user, or alice;
+# on this seat, if it is on no terminal.
+function create(who, vt, text, user, seat) {
     sessions++
-    call(who, "create " (user ? user : 1000) " 1 " (text ? text : "login") " tty user " (text ? text : "%") " " (vt ? "seat0" : "%") \
-        " " vt " " (text ? text " " text " true " text " " text : "% % false % %"))
+    call(who, "create " (user ? user : 1000) " 1 " (text ? text : "login") " tty user " (text ? text : "%") " " \
+        (vt ? "seat0" : seat ? seat : "%") " " vt " " (text ? text " " text " true " text " " text : "% % false % %"))
 }
 
 function create_many(who, many,  i) { for (i = 1; i <= many; i++) create(who, 0) }
@@ -22,7 +24,7 @@ function setting(i) { return i % 2 ? "true" : "false" }
 function begin(  i, s) {
     print "login-recording 1\nuser 1000 1000 alice"
     if (shape == "users") for (i = 1; i < 1000; i++) print "user " 1000 + i " " 1000 + i " user" i
-    if (shape == "seated_stranger") print "user 1001 1001 bob"
+    if (shape ~ /^(seated_stranger|.*elsewhere.*)$/) print "user 1001 1001 bob"
     print "go"
     line("connect 1 0")
     if (beside) {
@@ -30,6 +32,10 @@ function begin(  i, s) {
         create(1, 1); create(1, 2); create_many(1, beside - 2)
         if (shape == "seated_stranger") create(1, 3, "", 1001)
         else if (shape == "sharing_stranger") line("connect 4 1064")
+        else if (shape ~ /elsewhere/) {
+            line("add 226 0 drm seat-x")
+            create(1, 0, "", 1001, "seat-x"); create(1, 0, "", 1001, "seat-x"); create(1, 0, "", 1000, "seat-x")
+        }
         count += made
     }
     else if (shape == "idle_links") { for (i = 2; i <= 61; i++) line("connect " i " 0"); create(1, 0) }
@@ -119,10 +125,11 @@ function step(i,  who) {
     else if (shape ~ /^callers/) call(2 + i % 60, "ping")
     else if (shape == "idle_hints") call(1, "idle c" (1 + i % beside) " " setting(int(i / beside) + 1))
     else if (shape == "next") call(1, "next seat0")
+    else if (shape == "next_elsewhere") call(1, "next seat-x")
     else if (shape == "ends") { line("connect " (i + 3) " 1001"); line("disconnect " (i + 3)) }
     else if (shape == "closings") { create(1, 0); call(1, "close " sessions); line("exit c" sessions) }
     else if (shape == "own_lock") call(2, "lock c1")
-    else if (shape ~ /^(seated_)?stranger$/) call(3, "lock c1")
+    else if (shape ~ /^((seated|elsewhere)_)?stranger$/) call(3, "lock c1")
     else if (shape == "sharing_stranger") call(4, "lock c1")
     else { print "no shape " shape >"/dev/stderr"; exit 1 }
 }
