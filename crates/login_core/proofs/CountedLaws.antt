@@ -1,5 +1,6 @@
 -- The counts that the facts keep.
-use Rattle.std.proofs.Common.{◌≡◌, ℕ, ◌+◌, ◌*◌, ◌<◌, ◌^◌, true, false, None, Some, List, [], ◌∷◌, length, refl, ap, sym, ◌∙◌, arith}
+use Rattle.std.proofs.Common.{◌≡◌, ℕ, ◌+◌, ◌*◌, ◌<◌, ◌^◌, nat_lt, true, false, None, Some, List, [], ◌∷◌, length, refl, ap, sym, ◌∙◌, arith}
+use Rattle.std.proofs.lemmas.Bool.Decides.{nat_tests}
 use Rattle.login_base.specs.declared.ids.SessId.{SessId}
 use Rattle.login_base.specs.declared.ids.ConnId.{ConnId}
 use Rattle.login_base.specs.declared.ids.DevNo.{DevNo}
@@ -30,11 +31,17 @@ use Rattle.login_laws.proofs.Paying.{open-session}
 use Rattle.login_laws.proofs.SoundLaws.{sound-journal}
 use Rattle.login_table.proofs.Listing.{Kind, all, kind, session_kind, sessions-all}
 use Rattle.login_core.specs.declared.room.counts.Counts.{Counts}
-use Rattle.login_core.specs.inner.Counts.{AreCounted, CanAllMove, Follow, HoldersAreThere, controlled, controlled_in, counts_of, is_controlled, taken_pairs}
+use Rattle.login_core.specs.inner.Counts.{AreCounted, CanAllMove, Follow, HoldersAreThere, controlled, controlled_in, counts_of, is_controlled, is_leaving_fact, leavers, taken_pairs}
 use Rattle.login_core.proofs.CountLaws.{count-say, fits, follows, kind-list}
 use Rattle.login_core.proofs.PairLaws.{pair_kind, pairs-all, pairs-taken}
 
 -- ---- the kinds that are counted
+
+no-flag : false ≡ true → ⊥
+no-flag e = cc
+
+no-user : {u : Uid} → None ≡ Some u → ⊥
+no-user e = cc
 
 abbrev conn_kind : Kind ConnId
 conn_kind = kind conn_lt conn_order conn_in key.Conn is_connected_fact None conn_keys
@@ -64,11 +71,18 @@ users-all : (t : Trail) → length (users t) ≡ length (all user_kind t)
 unfolding users
 users-all t = refl
 
+pub leaving_keys : AreKeys user_in key.User is_leaving_fact None
+leaving_keys = record { own = user_keys.own; named = λ u. refl; start = λ u h. absurd (no-flag h); begins = λ u e. absurd (no-user e) }
+
+abbrev pub leaving_kind : Kind Uid
+leaving_kind = kind user_lt user_order user_in key.User is_leaving_fact None leaving_keys
+
+pub leaving-all : (t : Trail) → length (leavers t) ≡ length (all leaving_kind t)
+unfolding leavers
+leaving-all t = refl
+
 present-all : (t : Trail) → length (sessions t) ≡ length (all session_kind t)
 present-all t = ap length (sessions-all t)
-
-no-flag : false ≡ true → ⊥
-no-flag e = cc
 
 no-session : {s : SessId} → None ≡ Some s → ⊥
 no-session e = cc
@@ -105,6 +119,7 @@ counted-say c w n t a =
       connections = a.connections ∙ conns-all t ∙ sym (count-say conn_kind w n t) ∙ sym (conns-all u);
       controlled = a.controlled ∙ controlled-all t ∙ sym (count-say controlled_kind w n t) ∙ sym (controlled-all u);
       devices = a.devices ∙ devices-all t ∙ sym (count-say device_kind w n t) ∙ sym (devices-all u);
+      leaving = a.leaving ∙ leaving-all t ∙ sym (count-say leaving_kind w n t) ∙ sym (leaving-all u);
       locks = a.locks ∙ locks-all t ∙ sym (count-say lock_kind w n t) ∙ sym (locks-all u);
       opened = a.opened ∙ open-all t ∙ sym (count-say open_kind w n t) ∙ sym (open-all u);
       present = a.present ∙ present-all t ∙ sym (count-say session_kind w n t) ∙ sym (present-all u);
@@ -117,6 +132,7 @@ counted-set c d k x t a f = record {
   connections = follows conn_kind connections conns-all k x t c.connections d.connections a.connections f.connections;
   controlled = follows controlled_kind controlled controlled-all k x t c.controlled d.controlled a.controlled f.controlled;
   devices = follows device_kind devices devices-all k x t c.devices d.devices a.devices f.devices;
+  leaving = follows leaving_kind leavers leaving-all k x t c.leaving d.leaving a.leaving f.leaving;
   locks = follows lock_kind locks locks-all k x t c.locks d.locks a.locks f.locks;
   opened = follows open_kind open_sessions open-all k x t c.opened d.opened a.opened f.opened;
   present = follows session_kind sessions present-all k x t c.present d.present a.present f.present;
@@ -129,6 +145,7 @@ counted-fit c k x t a few = record {
   connections = fits conn_kind connections conns-all refl k x t c.connections a.connections few;
   controlled = fits controlled_kind controlled controlled-all refl k x t c.controlled a.controlled few;
   devices = fits device_kind devices devices-all refl k x t c.devices a.devices few;
+  leaving = fits leaving_kind leavers leaving-all refl k x t c.leaving a.leaving few;
   locks = fits lock_kind locks locks-all refl k x t c.locks a.locks few;
   opened = fits open_kind open_sessions open-all refl k x t c.opened a.opened few;
   present = fits session_kind sessions present-all refl k x t c.present a.present few;
@@ -136,9 +153,9 @@ counted-fit c k x t a few = record {
   users = fits user_kind users users-all refl k x t c.users a.users few;
 }
 
-pub counted-none : AreCounted (record { connections = 0; controlled = 0; devices = 0; locks = 0; opened = 0; present = 0; taken = 0; users = 0 }) []
-unfolding connections controlled devices locks open_sessions sessions taken_pairs users names
-counted-none = record { connections = refl; controlled = refl; devices = refl; locks = refl; opened = refl; present = refl; taken = refl; users = refl }
+pub counted-none : AreCounted (record { connections = 0; controlled = 0; devices = 0; leaving = 0; locks = 0; opened = 0; present = 0; taken = 0; users = 0 }) []
+unfolding connections controlled devices leavers locks open_sessions sessions taken_pairs users names
+counted-none = record { connections = refl; controlled = refl; devices = refl; leaving = refl; locks = refl; opened = refl; present = refl; taken = refl; users = refl }
 
 -- ---- the counts of a sound journal
 
@@ -176,3 +193,15 @@ needed c t marks n a h e =
     let taken = a.taken ∙ pairs-taken t h in
     let users = a.users in
     omega arith
+
+-- ---- who leaves
+
+no-longer : {A : Type 0} (xs : List A) → length xs ≡ 0 → xs ≡ []
+no-longer [] e = refl
+no-longer (x ∷ xs) e = absurd (omega arith)
+
+pub none-leaving : (c : Counts) (t : Trail) → AreCounted c t → nat_lt 0 c.leaving ≡ false → leavers t ≡ []
+none-leaving c t a e = no-longer (leavers t) (sym a.leaving ∙ none c.leaving e)
+  where
+    none : (n : ℕ) → nat_lt 0 n ≡ false → n ≡ 0
+    none n e = grind (arith, nat_tests)

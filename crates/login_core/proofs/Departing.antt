@@ -13,12 +13,13 @@ use Rattle.login_model.specs.Same.{same_key}
 use Rattle.login_model.specs.Names.{names, user_lt, user_in}
 use Rattle.login_model.specs.Trail.{Trail, value, put}
 use Rattle.login_model.specs.Where.{is_user, is_user_fact, is_session_of, users, sessions, sessions_of}
-use Rattle.login_model.specs.Procedure.{is_empty, forget, leave}
+use Rattle.login_model.specs.Procedure.{each, is_empty, forget, leave}
 use Rattle.login_model.specs.Direct.{leave_known, is_overdue_fact, overdue}
 use Rattle.login_laws.proofs.Widens.{Widens, widens-refl, leave-widens}
 use Rattle.login_model.proofs.Keys.{test, same-user}
 use Rattle.login_model.proofs.NameLaws.{user_order}
 use Rattle.login_model.proofs.InOrder.{users-enumerated}
+use Rattle.login_core.specs.inner.Counts.{is_leaving_fact, leavers}
 use Rattle.login_core.specs.inner.Leaving.{is_overdue}
 use Rattle.login_model.specs.Facts.{is_known}
 use Rattle.login_core.proofs.Among.{among, left-same}
@@ -113,3 +114,40 @@ forgotten u w t l = (keeps-forget u t).facts (key.User w) (other u w l)
 
 pub forget-above : (U : Setup) (m : ℕ) → KeepsAbove (chosen all_users (is_overdue U m)) forget
 forget-above U m = chosen-above all_users (is_overdue U m) forget (λ u w t l. ap is_user_fact (forgotten u w t l)) (λ u w t l. ap (is_overdue_fact U m) (forgotten u w t l))
+
+-- ---- where nobody leaves, no delay is over
+
+not-both : {b : Bool} → b ≡ true → b ≡ false → ⊥
+not-both {b} p q = let z : true ≡ false = sym p ∙ q in cc
+
+some-left : {A : Type 0} (x : A) (xs : List A) → x ∷ xs ≡ [] → ⊥
+some-left x xs e = cc
+
+none-kept : {A : Type 0} (o u l : A → Bool) (xs : List A) → ((a : A) → o a ≡ true → l a ≡ true) → filter l xs ≡ [] → filter o (filter u xs) ≡ []
+none-kept o u l [] h e = refl
+none-kept {A} o u l (x ∷ xs) h e = elim (test (l x)) [
+  | inl y ↦ absurd (some-left x (filter l xs) (sym (ap (λ (b : Bool). cond b (x ∷ filter l xs) (filter l xs)) y) ∙ e))
+  | inr n ↦ (let rest = none-kept o u l xs h (sym (ap (λ (b : Bool). cond b (x ∷ filter l xs) (filter l xs)) n) ∙ e) in
+      let off : o x ≡ false = elim (test (o x)) [ inl y ↦ absurd (not-both (h x y) n) | inr m ↦ m ] in
+      elim (test (u x)) [
+        | inl y ↦ ap (λ (b : Bool). filter o (cond b (x ∷ filter u xs) (filter u xs))) y ∙ ap (λ (b : Bool). cond b (x ∷ filter o (filter u xs)) (filter o (filter u xs))) off ∙ rest
+        | inr m ↦ ap (λ (b : Bool). filter o (cond b (x ∷ filter u xs) (filter u xs))) m ∙ rest
+      ])
+]
+
+overdue-leaves : (U : Setup) (m : ℕ) (x : Fact) → is_overdue_fact U m x ≡ true → is_leaving_fact x ≡ true
+overdue-leaves U m (fact.Leaving since) e = refl
+overdue-leaves U m _ e = cc
+
+none-overdue : (U : Setup) (t : Trail) (m : ℕ) → leavers t ≡ [] → overdue U t m ≡ []
+unfolding overdue users leavers
+none-overdue U t m e =
+    none-kept (λ (u : Uid). is_overdue_fact U m (value t (key.User u))) (is_user t) (λ (u : Uid). is_leaving_fact (value t (key.User u))) (names user_lt user_in t)
+    (λ u h. overdue-leaves U m (value t (key.User u)) h) e
+
+each-none : (t : Trail) → each forget [] t ≡ t
+unfolding each
+each-none t = refl
+
+pub nobody-forgotten : (U : Setup) (t : Trail) (m : ℕ) → leavers t ≡ [] → t ≡ each forget (overdue U t m) t
+nobody-forgotten U t m e = sym (ap (λ (us : List Uid). each forget us t) (none-overdue U t m e) ∙ each-none t)

@@ -21,7 +21,7 @@ use Rattle.login_core.specs.declared.board.seating.Tally.{Tally}
 use Rattle.login_core.specs.declared.board.seating.Crowd.TheVariants.{Nobody, Alone}
 use Rattle.login_core.specs.inner.Seating.{AreLow, AreTallied, IsCrowd, aside_in, bucket_of, buckets, either, high_in, is_acting_of, is_at, is_current_of, is_elsewhere_of, is_none_at, is_on_seat0_of, is_one_at, is_some_acting, is_some_current, is_some_elsewhere, is_some_on_seat0, placed_at, sits_elsewhere}
 use Rattle.login_core.proofs.CountLaws.{kind-list}
-use Rattle.login_core.proofs.TallyLaws.{alone-at, bound, equal, find-nobody, find-only, nobody-at, not-so}
+use Rattle.login_core.proofs.TallyLaws.{alone-at, at, at-all, bound, equal, find-nobody, find-only, nobody-at, not-so}
 
 -- what is told is so
 pub told : {a b : Bool} → Some a ≡ Some b → a ≡ b
@@ -154,6 +154,41 @@ terminal-none t v s alone off =
       | inl y ↦ absurd (not-so y (ap p (alone.1 r (terminal-at (value t (key.Sess r)) v y)) ∙ off))
       | inr n ↦ n
     ])
+
+-- where each is on one of the first, one in a terminal's bucket is on that terminal
+first-in : {A : Type 0} (xs : List A) → (length xs ≡ 0 → ⊥) → (a : A) × IsIn a xs
+first-in [] h = absurd (h refl)
+first-in (x ∷ xs) h = (x, inl refl)
+
+small : (n : ℕ) → is_at (cond (nat_le buckets n) (Some 0) None) 0 ≡ false → n < buckets
+small n f = elim (test (nat_le buckets n)) [
+  | inl y ↦ absurd (not-so (ap (λ (b : Bool). is_at (cond b (Some 0) None) 0) y) f)
+  | inr m ↦ grind (arith, nat_tests)
+]
+
+on-first : (a b : Bool) (n v : ℕ) → is_at (cond (a && b) (Some n) None) (bucket_of v) ≡ true → is_at (option_and_then (λ m. cond (nat_le buckets m) (Some 0) None) (cond (a && b) (Some n) None)) 0 ≡ false
+    → v < buckets → (a && b && (n == v)) ≡ true
+on-first true true n v e f h =
+    let low = small n f in
+    let same = same-number (bucket_of n) (bucket_of v) e in
+    equal n v (omega arith)
+on-first true false n v e f h = cc
+on-first false b n v e f h = cc
+
+on-terminal : (x : Fact) (v : ℕ) → is_at (terminal_in x) (bucket_of v) ≡ true → is_at (high_in x) 0 ≡ false → v < buckets → is_on_terminal (fact.Number v) x ≡ true
+on-terminal (fact.Session x) v e f h = on-first (is_open_phase x.phase) (is_seat0 x.seat) x.vt v e f h
+on-terminal _ v e f h = cc
+
+pub terminal-held : (c : Tally) (t : Trail) (v : ℕ) → AreTallied terminal_in c t → AreLow t → v < buckets → not (is_none_at c v) ≡ is_some (session_on t v)
+unfolding session_on
+terminal-held c t v a low h = elim (test (is_none_at c v)) [
+  | inl y ↦ ap not y ∙ sym (ap is_some (terminal-free t v (nobody-there terminal_in refl c t v a y)))
+  | inr n ↦ (let l = kind-list (at terminal_in (bucket_of v) refl) t in
+      let long = a.at (bucket_of v) (bound v) ∙ at-all terminal_in (bucket_of v) refl t in
+      let r = first-in (all (at terminal_in (bucket_of v) refl) t) (λ e. not-so (equal (slice_index c.counts (bucket_of v)) 0 (long ∙ e)) n) in
+      let on = on-terminal (value t (key.Sess r.0)) v (l.gives r.0 r.1) (low.low r.0) h in
+      ap not n ∙ sym (found (λ (s : SessId). is_on_terminal (fact.Number v) (value t (key.Sess s))) r.0 (sessions t) on (among-sessions t r.0 (open-fact (value t (key.Sess r.0)) v on))))
+]
 
 low-parts : (o u : Option ℕ) (f : ℕ → Option ℕ) → is_at (cond (cond (is_some o) false (is_some u)) (Some 1) (option_and_then f o)) 0 ≡ false → is_at (option_and_then f o) 0 ≡ false
 low-parts (Some v) u f h = h

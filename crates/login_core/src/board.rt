@@ -32,6 +32,7 @@ ghost use Rattle.login_model.specs.Fresh.{next_lock, next_session};
 ghost use Rattle.login_core.specs.inner.Counts.{AreCounted};
 ghost use Rattle.device_model.specs.Ears.{heard_of};
 ghost use Rattle.login_core.specs.inner.Dues.{NamesKnown};
+ghost use Rattle.login_core.specs.inner.Counts.{leavers};
 ghost use Rattle.login_core.specs.inner.Draft.{marked_by, reaching, tell, with_ears, with_keys, with_rings, Fits};
 ghost use Rattle.login_core.specs.inner.Ears.{AreEnough, ListenLive, settled};
 ghost use Rattle.login_core.specs.inner.Ledger.{end_room, next_room, with_trimmed};
@@ -113,6 +114,13 @@ impl Draft {
             made: 0,
             reach: Reach { entry: 0, all: 0 },
         }
+    }
+
+    /// Whether a user leaves. Where none does, no delay is over.
+    pub fn has_leavers(&self) -> bool
+        ensures { result ≡ false → leavers self.now.trail ≡ [] }
+    {
+        0 < self.facts.counts().leaving
     }
 
     /// How many marks there are in all.

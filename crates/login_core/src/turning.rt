@@ -1,6 +1,6 @@
 // How a seat turns to the next or the previous of its sessions.
 
-ghost use Rattle.std.specs.Prelude.{◌≡◌, false};
+ghost use Rattle.std.specs.Prelude.{◌≡◌, ◌<◌, false};
 ghost use Rattle.std.specs.Str.{bytes_eq};
 ghost use Rattle.login_model.specs.Names.{is_above};
 ghost use Rattle.login_model.specs.Start.{seat0};
@@ -10,7 +10,7 @@ ghost use Rattle.login_table.specs.Nearest.{is_lower};
 ghost use Rattle.login_core.specs.inner.Places.{is_before, behind, around, is_open_on, place_of, places, current_place, nearer_place, nearer_open, nearer_terminal, turn_to_place, turn_to};
 ghost use Rattle.login_core.specs.inner.Arrivals.{AreKept};
 ghost use Rattle.login_core.specs.inner.Draft.{marked_by, Fits};
-ghost use Rattle.login_core.specs.inner.Seating.{AreLow};
+ghost use Rattle.login_core.specs.inner.Seating.{AreLow, buckets};
 
 use crate::board::Draft;
 use crate::board::arrivals::{Arrivals, MOST_ARRIVALS};
@@ -111,9 +111,11 @@ impl Draft {
         vt: u32,
         best: Option<u32>,
     ) -> Option<u32>
+        requires low { AreLow self.now.trail }
+        requires within { vt < buckets }
         ensures { result ≡ nearer_terminal way self.now.trail start vt best }
     {
-        if self.on_terminal(vt).is_some() {
+        if self.so_far().has_terminal(vt) {
             nearer_place(way, start, vt, best)
         } else {
             best

@@ -53,6 +53,12 @@ front-point p (x ∷ xs) (suc i) h e = (
   front-point p xs i (omega arith) ((λ j d l m. e.0 (suc j) d (omega arith) (omega arith)), (λ j d l m. e.1 (suc j) d (omega arith) (omega arith))),
 )
 
+-- the row of a key stands at the end of the front below it
+pub met-front : (k : Key) (b : Option Key) (xs : List Row) (i : ℕ) (d : Row) → AscendFrom b xs → i < length xs → (get_or xs i d).key ≡ k → IsFront (λ (x : Row). key_lt x.key k) i xs
+met-front k b [] i d a h e = absurd (omega arith)
+met-front k b (x ∷ xs) zero d a h e = ap (λ (z : Key). key_lt z k) e ∙ key_order.irreflexive k
+met-front k b (x ∷ xs) (suc i) d a h e = (ap (key_lt x.key) (sym e) ∙ behind x.key xs a.1 i d (omega arith), met-front k (Some x.key) xs i d a.1 (omega arith) e)
+
 -- rows above a key are above those below it
 pub lower : (j k : Key) (xs : List Row) → key_lt j k ≡ true → AscendFrom (Some k) xs → AscendFrom (Some j) xs
 lower j k [] h a = tt

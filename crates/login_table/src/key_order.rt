@@ -145,3 +145,15 @@ pub fn is_key_below(a: &Key, b: &Key) -> bool
         _ => is_mixed_below(a, b),
     }
 }
+
+/// The number of what a key names, where it has one.
+pub fn numbered(key: &Key) -> u32 {
+    match key {
+        Key::Conn(who) => who.0,
+        Key::Sess(session) | Key::Ctl(session) => session.0,
+        Key::User(user) => user.0,
+        Key::Lock(lock) => lock.0,
+        Key::Owner(handle) | Key::Live(handle) => handle.0,
+        _ => 0,
+    }
+}

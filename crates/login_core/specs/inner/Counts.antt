@@ -1,13 +1,15 @@
 -- How many there are of what needs room in the journal or has a limit, and how a setting changes that.
-use Rattle.std.specs.Prelude.{ℕ, ◌≡◌, ◌+◌, ◌<◌, ◌≤◌, ◌^◌, Bool, true, if◌then◌else◌, Option, Some, None, List, length, filter}
+use Rattle.std.specs.Prelude.{ℕ, ◌≡◌, ◌+◌, ◌<◌, ◌≤◌, ◌^◌, Bool, true, false, if◌then◌else◌, Option, Some, None, List, length, filter}
 use Rattle.login_base.specs.declared.ids.SessId.{SessId}
 use Rattle.login_base.specs.declared.ids.DevNo.{DevNo}
+use Rattle.login_base.specs.declared.ids.Uid.{Uid}
 use Rattle.login_model.specs.declared.fact.Key.{Key}
 use Rattle.login_model.specs.declared.fact.Key.TheVariants as key
 use Rattle.login_model.specs.declared.fact.Fact.{Fact}
+use Rattle.login_model.specs.declared.fact.Fact.TheVariants as fact
 use Rattle.login_model.specs.Devices.{is_handle_fact, is_taken}
 use Rattle.login_model.specs.Facts.{is_connected_fact, is_controlled_fact, is_device_fact, is_lock_fact, is_open_fact, is_session_fact, is_user_fact}
-use Rattle.login_model.specs.Names.{names, conn_in, device_in, lock_in, session_in, user_in, session_lt}
+use Rattle.login_model.specs.Names.{names, conn_in, device_in, lock_in, session_in, user_in, user_lt, session_lt}
 use Rattle.login_model.specs.Trail.{Trail, value}
 use Rattle.login_model.specs.Where.{connections, devices, is_session, locks, open_sessions, sessions, users}
 use Rattle.login_table.specs.KeyOrder.{pair_lt}
@@ -53,6 +55,17 @@ pub record HoldersAreThere (t : Trail) : Type 0 where
   pub controlled : (s : SessId) → is_controlled t s ≡ true → is_session t s ≡ true
   pub taken : (s : SessId) (d : DevNo) → is_taken t s d ≡ true → is_session t s ≡ true
 
+-- ---- what is counted of users
+
+-- a user who leaves after a delay
+abbrev pub is_leaving_fact : Fact → Bool
+is_leaving_fact (fact.Leaving since) = true
+is_leaving_fact _ = false
+
+-- the users that leave, in order
+unfoldable pub leavers : Trail → List Uid
+leavers t = filter (λ u. is_leaving_fact (value t (key.User u))) (names user_lt user_in t)
+
 -- ---- counts
 
 -- they are the counts of what is there
@@ -60,6 +73,7 @@ pub record AreCounted (c : Counts) (t : Trail) : Type 0 where
   pub connections : c.connections ≡ length (connections t)
   pub controlled : c.controlled ≡ length (controlled t)
   pub devices : c.devices ≡ length (devices t)
+  pub leaving : c.leaving ≡ length (leavers t)
   pub locks : c.locks ≡ length (locks t)
   pub opened : c.opened ≡ length (open_sessions t)
   pub present : c.present ≡ length (sessions t)
@@ -80,6 +94,7 @@ counts_of k x = record {
   connections = one_there (conn_in k) (is_connected_fact x);
   controlled = one_there (controlled_in k) (is_controlled_fact x);
   devices = one_there (device_in k) (is_device_fact x);
+  leaving = one_there (user_in k) (is_leaving_fact x);
   locks = one_there (lock_in k) (is_lock_fact x);
   opened = one_there (session_in k) (is_open_fact x);
   present = one_there (session_in k) (is_session_fact x);
@@ -95,6 +110,7 @@ pub record CanAllMove (c lost gained : Counts) : Type 0 where
   pub connections : CanMove c.connections lost.connections gained.connections
   pub controlled : CanMove c.controlled lost.controlled gained.controlled
   pub devices : CanMove c.devices lost.devices gained.devices
+  pub leaving : CanMove c.leaving lost.leaving gained.leaving
   pub locks : CanMove c.locks lost.locks gained.locks
   pub opened : CanMove c.opened lost.opened gained.opened
   pub present : CanMove c.present lost.present gained.present
@@ -106,6 +122,7 @@ pub record Follow (c lost gained d : Counts) : Type 0 where
   pub connections : d.connections + lost.connections ≡ c.connections + gained.connections
   pub controlled : d.controlled + lost.controlled ≡ c.controlled + gained.controlled
   pub devices : d.devices + lost.devices ≡ c.devices + gained.devices
+  pub leaving : d.leaving + lost.leaving ≡ c.leaving + gained.leaving
   pub locks : d.locks + lost.locks ≡ c.locks + gained.locks
   pub opened : d.opened + lost.opened ≡ c.opened + gained.opened
   pub present : d.present + lost.present ≡ c.present + gained.present

@@ -1,12 +1,13 @@
 // Who is on a terminal, who has a seat, and who is active on one.
 
-ghost use Rattle.std.specs.Prelude.{◌≡◌, ◌&&◌, nat_lt, Bool, true, Some};
+ghost use Rattle.std.specs.Prelude.{◌≡◌, ◌&&◌, ◌<◌, nat_lt, Bool, true, Some};
+ghost use Rattle.std.specs.Option.{is_some};
 ghost use Rattle.login_model.specs.Facts.{seated_user, terminal_in};
 ghost use Rattle.login_model.specs.Standing.{has_active, has_seat, is_active_of};
 ghost use Rattle.login_model.specs.Where.{is_acting, session_on};
 ghost use Rattle.login_core.specs.declared.board.arrivals.Arrivals.{Arrivals};
 ghost use Rattle.login_core.specs.inner.Arrivals.{AreCounted, AreKept, is_elsewhere};
-ghost use Rattle.login_core.specs.inner.Seating.{AreLow, IsCrowd, either, is_acting_of, is_current_of, is_elsewhere_of, is_some_acting, is_some_current, is_some_elsewhere, is_some_on_seat0};
+ghost use Rattle.login_core.specs.inner.Seating.{AreLow, IsCrowd, buckets, either, is_acting_of, is_current_of, is_elsewhere_of, is_some_acting, is_some_current, is_some_elsewhere, is_some_on_seat0};
 
 use crate::board::Draft;
 use crate::board::arrivals::{Arrivals, MOST_ARRIVALS};
@@ -110,6 +111,15 @@ impl<'a> SoFar<'a> {
 
 /// Terminals.
 impl<'a> SoFar<'a> {
+    /// Whether an open session of seat0 has a terminal, where each is on one of the first. It looks at no session.
+    pub fn has_terminal(&self, vt: u32) -> bool
+        requires low { AreLow self.now }
+        requires within { vt < buckets }
+        ensures { result ≡ is_some (session_on self.now vt) }
+    {
+        !self.seating().terminals.is_none_at(vt)
+    }
+
     /// The open session of seat0 that has a terminal, by going over all sessions.
     fn find_on_terminal(&self, vt: u32) -> Option<SessId>
         ensures { result ≡ session_on self.now vt }

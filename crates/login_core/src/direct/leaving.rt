@@ -142,7 +142,9 @@ impl Draft {
         requires room { Fits (λ t. each forget (overdue setup.now t moment) t) self.old }
         ensures marked { self.new ≡ marked_by (λ t. each forget (overdue setup.now t moment) t) self.old }
     {
-        self.for_each_that(Overdue { setup, moment }, &mut Forget);
+        if self.has_leavers() {
+            self.for_each_that(Overdue { setup, moment }, &mut Forget);
+        }
     }
 
     /// The clock stands at a moment.

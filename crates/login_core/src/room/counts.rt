@@ -8,7 +8,7 @@ ghost use Rattle.login_model.specs.Full.{marks_needed};
 ghost use Rattle.login_model.specs.Limits.{taken_limit};
 ghost use Rattle.login_model.specs.Trail.{Trail};
 ghost use Rattle.login_model.specs.Where.{sessions};
-ghost use Rattle.login_core.specs.inner.Counts.{AreCounted, CanAllMove, Follow, HoldersAreThere, counts_of, one_if};
+ghost use Rattle.login_core.specs.inner.Counts.{AreCounted, CanAllMove, Follow, HoldersAreThere, counts_of, is_leaving_fact, one_if};
 
 use login_model::{Fact, Key, MOST_TAKEN};
 
@@ -27,6 +27,8 @@ pub struct Counts {
     pub controlled: u32,
     /// Devices that are there.
     pub devices: u32,
+    /// Users that leave after a delay.
+    pub leaving: u32,
     /// Locks that stand.
     pub locks: u32,
     /// Sessions that are open.
@@ -46,6 +48,13 @@ fn one_if(is_so: bool) -> u32
     if is_so { 1 } else { 0 }
 }
 
+/// Whether it is that of a user who leaves after a delay.
+fn is_leaving(fact: &Fact) -> bool
+    ensures { result ≡ is_leaving_fact fact.now }
+{
+    matches!(fact, Fact::Leaving(_))
+}
+
 /// A count that loses so many and gains so many.
 fn moved(count: u32, lost: u32, gained: u32) -> u32
     requires lost { lost ≤ count }
@@ -61,6 +70,7 @@ impl Counts {
         connections: 0,
         controlled: 0,
         devices: 0,
+        leaving: 0,
         locks: 0,
         opened: 0,
         present: 0,
@@ -99,6 +109,7 @@ impl Counts {
                 ..Counts::NONE
             },
             Key::User(_) => Counts {
+                leaving: one_if(is_leaving(fact)),
                 users: one_if(fact.is_user()),
                 ..Counts::NONE
             },
@@ -115,6 +126,7 @@ impl Counts {
             connections: moved(self.connections, lost.connections, gained.connections),
             controlled: moved(self.controlled, lost.controlled, gained.controlled),
             devices: moved(self.devices, lost.devices, gained.devices),
+            leaving: moved(self.leaving, lost.leaving, gained.leaving),
             locks: moved(self.locks, lost.locks, gained.locks),
             opened: moved(self.opened, lost.opened, gained.opened),
             present: moved(self.present, lost.present, gained.present),
