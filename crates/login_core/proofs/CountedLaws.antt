@@ -17,7 +17,7 @@ use Rattle.login_model.specs.declared.mark.Notice.{Notice}
 use Rattle.login_model.specs.declared.mark.Entry.{Entry}
 use Rattle.login_model.specs.declared.setup.Setup.{Setup}
 use Rattle.login_model.specs.Devices.{is_handle_fact}
-use Rattle.login_model.specs.Facts.{is_connected_fact, is_controlled_fact, is_device_fact, is_lock_fact, is_open_fact, is_user_fact}
+use Rattle.login_model.specs.Facts.{is_connected_fact, is_controlled_fact, is_device_fact, is_leaving_fact, is_lock_fact, is_open_fact, is_user_fact}
 use Rattle.login_model.specs.Full.{controlled_sessions, marks_needed}
 use Rattle.login_model.specs.Kind.{AreKeys}
 use Rattle.login_model.specs.Legal.{IsLegal, trail_of}
@@ -31,7 +31,7 @@ use Rattle.login_laws.proofs.Paying.{open-session}
 use Rattle.login_laws.proofs.SoundLaws.{sound-journal}
 use Rattle.login_table.proofs.Listing.{Kind, all, kind, session_kind, sessions-all}
 use Rattle.login_core.specs.declared.room.counts.Counts.{Counts}
-use Rattle.login_core.specs.inner.Counts.{AreCounted, CanAllMove, Follow, HoldersAreThere, controlled, controlled_in, counts_of, is_controlled, is_leaving_fact, leavers, taken_pairs}
+use Rattle.login_core.specs.inner.Counts.{AreCounted, CanAllMove, Follow, HoldersAreThere, controlled, controlled_in, counts_of, is_controlled, leavers, taken_pairs}
 use Rattle.login_core.proofs.CountLaws.{count-say, fits, follows, kind-list}
 use Rattle.login_core.proofs.PairLaws.{pair_kind, pairs-all, pairs-taken}
 

@@ -157,7 +157,7 @@ impl Draft {
     }
 
     /// The nearest place of an open session behind a place of a seat, or the first of all, by going over all
-    /// sessions.
+    /// sessions that are there.
     fn find_nearest(&self, way: Way, seat: SeatName, start: Option<u32>) -> Option<u32>
         ensures { result ≡ behind way start (places self.now.trail seat) }
     {

@@ -186,6 +186,11 @@ is_user_fact fact.Known = true
 is_user_fact (fact.Leaving since) = true
 is_user_fact _ = false
 
+-- a user who leaves after a delay
+abbrev pub is_leaving_fact : Fact → Bool
+is_leaving_fact (fact.Leaving since) = true
+is_leaving_fact _ = false
+
 -- a user whose delay is over at a moment
 abbrev pub is_overdue_fact : Setup → ℕ → Fact → Bool
 is_overdue_fact U m (fact.Leaving since) = nat_le U.conf.user_stop_delay.0 (m - since.0)

@@ -146,7 +146,7 @@ fn is_session_on(session: &Session, terminal: &Fact) -> bool
 
 /// What a fact says. Each call answers None, no or 0 of a fact of another kind.
 impl Fact {
-    ghost use Rattle.login_model.specs.Facts.{is_absent, client_in, is_connected_fact, is_client_of, client_or, session_in_fact, is_session_fact, is_open_fact, is_closing_fact, user_or_root, is_session_of, seat_in_fact, vt_in, fifo_in, leader_in, is_open_of, is_other_user, is_seated_of, seated_user, terminal_in, is_on_terminal, is_set, controller_in, is_controlled_fact, is_controller_fact, is_known, is_user_fact, is_overdue_fact, owner_in, is_owned_fact, holder_in, is_fifo_of, fifo_owner, fifo_session, handle_device, handle_in, is_handle_fact, is_this_handle, is_seat_fact, active_in, is_acting_fact, number_in_fact, number_or_zero, is_number_fact, is_this_number, moment_in_fact, moment_or_zero, device_kind_in, is_device_fact, is_evdev, graphics_seat, lock_in_fact, lock_holder, is_lock_fact, is_lock_of, holds_back, handles_key, inhibited_in, operation_in, under_way_in, running_in};
+    ghost use Rattle.login_model.specs.Facts.{is_absent, client_in, is_connected_fact, is_client_of, client_or, session_in_fact, is_session_fact, is_open_fact, is_closing_fact, user_or_root, is_session_of, seat_in_fact, vt_in, fifo_in, leader_in, is_open_of, is_other_user, is_seated_of, seated_user, terminal_in, is_on_terminal, is_set, controller_in, is_controlled_fact, is_controller_fact, is_known, is_user_fact, is_leaving_fact, is_overdue_fact, owner_in, is_owned_fact, holder_in, is_fifo_of, fifo_owner, fifo_session, handle_device, handle_in, is_handle_fact, is_this_handle, is_seat_fact, active_in, is_acting_fact, number_in_fact, number_or_zero, is_number_fact, is_this_number, moment_in_fact, moment_or_zero, device_kind_in, is_device_fact, is_evdev, graphics_seat, lock_in_fact, lock_holder, is_lock_fact, is_lock_of, holds_back, handles_key, inhibited_in, operation_in, under_way_in, running_in};
 
     /// Whether nothing is there.
     pub fn is_absent(&self) -> bool
@@ -362,6 +362,13 @@ impl Fact {
         ensures { result ≡ is_user_fact self.now }
     {
         matches!(self, Fact::Known | Fact::Leaving(_))
+    }
+
+    /// Whether it is that of a user who leaves after a delay.
+    pub fn is_leaving(&self) -> bool
+        ensures { result ≡ is_leaving_fact self.now }
+    {
+        matches!(self, Fact::Leaving(_))
     }
 
     /// Whether it is that of a user whose delay is over at a moment.

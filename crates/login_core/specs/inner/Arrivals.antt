@@ -16,7 +16,7 @@ places = 64
 abbrev pub arrival_at : Arrivals → ℕ → Option SessId
 arrival_at a p = if nat_lt 0 (slice_index a.numbers p) then Some (record { 0 = slice_index a.numbers p }) else None
 
--- a session is open, and its seat is not seat0
+-- a session is open and has a seat, other than seat0
 abbrev pub is_elsewhere : Trail → SessId → Bool
 is_elsewhere t s = sits_elsewhere (value t (Sess s))
 
@@ -26,7 +26,7 @@ pub record IsKept (a : Arrivals) (s : SessId) : Type 0 where
   pub below : place < places
   pub is : arrival_at a place ≡ Some s
 
--- so many different sessions are kept, and are on other seats
+-- at least so many different sessions are kept and are on other seats
 pub record AreCounted (a : Arrivals) (t : Trail) (count : ℕ) : Type 0 where
   pub counted : List SessId
   pub ascending : Ascending session_lt counted

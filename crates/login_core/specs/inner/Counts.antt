@@ -6,9 +6,8 @@ use Rattle.login_base.specs.declared.ids.Uid.{Uid}
 use Rattle.login_model.specs.declared.fact.Key.{Key}
 use Rattle.login_model.specs.declared.fact.Key.TheVariants as key
 use Rattle.login_model.specs.declared.fact.Fact.{Fact}
-use Rattle.login_model.specs.declared.fact.Fact.TheVariants as fact
 use Rattle.login_model.specs.Devices.{is_handle_fact, is_taken}
-use Rattle.login_model.specs.Facts.{is_connected_fact, is_controlled_fact, is_device_fact, is_lock_fact, is_open_fact, is_session_fact, is_user_fact}
+use Rattle.login_model.specs.Facts.{is_connected_fact, is_controlled_fact, is_device_fact, is_leaving_fact, is_lock_fact, is_open_fact, is_session_fact, is_user_fact}
 use Rattle.login_model.specs.Names.{names, conn_in, device_in, lock_in, session_in, user_in, user_lt, session_lt}
 use Rattle.login_model.specs.Trail.{Trail, value}
 use Rattle.login_model.specs.Where.{connections, devices, is_session, locks, open_sessions, sessions, users}
@@ -56,11 +55,6 @@ pub record HoldersAreThere (t : Trail) : Type 0 where
   pub taken : (s : SessId) (d : DevNo) → is_taken t s d ≡ true → is_session t s ≡ true
 
 -- ---- what is counted of users
-
--- a user who leaves after a delay
-abbrev pub is_leaving_fact : Fact → Bool
-is_leaving_fact (fact.Leaving since) = true
-is_leaving_fact _ = false
 
 -- the users that leave, in order
 unfoldable pub leavers : Trail → List Uid

@@ -1,4 +1,5 @@
--- Where the open sessions with a seat are: how many each bucket of terminals and of users has.
+-- Where the open sessions with a seat are: how many each bucket of terminals and of users has, and how many are
+-- beside the buckets of terminals.
 use Rattle.std.specs.Prelude.{ℕ, ◌≡◌, ◌==◌, ◌&&◌, ◌+◌, ◌<◌, ◌≤◌, ◌^◌, ◌%◌, nat_le, Bool, true, false, if◌then◌else◌, Option, Some, None, List, find, length, filter, option_and_then, slice_index}
 use Rattle.std.specs.Option.{is_some}
 use Rattle.login_base.specs.declared.ids.SessId.{SessId}
@@ -23,7 +24,7 @@ buckets = 64
 abbrev pub high_in : Fact → Option ℕ
 high_in x = option_and_then (λ v. if nat_le buckets v then Some 0 else None) (terminal_in x)
 
--- an open session has a seat, which is not seat0
+-- an open session has a seat, other than seat0
 abbrev pub sits_elsewhere : Fact → Bool
 sits_elsewhere x = if is_some (terminal_in x) then false else is_some (seated_user x)
 
@@ -113,25 +114,30 @@ either _ _ = None
 abbrev pub is_current_of : Trail → ℕ → SessId → Bool
 is_current_of t uid s = is_open_of uid (value t (key.Sess s)) && is_on_terminal (value t key.Vt) (value t (key.Sess s))
 
+-- some session is so
 abbrev pub is_some_current : Trail → ℕ → Bool
 is_some_current t uid = is_some (find (is_current_of t uid) (sessions t))
 
--- another seat than seat0 has it as its active one
+-- a session is an open one of a user, and another seat than seat0 has it as its active one
 abbrev pub is_acting_of : Trail → ℕ → SessId → Bool
 is_acting_of t uid s = is_open_of uid (value t (key.Sess s)) && is_acting t s (value t (key.Sess s))
 
+-- some session is so
 abbrev pub is_some_acting : Trail → ℕ → Bool
 is_some_acting t uid = is_some (find (is_acting_of t uid) (sessions t))
 
--- it is on seat0, or on another seat
+-- a session is an open one of a user, on seat0
 abbrev pub is_on_seat0_of : Trail → ℕ → SessId → Bool
 is_on_seat0_of t uid s = is_open_of uid (value t (key.Sess s)) && is_seat0 (seat_in_fact (value t (key.Sess s)))
 
+-- some session is so
 abbrev pub is_some_on_seat0 : Trail → ℕ → Bool
 is_some_on_seat0 t uid = is_some (find (is_on_seat0_of t uid) (sessions t))
 
+-- a session is an open one of a user, on another seat
 abbrev pub is_elsewhere_of : Trail → ℕ → SessId → Bool
 is_elsewhere_of t uid s = is_open_of uid (value t (key.Sess s)) && sits_elsewhere (value t (key.Sess s))
 
+-- some session is so
 abbrev pub is_some_elsewhere : Trail → ℕ → Bool
 is_some_elsewhere t uid = is_some (find (is_elsewhere_of t uid) (sessions t))

@@ -63,7 +63,7 @@ impl<'a> SoFar<'a> {
 
 /// Other seats than seat0.
 impl<'a> SoFar<'a> {
-    /// Whether a session is open, and its seat is not seat0.
+    /// Whether a session is open and has a seat, other than seat0.
     fn is_elsewhere(&self, session: SessId) -> bool
         ensures { result ≡ is_elsewhere self.now session }
     {
@@ -77,7 +77,8 @@ impl<'a> SoFar<'a> {
         session.0 < last && self.is_elsewhere(session)
     }
 
-    /// How many of the arrivals are on other seats: each is below those before it, so that none counts twice.
+    /// How many of the arrivals are on other seats, or fewer: each that counts is below those that counted before it, so
+    /// that none counts twice.
     fn count_arrivals(&self, arrivals: &Arrivals) -> u32
         ensures { AreCounted arrivals.now self.now result }
     {
@@ -120,7 +121,7 @@ impl<'a> SoFar<'a> {
         !self.seating().terminals.is_none_at(vt)
     }
 
-    /// The open session of seat0 that has a terminal, by going over all sessions.
+    /// The open session of seat0 that has a terminal, by going over all sessions that are there.
     fn find_on_terminal(&self, vt: u32) -> Option<SessId>
         ensures { result ≡ session_on self.now vt }
     {
@@ -149,7 +150,7 @@ impl<'a> SoFar<'a> {
     }
 }
 
-/// What two parts say together, as far as they are known.
+/// What two parts say together: yes where one does, whatever the other is, no where both do.
 fn either(first: Option<bool>, second: Option<bool>) -> Option<bool>
     ensures { result ≡ either first second }
 {
@@ -162,7 +163,8 @@ fn either(first: Option<bool>, second: Option<bool>) -> Option<bool>
 
 /// Seats.
 impl<'a> SoFar<'a> {
-    /// Whether an open session of a user is on seat0: it is not known where two sessions are in one terminal's bucket.
+    /// Whether an open session of a user is on seat0. It is not known where a terminal's bucket comes first of which it
+    /// is not known who is in it.
     fn on_seat0(&self, uid: u32) -> Option<bool>
         ensures { (is_so : Bool) → result ≡ Some is_so → is_some_on_seat0 self.now uid ≡ is_so }
     {
@@ -198,7 +200,7 @@ impl<'a> SoFar<'a> {
         }
     }
 
-    /// Whether an open session of a user has a seat, by going over all sessions.
+    /// Whether an open session of a user has a seat, by going over all sessions that are there.
     fn find_seated(&self, uid: u32) -> bool
         ensures { result ≡ has_seat self.now uid }
     {
@@ -294,7 +296,7 @@ impl<'a> SoFar<'a> {
             && (fact.is_on_terminal(self.fact(&Key::Vt)) || self.is_acting(session, fact))
     }
 
-    /// Whether an open session of a user is active on its seat, by going over all sessions.
+    /// Whether an open session of a user is active on its seat, by going over all sessions that are there.
     fn find_active(&self, uid: u32) -> bool
         ensures { result ≡ has_active self.now uid }
     {

@@ -39,7 +39,8 @@ pub enum Crowd {
     Several,
 }
 
-/// How many sessions there are by a number of each: a terminal, or a user. Numbers that leave the same remainder
+/// How many sessions there are by a number of each: a terminal, a user, or what they are counted aside as. Numbers that
+/// leave the same remainder
 /// share a bucket. Beside each count stands the sum of the numbers of these sessions, modulo 2^32, so where there is
 /// one, its number. No promise is made of the sums: whoever takes one for a session looks whether it is.
 #[derive(Clone, Copy)]
@@ -135,7 +136,7 @@ fn high_in(fact: &Fact) -> Option<u32>
     }
 }
 
-/// Whether an open session has a seat, which is not seat0.
+/// Whether it is an open session's that has a seat, other than seat0.
 pub fn sits_elsewhere(fact: &Fact) -> bool
     ensures { result ≡ sits_elsewhere fact.now }
 {

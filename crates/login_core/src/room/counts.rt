@@ -8,7 +8,7 @@ ghost use Rattle.login_model.specs.Full.{marks_needed};
 ghost use Rattle.login_model.specs.Limits.{taken_limit};
 ghost use Rattle.login_model.specs.Trail.{Trail};
 ghost use Rattle.login_model.specs.Where.{sessions};
-ghost use Rattle.login_core.specs.inner.Counts.{AreCounted, CanAllMove, Follow, HoldersAreThere, counts_of, is_leaving_fact, one_if};
+ghost use Rattle.login_core.specs.inner.Counts.{AreCounted, CanAllMove, Follow, HoldersAreThere, counts_of, one_if};
 
 use login_model::{Fact, Key, MOST_TAKEN};
 
@@ -46,13 +46,6 @@ fn one_if(is_so: bool) -> u32
     ensures { result ≡ one_if is_so }
 {
     if is_so { 1 } else { 0 }
-}
-
-/// Whether it is that of a user who leaves after a delay.
-fn is_leaving(fact: &Fact) -> bool
-    ensures { result ≡ is_leaving_fact fact.now }
-{
-    matches!(fact, Fact::Leaving(_))
 }
 
 /// A count that loses so many and gains so many.
@@ -109,7 +102,7 @@ impl Counts {
                 ..Counts::NONE
             },
             Key::User(_) => Counts {
-                leaving: one_if(is_leaving(fact)),
+                leaving: one_if(fact.is_leaving()),
                 users: one_if(fact.is_user()),
                 ..Counts::NONE
             },
