@@ -204,17 +204,20 @@ served-none u U v w before talk left faults is above none a = record {
 
 -- one with a teller begins
 pub begins : (u : Uid) (U : Setup) (v w : View Setup Entry) (before : List Entry) (talk : Option (List Exchange)) (left : Option (List ℕ)) (faults : ℕ) (c : ConnId) (teller : TellerState) → v.setup ≡ Some U → 0 < v.who → v.mine ≡ []
-    → Acts v w before [] → c.0 ≡ v.who → IsNewTeller c u U teller → Begins u (moment w talk left faults) teller
+    → Acts v w before [] → c.0 ≡ v.who → IsNewTeller c u U before teller → Begins u (moment w talk left faults) teller
 begins u U v w before talk left faults c teller is above none a who new =
     let mine : w.mine ≡ [] = a.mine_is ∙ (append-nil v.mine ∙ none) in
     let above-now : 0 < w.who = subst (λ (n : ℕ). 0 < n) (sym a.who_is) above in
+    let seen : before ≡ entries w.seen = sym (a.seen_is ∙ append-nil before) in
     record {
       setup = U;
       setup_is = a.setup_is ∙ is;
       above = above-now;
       nothing = mine;
       in_journal = a.in_journal above-now ∙ mine;
-      greeted = subst (λ (b : ConnId). IsNewTeller b u U teller) (ap (λ (n : ℕ). let r : ConnId = record { 0 = n } in r) (who ∙ sym a.who_is)) new;
+      greeted =
+          subst (λ (b : ConnId). IsNewTeller b u U (entries w.seen) teller) (ap (λ (n : ℕ). let r : ConnId = record { 0 = n } in r) (who ∙ sym a.who_is))
+          (subst (λ (J : List Entry). IsNewTeller c u U J teller) seen new);
     }
 
 -- what was served since the teller was there was served since the pass was new

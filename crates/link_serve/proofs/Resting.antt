@@ -178,11 +178,11 @@ begins-rests u now p b closed =
           made = ap events_of b.in_journal;
           said_is = sym (no-mail c (entries now.view.seen) b.in_journal);
         };
-        fetched = [];
-        rest = entries now.view.seen;
-        seen_is = refl;
+        fetched = entries now.view.seen;
+        rest = [];
+        seen_is = sym (append-nil (entries now.view.seen));
         place = b.greeted.place;
-        said_fetched = sym (no-mail c [] refl);
+        said_fetched = sym (no-mail c (entries now.view.seen) b.in_journal);
         going = refl;
         faults = refl;
       };

@@ -1,5 +1,5 @@
 -- Which connections are connected behind a journal, by the entries that they have in it.
-use Rattle.std.proofs.Common.{◌≡◌, ℕ, ◌==◌, if◌then◌else◌, Bool, true, false, Option, Some, None, List, [], ◌∷◌, refl, ap, sym, ◌∙◌, subst, inl, inr}
+use Rattle.std.proofs.Common.{◌≡◌, ℕ, zero, suc, ◌<◌, ◌==◌, if◌then◌else◌, Bool, true, false, Option, Some, None, List, [], ◌∷◌, ◌++◌, refl, ap, sym, ◌∙◌, subst, inl, inr, arith}
 use Rattle.std.specs.Option.{IsSome}
 use Rattle.login_base.specs.declared.ids.ConnId.{ConnId}
 use Rattle.login_model.specs.Legal.{Fits, IsAsked, IsLegalAfter, IsUnused, connects as IsConnectOf, trail_of}
@@ -61,6 +61,27 @@ unused-own c (e ∷ es) none = by (entry_who e == c.0) refl none (unused-own c e
         not-of (Happens x) n k = k
         not-of (Tick m) n k = k
         not-of Stop n k = k
+
+-- no connect has the number 0
+not-machine : (c : ConnId) (before : List Entry) (x : Event) → c.0 ≡ 0 → Fits before x → IsConnectOf c x → ⊥
+not-machine c before (Connect b u) machine fits k = let above = fits.0 in omega (arith, above, k, machine)
+not-machine c before (Disconnect b) machine fits k = k
+not-machine c before (Calls r) machine fits k = k
+not-machine c before (Happens x) machine fits k = k
+not-machine c before (Tick m) machine fits k = k
+not-machine c before Stop machine fits k = k
+
+unused-machine : (U : Setup) (c : ConnId) (before es : List Entry) → c.0 ≡ 0 → IsLegalAfter U before es → IsUnused c es
+unused-machine U c before [] machine legal = tt
+unused-machine U c before (e ∷ es) machine legal = (not-machine c before e.event machine legal.0.placed.0, unused-machine U c (before ++ e ∷ []) es machine legal.1)
+
+-- so a number above 0 of which there is no entry is unused, and so is 0
+pub unused-above : (U : Setup) (c : ConnId) (J : List Entry) → IsLegalAfter U [] J → (0 < c.0 → entries_of c J ≡ []) → IsUnused c J
+unused-above U c J legal own = by c.0 refl
+  where
+    by : (n : ℕ) → c.0 ≡ n → IsUnused c J
+    by zero is = unused-machine U c [] J is legal
+    by (suc n) is = unused-own c J (own (omega (arith, is)))
 
 -- ---- an event that may be asked for
 

@@ -37,7 +37,8 @@ pub struct Made {
     pub tells: bool,
 }
 
-/// Makes the teller of a link with a client that is to be this user. It makes no entry.
+/// Makes the teller of a link whose connection made no entry, with a client that is to be this user. It makes no entry,
+/// and its mail is looked for behind the journal alone.
 #[derive(Drop)]
 pub struct Greet {
     pub alloc: Global,
@@ -45,19 +46,25 @@ pub struct Greet {
 }
 
 impl Act<CoreAtDesk> for Greet {
-    ghost use Rattle.std.specs.Prelude.{[]};
+    ghost use Rattle.std.specs.Prelude.{◌≡◌, []};
     ghost use Rattle.link_serve.specs.inner.Acting.{Greets};
 
     type Answer = Result<(ConnId, Teller), NoMemory>;
 
     ghost does = { λ before who setup old new after answer. Greets before.uid who setup old new answer };
 
-    ghost may = { λ act mine. Unit {0} };
+    ghost may = { λ act mine. mine ≡ [] };
 
     ghost after = { λ act. [] };
 
     fn act(&mut self, value: &mut CoreAtDesk, who: ConnId) -> Result<(ConnId, Teller), NoMemory> {
-        let teller = Teller::new(self.alloc, who, self.uid, &value.setup().guid)?;
+        let teller = Teller::behind(
+            self.alloc,
+            who,
+            self.uid,
+            &value.setup().guid,
+            value.journal(),
+        )?;
         Ok((who, teller))
     }
 }

@@ -110,6 +110,16 @@ new_at core c teller who place = record {
   place = subst (λ (p : Place). IsPlaceIn p core.journal) (sym place) refl;
 }
 
+-- that of a link whose mail begins behind the journal
+pub behind_at : (core : CoreState) (c : ConnId) (teller : TellerState) (J : List Entry) → J ≡ core.journal → teller.who ≡ c → teller.place ≡ place_of c J → IsAt core c.0 teller
+behind_at core c teller J is who place =
+    let at : teller.place ≡ place_of c core.journal = place ∙ ap (place_of c) is in
+    record {
+      who = who;
+      own = ap (λ (p : Place). p.who) at;
+      place = subst (λ (p : Place). IsPlaceIn p core.journal) (sym at) (ap (place_of c) (sym (take_all (length core.journal) core.journal (omega arith))));
+    }
+
 -- what the office keeps where one teller changes
 pub office_updated : (core : CoreState) (k : ℕ) (old new : Tellers) (w : Option TellerState) → UpdatesAt k old new w
     → ((t : TellerState) → w ≡ Some t → IsAt core k t) → IsOffice core old → IsOffice core new

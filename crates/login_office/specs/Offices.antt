@@ -28,13 +28,14 @@ pub record KeepsOthers (old : OfficeState) (c : ConnId) (new : OfficeState) : Ty
   pub core : new.core ≡ old.core
   pub others : (b : ConnId) → b.0 ≢ c.0 → teller_of new b ≡ teller_of old b
 
--- a link is opened: nothing was heard on it, and none of its mail was fetched
-pub record Opens (old : OfficeState) (c : ConnId) (uid : Uid) (new : OfficeState) : Type 0 where
+-- a link is opened: nothing was heard on it, and its mail was fetched by these entries, which have none where no connect
+-- in them had its number
+pub record Opens (old : OfficeState) (c : ConnId) (uid : Uid) (fetched : List Entry) (new : OfficeState) : Type 0 where
   pub teller : TellerState
   pub there : teller_of new c ≡ Some teller
   pub link : IsLink teller c uid old.core.setup.guid
   pub heard : HasHeard teller []
-  pub place : teller.place ≡ place_of c []
+  pub place : teller.place ≡ place_of c fetched
 
 -- the teller of a link went on in such a way
 pub record GoesOn (old : OfficeState) (c : ConnId) (new : OfficeState) (P : TellerState → TellerState → Type 0) : Type 0 where

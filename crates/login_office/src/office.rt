@@ -9,7 +9,7 @@ ghost use Rattle.login_core.specs.Fullness.{always_fits};
 ghost use Rattle.login_core.specs.State.{IsReady, RoomGives};
 ghost use Rattle.login_laws.specs.Lawful.{IsLawful};
 ghost use Rattle.login_model.specs.Conf.{IsAllowed};
-ghost use Rattle.login_model.specs.Legal.{IsAsked, IsPlaced, trail_of};
+ghost use Rattle.login_model.specs.Legal.{IsAsked, IsPlaced, IsUnused, trail_of};
 ghost use Rattle.login_model.specs.Setups.{IsSetup};
 ghost use Rattle.login_model.specs.Where.{is_connected};
 ghost use Rattle.login_model.specs.declared.event.Event.TheVariants.{Disconnect};
@@ -69,14 +69,30 @@ impl Office {
         })
     }
 
-    /// Opens a link, with a client that is to be this user.
+    /// Opens a link, with a client that is to be this user. Its mail is looked for from the first entry on, since its
+    /// number may be one that was connected before.
     pub fn open_link(&mut self, alloc: Global, c: ConnId, uid: Uid) -> Result<(), NoMemory>
         requires unused { teller_of self.old c ≡ None }
-        ensures opened { OnOk result (Opens self.old c uid self.new) }
+        ensures opened { OnOk result (Opens self.old c uid [] self.new) }
         ensures others { KeepsOthers self.old c self.new }
         ensures err { OnErr result (self.new ≡ self.old) }
     {
         let teller = Teller::new(alloc, c, uid, &self.core.setup().guid)?;
+        self.tellers.insert(c.0, teller)?;
+        Ok(())
+    }
+
+    /// Opens a link under a number that no connect had, with a client that is to be this user. Its mail is looked for
+    /// behind the journal alone, so what stands there costs it nothing.
+    pub fn open_new_link(&mut self, alloc: Global, c: ConnId, uid: Uid) -> Result<(), NoMemory>
+        requires unused { teller_of self.old c ≡ None }
+        requires new { IsUnused c self.old.core.journal }
+        ensures opened { OnOk result (Opens self.old c uid self.old.core.journal self.new) }
+        ensures others { KeepsOthers self.old c self.new }
+        ensures err { OnErr result (self.new ≡ self.old) }
+    {
+        let guid = &self.core.setup().guid;
+        let teller = Teller::behind(alloc, c, uid, guid, self.core.journal())?;
         self.tellers.insert(c.0, teller)?;
         Ok(())
     }

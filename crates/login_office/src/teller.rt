@@ -4,6 +4,7 @@ ghost use Rattle.std.specs.Prelude.{◌≡◌, ◌≢◌, [], IfOk, OnOk, OnErr,
 ghost use Rattle.std.specs.Result.{IsOkAnd};
 ghost use Rattle.bus_auth.specs.Greeting.{Begun, Ended};
 ghost use Rattle.bus_auth.specs.declared.table.Ending.{Ending};
+ghost use Rattle.login_model.specs.Legal.{IsUnused};
 ghost use Rattle.wire_calls.specs.Reading.{requests_of};
 ghost use Rattle.wire_out.specs.Conditions.{IsMailable};
 ghost use Rattle.wire_out.specs.Places.{IsPlaceIn, place_of};
@@ -151,11 +152,42 @@ impl Teller {
         ensures heard { IfOk result (λ teller. HasHeard teller []) }
         ensures place { IfOk result (λ teller. teller.place ≡ place_of who []) }
     {
+        Teller::at(alloc, who, uid, guid, Cursor::new(who))
+    }
+
+    /// The same of a number that no connect in this journal had: its mail is looked for behind the journal alone.
+    pub fn behind(
+        alloc: Global,
+        who: ConnId,
+        uid: Uid,
+        guid: &Word,
+        journal: &Journal,
+    ) -> Result<Teller, NoMemory>
+        requires unused { IsUnused who journal.now.items }
+        ensures link { IfOk result (λ teller. IsLink teller who uid guid.now) }
+        ensures heard { IfOk result (λ teller. HasHeard teller []) }
+        ensures place { IfOk result (λ teller. teller.place ≡ place_of who journal.now.items) }
+    {
+        Teller::at(alloc, who, uid, guid, Cursor::behind(who, journal))
+    }
+
+    /// The teller of a link on which nothing was heard, at a place of the connection's mail.
+    fn at(
+        alloc: Global,
+        who: ConnId,
+        uid: Uid,
+        guid: &Word,
+        cursor: Cursor,
+    ) -> Result<Teller, NoMemory>
+        ensures link { IfOk result (λ teller. IsLink teller who uid guid.now) }
+        ensures heard { IfOk result (λ teller. HasHeard teller []) }
+        ensures place { IfOk result (λ teller. teller.place ≡ cursor) }
+    {
         Ok(Teller {
             who,
             auth: Auth::new(alloc, uid, guid.copied()?),
             cutter: Cutter::new(alloc),
-            cursor: Cursor::new(who),
+            cursor,
         })
     }
 

@@ -24,13 +24,13 @@ use Rattle.replay.specs.Played.{Played, played_lines, journal_of}
 use Rattle.replay.specs.Recording.{IsNoLink, MayCome}
 use Rattle.replay.specs.inner.Player.{AreUsed, HasTeller, OpensLink, PlayerState, StandsBehind, Tells, open_user, user_at}
 use Rattle.replay.specs.inner.Playing.{LineMade}
+use Rattle.wire_out.specs.Mail.{mail}
 use Rattle.wire_out.specs.Places.{Place}
 use Rattle.replay.proofs.Written.{TextTold}
 use Rattle.replay.proofs.LinkLines.{has_stop, heard-more, hung-more, journal-more, lines-append, or_else, user-more}
 use Rattle.replay.proofs.LinkStanding.{SaysNothing, link-standing, no-piece, or-else-none, or-else-nothing, or-none}
 use Rattle.replay.proofs.MadeEntries.{blocks-none, none-made}
 use Rattle.replay.proofs.MadeLines.{end-more, end-stays, line-made, no-link-end, teller-stays}
-use Rattle.replay.proofs.OpenMail.{no-mail-unused}
 
 -- ---- tests of numbers
 
@@ -124,7 +124,7 @@ module _ (old new : PlayerState) (played : List Played) (b : ConnId) (u : Uid) w
         link = o.opens.link;
         heard = subst (HasHeard t) (sym (link-heard lines b b u ∙ silent)) o.opens.heard;
         owner = ap (λ (p : Place). p.who) o.opens.place;
-        fetched = ap (λ (p : Place). p.fetched) o.opens.place ∙ ap length (no-mail-unused b [] tt ∙ sym (no-mail-unused b J may.0));
+        fetched = ap (λ (p : Place). p.fetched) o.opens.place ∙ ap (λ (j : List Entry). length (mail b j)) s.journal;
       } in
       subst (HasTeller U J (lines ++ line.Link b u ∷ []) b (link_end U played b)) (sym o.opens.there) (tells, no-link-end U played b may.1)
 

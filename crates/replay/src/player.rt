@@ -82,14 +82,15 @@ impl Player {
         self.links.contains_key(&who.0)
     }
 
-    /// Opens a link. Its number is used from now on.
+    /// Opens a link under a number that no connect had. It is used from now on.
     pub fn open_link(&mut self, alloc: Global, who: ConnId, user: Uid) -> Result<(), NoMemory>
-        requires { teller_of self.old.office who ≡ None }
+        requires closed { teller_of self.old.office who ≡ None }
+        requires new { IsUnused who self.old.office.core.journal }
         ensures { OnOk result (OpensLink self.old who user self.new) }
     {
         self.used.insert(who.0)?;
         self.links.insert(who.0, user)?;
-        self.office.open_link(alloc, who, user)
+        self.office.open_new_link(alloc, who, user)
     }
 
     /// Keeps the number of an event that is a connect.

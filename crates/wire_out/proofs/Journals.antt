@@ -61,7 +61,7 @@ other_connect b c (Hardware x) v e h = refl
 other_connect b c (Tick m) v e h = refl
 other_connect b c Stop v e h = refl
 
-unused : (b c : ConnId) (before : List Entry) → b.0 ≡ c.0 → IsUnused b before → has_connect c before ≡ false
+pub unused : (b c : ConnId) (before : List Entry) → b.0 ≡ c.0 → IsUnused b before → has_connect c before ≡ false
 unused b c [] e h = refl
 unused b c (x ∷ xs) e h = rw (other_connect b c x.event x.verdict e h.0, unused b c xs e h.1) refl
 

@@ -1,6 +1,7 @@
 // What is due of the mail of a connection.
 
 ghost use Rattle.std.specs.Prelude.{◌≡◌, IfOk, drop};
+ghost use Rattle.login_model.specs.Legal.{IsUnused};
 ghost use Rattle.wire_out.specs.Conditions.{IsMailable};
 ghost use Rattle.wire_out.specs.Mail.{bytes_of, mail};
 
@@ -29,6 +30,7 @@ impl Model for Cursor {
 
 impl Cursor {
     ghost use Rattle.std.specs.Prelude.{◌≡◌, [], IfOk, OnOk, OnErr, drop};
+    ghost use Rattle.login_model.specs.Legal.{IsUnused};
     ghost use Rattle.wire_out.specs.Conditions.{IsMailable};
     ghost use Rattle.wire_out.specs.Mail.{bytes_of, mail};
     ghost use Rattle.wire_out.specs.Places.{IsPlaceIn, place_of};
@@ -42,6 +44,20 @@ impl Cursor {
             who: c,
             fetched: 0,
             entries: 0,
+            connected: false,
+        }
+    }
+
+    /// The place behind this journal, of a number that no connect in it had: it has no mail by it, so none of its
+    /// entries is gone over, now or later. It takes no memory.
+    pub fn behind(c: ConnId, journal: &Journal) -> Cursor
+        requires unused { IsUnused c journal.now.items }
+        ensures { result ≡ place_of c journal.now.items }
+    {
+        Cursor {
+            who: c,
+            fetched: 0,
+            entries: journal.len(),
             connected: false,
         }
     }

@@ -47,14 +47,14 @@ ClosesOne c old new = ClosesBy (is_open c (entries_of c old)) c old new
 abbrev pub Closes : ConnId → CoreState → CoreState → Type 0
 Closes c old new = (new.setup ≡ old.setup) × ClosesOne c old.journal new.journal
 
--- the teller of a link on which nothing was heard
-pub record IsNewTeller (c : ConnId) (uid : Uid) (U : Setup) (t : TellerState) : Type 0 where
+-- the teller of a link on which nothing was heard, whose mail was fetched by this journal
+pub record IsNewTeller (c : ConnId) (uid : Uid) (U : Setup) (J : List Entry) (t : TellerState) : Type 0 where
   pub link : IsLink t c uid U.guid
   pub heard : HasHeard t []
-  pub place : t.place ≡ place_of c []
+  pub place : t.place ≡ place_of c J
 
 abbrev pub Greets : Uid → ℕ → Setup → List Entry → List Entry → Result (ConnId × TellerState) NoMemory → Type 0
-Greets uid who U old new answer = (new ≡ old) × IfOk answer (λ r. (r.0.0 ≡ who) × IsNewTeller r.0 uid U r.1)
+Greets uid who U old new answer = (new ≡ old) × IfOk answer (λ r. (r.0.0 ≡ who) × IsNewTeller r.0 uid U old r.1)
 
 -- the mail by the journal and the stop's number; or no memory, and then it is still due
 abbrev pub FetchGives : TellerState → List Entry → TellerState → Result Mail NoMemory → Type 0

@@ -106,4 +106,4 @@ pub record Begins (u : Uid) (now : Moment) (teller : TellerState) : Type 0 where
   pub above : 0 < now.view.who
   pub nothing : now.view.mine ≡ []
   pub in_journal : entries_of (who_of now) (entries now.view.seen) ≡ []
-  pub greeted : IsNewTeller (who_of now) u setup teller
+  pub greeted : IsNewTeller (who_of now) u setup (entries now.view.seen) teller

@@ -118,7 +118,7 @@ Uses old event new = (played : List Played) (e : Entry) → e.event ≡ event �
 
 -- a link of this user is opened, under a number that is used from now on
 pub record OpensLink (old : PlayerState) (who : ConnId) (user : Uid) (new : PlayerState) : Type 0 where
-  pub opens : Opens old.office who user new.office
+  pub opens : Opens old.office who user old.office.core.journal new.office
   pub keeps : KeepsOthers old.office who new.office
   pub used : (n : ℕ) → contains nat_cmp new.used n ≡ (n == who.0 || contains nat_cmp old.used n)
   pub links : (n : ℕ) → user_at n new.links ≡ (if n == who.0 then Some user else user_at n old.links)

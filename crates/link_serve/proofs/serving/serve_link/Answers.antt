@@ -4,6 +4,9 @@ use Rattle.link_serve.proofs.ConnectionsClosed.{begins, served-none, served-whol
 use Rattle.link_serve.proofs.Passing.{turned-quiet}
 use Rattle.link_serve.proofs.serving.serve_link.Goals as goal
 
+pub act-requires-clause-may : goal.act-requires-clause-may
+act-requires-clause-may g c = λ above. c.requires.new
+
 pub returns-in_default-clause-served : goal.returns-in_default-clause-served
 returns-in_default-clause-served g c =
     let t = c.in_default.ensures.turn in
