@@ -1,6 +1,5 @@
 -- Rows whose keys ascend: what is under a key, and what a setting makes of them.
-use Rattle.std.proofs.Common.{◌≡◌, ℕ, zero, suc, ◌<◌, ◌≤◌, Bool, true, false, cond, Option, Some, None, List, [], ◌∷◌, ◌++◌, length, get_or, take, drop, set, refl, ap, sym, ◌∙◌, subst, arith, inl, inr}
-use Rattle.std.proofs.lemmas.List.{get_or_read}
+use Rattle.std.proofs.Common.{◌≡◌, ℕ, zero, suc, ◌<◌, ◌≤◌, Bool, true, false, cond, Option, Some, None, List, [], ◌∷◌, ◌++◌, length, get_or, take, drop, refl, ap, sym, ◌∙◌, subst, arith, inl, inr}
 use Rattle.std.specs.List.Sorted.{IsPartitionedBy, IsPartitionPoint}
 use Rattle.login_model.specs.declared.fact.Key.{Key}
 use Rattle.login_model.specs.declared.fact.Fact.{Fact}
@@ -12,6 +11,7 @@ use Rattle.login_model.proofs.Keys.{same_key-true, test}
 use Rattle.login_table.specs.KeyOrder.{key_lt}
 use Rattle.login_table.specs.Rows.{as_trail, Ascend, AscendFrom, RowList}
 use Rattle.login_table.specs.inner.Fronts.{IsFront}
+use Rattle.login_table.specs.inner.Ordered.{is_row_of, with_fact}
 use Rattle.login_table.specs.declared.rows.Row.{Row}
 use Rattle.login_table.proofs.Standing.{Tells, was_tells}
 use Rattle.login_table.proofs.KeyOrder.{key_order, no-test, below-apart, above-apart, above}
@@ -53,20 +53,38 @@ front-point p (x ∷ xs) (suc i) h e = (
   front-point p xs i (omega arith) ((λ j d l m. e.0 (suc j) d (omega arith) (omega arith)), (λ j d l m. e.1 (suc j) d (omega arith) (omega arith))),
 )
 
+-- the key of a row behind a key is above it
+row-above : (j k : Key) (xs : List Row) (i : ℕ) → AscendFrom (Some j) xs → is_row_of k i xs ≡ true → key_lt j k ≡ true
+row-above j k [] i a e = absurd (no-test e refl)
+row-above j k (x ∷ xs) zero a e = ap (key_lt j) (sym (same_key-true x.key k e)) ∙ a.0
+row-above j k (x ∷ xs) (suc i) a e = key_order.transitive j x.key k a.0 (row-above x.key k xs i a.1 e)
+
 -- the row of a key stands at the end of the front below it
-pub met-front : (k : Key) (b : Option Key) (xs : List Row) (i : ℕ) (d : Row) → AscendFrom b xs → i < length xs → (get_or xs i d).key ≡ k → IsFront (λ (x : Row). key_lt x.key k) i xs
-met-front k b [] i d a h e = absurd (omega arith)
-met-front k b (x ∷ xs) zero d a h e = ap (λ (z : Key). key_lt z k) e ∙ key_order.irreflexive k
-met-front k b (x ∷ xs) (suc i) d a h e = (ap (key_lt x.key) (sym e) ∙ behind x.key xs a.1 i d (omega arith), met-front k (Some x.key) xs i d a.1 (omega arith) e)
+pub met-front : (k : Key) (b : Option Key) (xs : List Row) (i : ℕ) → AscendFrom b xs → is_row_of k i xs ≡ true → IsFront (λ (x : Row). key_lt x.key k) i xs
+met-front k b [] i a e = absurd (no-test e refl)
+met-front k b (x ∷ xs) zero a e = ap (λ (z : Key). key_lt z k) (same_key-true x.key k e) ∙ key_order.irreflexive k
+met-front k b (x ∷ xs) (suc i) a e = (row-above x.key k xs i a.1 e, met-front k (Some x.key) xs i a.1 e)
+
+pub row-within : (k : Key) (xs : List Row) (i : ℕ) → is_row_of k i xs ≡ true → i < length xs
+row-within k [] i e = absurd (no-test e refl)
+row-within k (x ∷ xs) zero e = omega arith
+row-within k (x ∷ xs) (suc i) e = let h = row-within k xs i e in omega arith
+
+-- whose row was read there, and that there is none behind the last
+pub row-read : (k : Key) (xs : List Row) (i : ℕ) (x : Row) → i < length xs → ((d : Row) → get_or xs i d ≡ x) → is_row_of k i xs ≡ same_key x.key k
+row-read k [] i x h at = absurd (omega arith)
+row-read k (y ∷ ys) zero x h at = ap (λ (z : Row). same_key z.key k) (at x)
+row-read k (y ∷ ys) (suc i) x h at = row-read k ys i x (omega arith) at
+
+pub row-past : (k : Key) (xs : List Row) (i : ℕ) → length xs ≤ i → is_row_of k i xs ≡ false
+row-past k [] i h = refl
+row-past k (x ∷ xs) zero h = absurd (omega arith)
+row-past k (x ∷ xs) (suc i) h = row-past k xs i (omega arith)
 
 -- rows above a key are above those below it
 pub lower : (j k : Key) (xs : List Row) → key_lt j k ≡ true → AscendFrom (Some k) xs → AscendFrom (Some j) xs
 lower j k [] h a = tt
 lower j k (x ∷ xs) h a = (key_order.transitive j k x.key h a.0, a.1)
-
--- the row at the place of a key is another's, or there is no row
-abbrev pub IsMissed : Key → List Row → ℕ → Row → Type 0
-IsMissed k xs i d = i < length xs → same_key (get_or xs i d).key k ≡ false
 
 module _ {A : Type 0} {tell : Trail → Key → A} {given : Fact → A} {start : Key → A} (told : Tells tell given start) where
   tell-same : (k j : Key) (x : Fact) (t : Trail) → same_key j k ≡ true → tell (Set j x ∷ t) k ≡ given x
@@ -75,19 +93,11 @@ module _ {A : Type 0} {tell : Trail → Key → A} {given : Fact → A} {start :
   tell-other : (k j : Key) (x : Fact) (t : Trail) → same_key j k ≡ false → tell (Set j x ∷ t) k ≡ tell t k
   tell-other k j x t e = told.setting k j x t ∙ ap (λ (b : Bool). cond b (given x) (tell t k)) e
 
-  -- the row at the place of a key is its own
-  found : (k : Key) (xs : List Row) (i : ℕ) (d : Row) → IsFront (λ (x : Row). key_lt x.key k) i xs → i < length xs → same_key (get_or xs i d).key k ≡ true
-      → given (get_or xs i d).fact ≡ tell (as_trail xs) k
-  found k [] i d f h e = absurd (omega arith)
-  found k (x ∷ xs) zero d f h e = sym (tell-same k x.key x.fact (as_trail xs) e)
-  found k (x ∷ xs) (suc i) d f h e = found k xs i d f.1 (omega arith) e ∙ sym (tell-other k x.key x.fact (as_trail xs) (below-apart x.key k f.0))
-
-  -- what indexing reads twice at the place of a key
-  pub found-at : (k : Key) (xs : List Row) (i : ℕ) (x y : Row) → IsFront (λ (x : Row). key_lt x.key k) i xs → i < length xs → y ≡ get_or xs i y → same_key y.key k ≡ true → x ≡ get_or xs i x
-      → given x.fact ≡ tell (as_trail xs) k
-  found-at k xs i x y f h at e again =
-      ap (λ (z : Row). given z.fact) again
-      ∙ found k xs i x f h (ap (λ (z : Row). same_key z.key k) (sym (get_or_read xs i y h at x)) ∙ e)
+  -- the row at the place of a key tells of it
+  pub found : (k : Key) (xs : List Row) (i : ℕ) (d : Row) → IsFront (λ (x : Row). key_lt x.key k) i xs → is_row_of k i xs ≡ true → given (get_or xs i d).fact ≡ tell (as_trail xs) k
+  found k [] i d f e = absurd (no-test e refl)
+  found k (x ∷ xs) zero d f e = sym (tell-same k x.key x.fact (as_trail xs) e)
+  found k (x ∷ xs) (suc i) d f e = found k xs i d f.1 e ∙ sym (tell-other k x.key x.fact (as_trail xs) (below-apart x.key k f.0))
 
   -- a key below all rows has none
   none-below : (k : Key) (xs : List Row) → AscendFrom (Some k) xs → tell (as_trail xs) k ≡ start k
@@ -95,14 +105,12 @@ module _ {A : Type 0} {tell : Trail → Key → A} {given : Fact → A} {start :
   none-below k (x ∷ xs) a =
       tell-other k x.key x.fact (as_trail xs) (above-apart x.key k a.0) ∙ none-below k xs (lower k x.key xs a.0 a.1)
 
-  pub missed : (k : Key) (b : Option Key) (xs : List Row) (i : ℕ) (d : Row) → AscendFrom b xs → IsFront (λ (x : Row). key_lt x.key k) i xs → IsMissed k xs i d → tell (as_trail xs) k ≡ start k
-  missed k b [] zero d a f n = told.none k
-  missed k b [] (suc i) d a f n = absurd f
-  missed k b (x ∷ xs) zero d a f n =
-      let e = n (omega arith) in
-      tell-other k x.key x.fact (as_trail xs) e ∙ none-below k xs (lower k x.key xs (above x.key k f e) a.1)
-  missed k b (x ∷ xs) (suc i) d a f n =
-      tell-other k x.key x.fact (as_trail xs) (below-apart x.key k f.0) ∙ missed k (Some x.key) xs i d a.1 f.1 (λ h. n (omega arith))
+  -- and one that has no row there was not set
+  pub missed : (k : Key) (b : Option Key) (xs : List Row) (i : ℕ) → AscendFrom b xs → IsFront (λ (x : Row). key_lt x.key k) i xs → is_row_of k i xs ≡ false → tell (as_trail xs) k ≡ start k
+  missed k b [] zero a f n = told.none k
+  missed k b [] (suc i) a f n = absurd f
+  missed k b (x ∷ xs) zero a f n = tell-other k x.key x.fact (as_trail xs) n ∙ none-below k xs (lower k x.key xs (above x.key k f n) a.1)
+  missed k b (x ∷ xs) (suc i) a f n = tell-other k x.key x.fact (as_trail xs) (below-apart x.key k f.0) ∙ missed k (Some x.key) xs i a.1 f.1 n
 
 -- what a setting makes of the rows
 pub put_row : Key → Fact → List Row → List Row
@@ -126,19 +134,17 @@ unfolding put_row
 put-alone k f = refl
 
 -- a row put in at the place of its key
-pub inserted : (k : Key) (f : Fact) (xs : List Row) (i : ℕ) (d : Row) → IsFront (λ (x : Row). key_lt x.key k) i xs → IsMissed k xs i d
-    → take i xs ++ record { key = k; fact = f } ∷ drop i xs ≡ put_row k f xs
-inserted k f [] zero d h n = sym (put-alone k f)
-inserted k f [] (suc i) d h n = absurd h
-inserted k f (x ∷ xs) zero d h n = sym (put-before k f x xs h (n (omega arith)))
-inserted k f (x ∷ xs) (suc i) d h n = ap (λ (ys : List Row). x ∷ ys) (inserted k f xs i d h.1 (λ l. n (omega arith))) ∙ sym (put-behind k f x xs h.0)
+pub inserted : (k : Key) (f : Fact) (xs : List Row) (i : ℕ) → IsFront (λ (x : Row). key_lt x.key k) i xs → is_row_of k i xs ≡ false → take i xs ++ record { key = k; fact = f } ∷ drop i xs ≡ put_row k f xs
+inserted k f [] zero h n = sym (put-alone k f)
+inserted k f [] (suc i) h n = absurd h
+inserted k f (x ∷ xs) zero h n = sym (put-before k f x xs h n)
+inserted k f (x ∷ xs) (suc i) h n = ap (λ (ys : List Row). x ∷ ys) (inserted k f xs i h.1 n) ∙ sym (put-behind k f x xs h.0)
 
 -- the fact of a key's row exchanged
-pub exchanged : (k : Key) (f : Fact) (xs : List Row) (i : ℕ) (d : Row) → IsFront (λ (x : Row). key_lt x.key k) i xs → i < length xs → same_key (get_or xs i d).key k ≡ true
-    → set xs i (record { key = (get_or xs i d).key; fact = f }) ≡ put_row k f xs
-exchanged k f [] i d h l e = absurd (omega arith)
-exchanged k f (x ∷ xs) zero d h l e = sym (put-there k f x xs h e)
-exchanged k f (x ∷ xs) (suc i) d h l e = ap (λ (ys : List Row). x ∷ ys) (exchanged k f xs i d h.1 (omega arith) e) ∙ sym (put-behind k f x xs h.0)
+pub exchanged : (k : Key) (f : Fact) (xs : List Row) (i : ℕ) → IsFront (λ (x : Row). key_lt x.key k) i xs → is_row_of k i xs ≡ true → with_fact i f xs ≡ put_row k f xs
+exchanged k f [] i h e = absurd (no-test e refl)
+exchanged k f (x ∷ xs) zero h e = sym (put-there k f x xs h e)
+exchanged k f (x ∷ xs) (suc i) h e = ap (λ (ys : List Row). x ∷ ys) (exchanged k f xs i h.1 e) ∙ sym (put-behind k f x xs h.0)
 
 -- the rows still ascend
 ascends-by : (k : Key) (f : Fact) (b : Option Key) (x : Row) (xs : List Row) → AscendFrom b (x ∷ xs) → is_above key_lt b k ≡ true
@@ -195,19 +201,6 @@ module _ {A : Type 0} {tell : Trail → Key → A} {given : Fact → A} {start :
   pub put-is : (k : Key) (f : Fact) (xs : List Row) (j : Key) → tell (as_trail (put_row k f xs)) j ≡ tell (Set k f ∷ as_trail xs) j
   put-is k f xs j = tell-put k f xs j ∙ sym (told.setting j k f (as_trail xs))
 
--- what indexing reads at the place of a key is another's
-pub missed-at : (k : Key) (xs : List Row) (i : ℕ) (y d : Row) → y ≡ get_or xs i y → same_key y.key k ≡ false → IsMissed k xs i d
-missed-at k xs i y d at e h = ap (λ (z : Row). same_key z.key k) (sym (get_or_read xs i y h at d)) ∙ e
-
--- a key that has no row was not set, where the rows are read as a slice
-pub not-set : (k : Key) (xs zs : List Row) (i : ℕ) (d : Row) (v : RowList) → Ascend xs → zs ≡ xs → IsFront (λ (x : Row). key_lt x.key k) i zs → IsMissed k xs i d → as_trail xs ≡ v.trail → was_set v.trail k ≡ false
-not-set k xs zs i d v a r f n e =
-    let F : List Row → Type 0 = λ ys. IsFront (λ (x : Row). key_lt x.key k) i ys in
-    ap (λ (t : Trail). was_set t k) (sym e) ∙ missed was_tells k None xs i d (opened xs a) (subst F r f) n
-
--- the fact of the row that indexing reads exchanged
-pub exchanged-at : (k : Key) (f : Fact) (xs : List Row) (i : ℕ) (x y : Row) → IsFront (λ (x : Row). key_lt x.key k) i xs → i < length xs → y ≡ get_or xs i y → same_key y.key k ≡ true → x ≡ get_or xs i x
-    → set xs i (record { key = x.key; fact = f }) ≡ put_row k f xs
-exchanged-at k f xs i x y h l at e again =
-    ap (λ (z : Row). set xs i (record { key = z.key; fact = f })) again
-    ∙ exchanged k f xs i x h l (ap (λ (z : Row). same_key z.key k) (sym (get_or_read xs i y l at x)) ∙ e)
+-- a key that has no row was not set
+pub not-set : (k : Key) (xs : List Row) (i : ℕ) (v : RowList) → Ascend xs → IsFront (λ (x : Row). key_lt x.key k) i xs → is_row_of k i xs ≡ false → as_trail xs ≡ v.trail → was_set v.trail k ≡ false
+not-set k xs i v a f n e = ap (λ (t : Trail). was_set t k) (sym e) ∙ missed was_tells k None xs i (opened xs a) f n

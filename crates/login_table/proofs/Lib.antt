@@ -8,5 +8,6 @@ mod NextRow
 mod NextTaken
 mod NextTaker
 pub mod Parts
+mod RowOrder
 mod RowPlaces
 pub mod Standing

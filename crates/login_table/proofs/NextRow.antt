@@ -1,10 +1,7 @@
 -- The next name of what the places beside rows tell.
-use Rattle.std.proofs.Common.{◌≡◌, ℕ, suc, ◌<◌, ◌≤◌, ◌&&◌, Bool, true, false, cond, Option, Some, None, List, [], ◌∷◌, ◌++◌, length, get_or, take, drop, set, refl, ap, sym, arith, ◌∙◌, subst, ◌⊎◌, inl, inr}
-use Rattle.std.proofs.lemmas.List.{get_or_read, length-set}
+use Rattle.std.proofs.Common.{◌≡◌, ℕ, suc, ◌<◌, ◌≤◌, ◌&&◌, Bool, true, false, cond, Option, Some, None, List, [], ◌∷◌, ◌++◌, length, take, drop, refl, ap, sym, arith, ◌∙◌, subst, ◌⊎◌, inl, inr}
 use Rattle.login_model.specs.declared.fact.Key.{Key}
 use Rattle.login_model.specs.declared.fact.Fact.{Fact}
-use Rattle.login_model.specs.declared.fact.Key.TheVariants.{Vt}
-use Rattle.login_model.specs.declared.fact.Fact.TheVariants.{Absent}
 use Rattle.login_model.specs.declared.mark.Mark.TheVariants.{Set}
 use Rattle.login_model.specs.Same.{same_key}
 use Rattle.login_model.specs.Trail.{Trail, value}
@@ -16,15 +13,16 @@ use Rattle.login_table.specs.Listed.{is_there}
 use Rattle.login_table.specs.KeyOrder.{key_lt}
 use Rattle.login_table.specs.inner.Keys.{has, KeysAscend, AreThere}
 use Rattle.login_table.specs.inner.Nearest.{nearer}
+use Rattle.login_table.specs.inner.Ordered.{is_row_of, with_fact}
 use Rattle.login_table.specs.inner.Places.{key_at, keys_at, PlacesAscend, put_place, raised}
 use Rattle.login_table.specs.Nearest.{is_lower}
 use Rattle.login_table.specs.Rows.{Ascend, as_trail, says_there}
 use Rattle.login_table.specs.inner.Fronts.{IsFront}
 use Rattle.login_table.specs.declared.rows.Row.{Row}
-use Rattle.login_table.proofs.Ascending.{exchanged-at, opened, closed, put_row, put-ascends, put-is}
+use Rattle.login_table.proofs.Ascending.{exchanged, inserted, opened, closed, put_row, put-ascends, put-is, row-within}
 use Rattle.login_table.proofs.KeyOrder.{no-test}
 use Rattle.login_table.proofs.NextKey.{no-some, some-is}
-use Rattle.login_table.proofs.RowPlaces.{exchanged-keys, key-exchanged, key-inserted, keys-ascend, length-inserted, places-closed, put-ascend, put-has, raised-ascend, raised-keys}
+use Rattle.login_table.proofs.RowPlaces.{exchanged-keys, key-exchanged, key-inserted, keys-ascend, length-exchanged, length-inserted, places-closed, put-ascend, put-has, raised-ascend, raised-keys, row-key}
 use Rattle.login_table.proofs.Standing.{value-set, value-start, value_tells}
 
 -- no keys, where nothing was set
@@ -72,15 +70,12 @@ none-hold xs ps e f =
     let Q : List ℕ → Type 0 = λ qs. RowsHold [] qs in
     subst P (sym e) (subst Q (sym f) (closed [] tt, places-closed 0 [] tt, none-there [] refl))
 
--- the keys at the places, where the rows are read as a slice
-pub keys-of : (xs zs : List Row) (ps : List ℕ) → RowsHold xs ps → zs ≡ xs → KeysAscend (keys_at zs ps)
-keys-of xs zs ps w e = let P : List Row → Type 0 = λ ys. KeysAscend (keys_at ys ps) in subst P (sym e) (keys-ascend xs ps w.0 w.1)
+-- the keys at the places
+pub keys-of : (xs : List Row) (ps : List ℕ) → RowsHold xs ps → KeysAscend (keys_at xs ps)
+keys-of xs ps w = keys-ascend xs ps w.0 w.1
 
-pub there-of : (xs zs : List Row) (ps : List ℕ) (t : Trail) → RowsHold xs ps → zs ≡ xs → as_trail xs ≡ t → AreThere (keys_at zs ps) t
-there-of xs zs ps t w e u =
-    let P : List Row → Type 0 = λ ys. AreThere (keys_at ys ps) t in
-    let Q : Trail → Type 0 = λ v. AreThere (keys_at xs ps) v in
-    subst P (sym e) (subst Q u w.2)
+pub there-of : (xs : List Row) (ps : List ℕ) (t : Trail) → RowsHold xs ps → as_trail xs ≡ t → AreThere (keys_at xs ps) t
+there-of xs ps t w u = let Q : Trail → Type 0 = λ v. AreThere (keys_at xs ps) v in subst Q u w.2
 
 -- it holds after a setting, where the places in between have the keys of those before
 pub rows-hold : (k : Key) (f : Fact) (xs ys : List Row) (ps ms qs : List ℕ) (at : ℕ) (b : Bool) → b ≡ says_there k f → RowsHold xs ps → ys ≡ put_row k f xs → keys_at ys ms ≡ keys_at xs ps → PlacesAscend (length ys) ms
@@ -101,25 +96,22 @@ rows-hold k f xs ys ps ms qs at b said w e same up in_rows own made =
     )
 
 -- where the fact of a row is exchanged, the places are the same
-pub exchanged-hold : (k : Key) (f : Fact) (xs : List Row) (ps qs : List ℕ) (i : ℕ) (x y : Row) (b : Bool) → b ≡ says_there k f → RowsHold xs ps → IsFront (λ (z : Row). key_lt z.key k) i xs → i < length xs
-    → y ≡ get_or xs i y → same_key y.key k ≡ true → x ≡ get_or xs i x → qs ≡ put_place i b ps → RowsHold (set xs i (record { key = x.key; fact = f })) qs
-exchanged-hold k f xs ps qs i x y b said w front l at e again put =
-    let r : Row = record { key = x.key; fact = f } in
-    let own : x.key ≡ key_at xs i = ap (λ (z : Row). z.key) (get_or_read xs i x l again (record { key = Vt; fact = Absent })) in
-    let one : x ≡ y = get_or_read xs i x l again y ∙ sym at in
-    let long : length (set xs i r) ≡ length xs = length-set xs i r in
+pub exchanged-hold : (k : Key) (f : Fact) (xs ys : List Row) (ps qs : List ℕ) (i : ℕ) (b : Bool) → b ≡ says_there k f → RowsHold xs ps → IsFront (λ (x : Row). key_lt x.key k) i xs → is_row_of k i xs ≡ true → ys ≡ with_fact i f xs
+    → qs ≡ put_place i b ps → RowsHold ys qs
+exchanged-hold k f xs ys ps qs i b said w front e made put =
+    let long : length ys ≡ length xs = ap length made ∙ length-exchanged f xs i in
     let P : ℕ → Type 0 = λ n. PlacesAscend n ps in
-    rows-hold k f xs (set xs i r) ps ps qs i b said w (exchanged-at k f xs i x y front l at e again) (exchanged-keys r xs i ps own) (subst P (sym long) w.1) (omega (arith, l, long))
-    (key-exchanged r xs i i (λ h. own) ∙ sym own ∙ same_key-true x.key k (ap (λ (z : Row). same_key z.key k) one ∙ e)) put
+    rows-hold k f xs ys ps ps qs i b said w (made ∙ exchanged k f xs i front e) (ap (λ (zs : List Row). keys_at zs ps) made ∙ exchanged-keys f xs i ps) (subst P (sym long) w.1) (omega (arith, long, row-within k xs i e))
+    (ap (λ (zs : List Row). key_at zs i) made ∙ key-exchanged f xs i i ∙ row-key k xs i e) put
 
 -- where a row is put in, those behind it are raised
-pub inserted-hold : (k : Key) (f : Fact) (xs ys : List Row) (ps qs : List ℕ) (i : ℕ) (b : Bool) → b ≡ says_there k f → RowsHold xs ps → i ≤ length xs → ys ≡ take i xs ++ record { key = k; fact = f } ∷ drop i xs → ys ≡ put_row k f xs
-    → qs ≡ put_place i b (raised i ps) → RowsHold ys qs
-inserted-hold k f xs ys ps qs i b said w l made e put =
+pub inserted-hold : (k : Key) (f : Fact) (xs ys : List Row) (ps qs : List ℕ) (i : ℕ) (b : Bool) → b ≡ says_there k f → RowsHold xs ps → i ≤ length xs → IsFront (λ (x : Row). key_lt x.key k) i xs → is_row_of k i xs ≡ false
+    → ys ≡ take i xs ++ record { key = k; fact = f } ∷ drop i xs → qs ≡ put_place i b (raised i ps) → RowsHold ys qs
+inserted-hold k f xs ys ps qs i b said w l front n made put =
     let r : Row = record { key = k; fact = f } in
     let long : length ys ≡ suc (length xs) = ap length made ∙ length-inserted r i xs in
     let P : ℕ → Type 0 = λ n. PlacesAscend n (raised i ps) in
-    rows-hold k f xs ys ps (raised i ps) qs i b said w e (ap (λ (zs : List Row). keys_at zs (raised i ps)) made ∙ raised-keys r i xs ps w.1)
+    rows-hold k f xs ys ps (raised i ps) qs i b said w (made ∙ inserted k f xs i front n) (ap (λ (zs : List Row). keys_at zs (raised i ps)) made ∙ raised-keys r i xs ps w.1)
     (subst P (sym long) (raised-ascend i (length xs) ps w.1)) (omega (arith, l, long)) (ap (λ (zs : List Row). key_at zs i) made ∙ key-inserted r i xs l) put
 
 -- the best name, but for the one at the start

@@ -8,17 +8,19 @@ use Rattle.std.specs.List.Sorted.{IsBinarySearchResult, IsPartitionedBy}
 use Rattle.std.specs.Ordering.{nat_cmp}
 use Rattle.std.specs.Result.{MatchResult}
 use Rattle.login_model.specs.declared.fact.Key.{Key}
+use Rattle.login_model.specs.declared.fact.Fact.{Fact}
 use Rattle.login_model.specs.Same.{same_key}
 use Rattle.login_model.proofs.Keys.{same_key-true}
 use Rattle.login_table.specs.KeyOrder.{key_lt}
 use Rattle.login_table.specs.inner.Keys.{has, KeysAscend, KeysAscendFrom}
+use Rattle.login_table.specs.inner.Ordered.{is_row_of, with_fact}
 use Rattle.login_table.specs.inner.Places.{key_at, keys_at, PlacesAscend, PlacesFrom, put_place, raised, raised_by, with_front}
 use Rattle.login_table.specs.Listed.{first}
 use Rattle.login_table.specs.Rows.{Ascend, AscendFrom}
 use Rattle.login_table.specs.inner.Fronts.{IsFront}
 use Rattle.login_table.specs.declared.rows.Row.{Row}
 use Rattle.login_table.proofs.Ascending.{opened, lower}
-use Rattle.login_table.proofs.KeyOrder.{below-apart}
+use Rattle.login_table.proofs.KeyOrder.{below-apart, no-test}
 use Rattle.login_table.proofs.Keys.{keys-closed, keys-opened, keys-parted, none-below}
 
 -- ascending places, opened
@@ -196,17 +198,28 @@ length-inserted r (suc at) (x ∷ xs) = ap suc (length-inserted r at xs)
 
 -- ---- a fact exchanged
 
-pub key-exchanged : (r : Row) (xs : List Row) (i p : ℕ) → (i < length xs → r.key ≡ key_at xs i) → key_at (set xs i r) p ≡ key_at xs p
-key-exchanged r [] i p e = refl
-key-exchanged r (x ∷ xs) zero zero e = e (omega arith)
-key-exchanged r (x ∷ xs) zero (suc p) e = refl
-key-exchanged r (x ∷ xs) (suc i) zero e = refl
-key-exchanged r (x ∷ xs) (suc i) (suc p) e = key-exchanged r xs i p (λ h. e (omega arith))
+pub key-exchanged : (f : Fact) (xs : List Row) (i p : ℕ) → key_at (with_fact i f xs) p ≡ key_at xs p
+key-exchanged f [] i p = refl
+key-exchanged f (x ∷ xs) zero zero = refl
+key-exchanged f (x ∷ xs) zero (suc p) = refl
+key-exchanged f (x ∷ xs) (suc i) zero = refl
+key-exchanged f (x ∷ xs) (suc i) (suc p) = key-exchanged f xs i p
 
-pub exchanged-keys : (r : Row) (xs : List Row) (i : ℕ) (ps : List ℕ) → r.key ≡ key_at xs i → keys_at (set xs i r) ps ≡ keys_at xs ps
-exchanged-keys r xs i [] e = refl
-exchanged-keys r xs i (p ∷ ps) e =
-    ap (λ (k : Key). k ∷ keys_at (set xs i r) ps) (key-exchanged r xs i p (λ h. e)) ∙ ap (λ (ks : List Key). key_at xs p ∷ ks) (exchanged-keys r xs i ps e)
+pub exchanged-keys : (f : Fact) (xs : List Row) (i : ℕ) (ps : List ℕ) → keys_at (with_fact i f xs) ps ≡ keys_at xs ps
+exchanged-keys f xs i [] = refl
+exchanged-keys f xs i (p ∷ ps) =
+    ap (λ (k : Key). k ∷ keys_at (with_fact i f xs) ps) (key-exchanged f xs i p) ∙ ap (λ (ks : List Key). key_at xs p ∷ ks) (exchanged-keys f xs i ps)
+
+pub length-exchanged : (f : Fact) (xs : List Row) (i : ℕ) → length (with_fact i f xs) ≡ length xs
+length-exchanged f [] i = refl
+length-exchanged f (x ∷ xs) zero = refl
+length-exchanged f (x ∷ xs) (suc i) = ap suc (length-exchanged f xs i)
+
+-- the key of a key's row
+pub row-key : (k : Key) (xs : List Row) (i : ℕ) → is_row_of k i xs ≡ true → key_at xs i ≡ k
+row-key k [] i e = absurd (no-test e refl)
+row-key k (x ∷ xs) zero e = same_key-true x.key k e
+row-key k (x ∷ xs) (suc i) e = row-key k xs i e
 
 -- ---- a place put in or taken out
 

@@ -7,6 +7,7 @@ mod key_order;
 mod listed;
 mod locks;
 mod name;
+mod ordered;
 mod places;
 mod rows;
 mod search;
@@ -20,7 +21,7 @@ pub use key_order::{
 pub use listed::{Listed, are_taken_at_least, list};
 pub use locks::{key_lock, matching_lock};
 pub use name::{Name, Order, is_above, is_lower};
-pub use rows::{Row, Rows};
+pub use rows::Rows;
 pub use search::{
     IsGraphicsOn, IsOpen, OfUser, OnSeat, Test, find_all, find_first, find_session, find_sessions,
 };

@@ -12,7 +12,7 @@ ghost use Rattle.login_table.specs.inner.Fronts.{IsFront};
 
 use crate::key_order::{TAKES, is_key_below, rank_of};
 use crate::name::{Name, is_above};
-use crate::rows::Row;
+use crate::ordered::Ordered;
 use login_base::{DevNo, NoMemory, SessId};
 use login_model::{Key, is_same_key};
 use std::alloc::Global;
@@ -34,8 +34,8 @@ impl Model for Places {
 }
 
 /// The key of the row at a place, or that other one where there is no row.
-fn key_or<'a>(rows: &'a [Row], place: usize, other: &'a Key) -> &'a Key
-    ensures { result.now ≡ key_or rows.now place other.now }
+fn key_or<'a>(rows: &'a Ordered, place: usize, other: &'a Key) -> &'a Key
+    ensures { result.now ≡ key_or rows.now.items place other.now }
 {
     match rows.get(place) {
         Some(row) => &row.key,
@@ -45,57 +45,62 @@ fn key_or<'a>(rows: &'a [Row], place: usize, other: &'a Key) -> &'a Key
 
 /// The first key from so many on. The other one stands for what no place names; a body can not make a reference to one
 /// that it gives out, so it comes from the caller.
-fn first_key<'a>(rows: &'a [Row], places: &[usize], from: usize, other: &'a Key) -> Option<&'a Key>
+fn first_key<'a>(
+    rows: &'a Ordered,
+    places: &[usize],
+    from: usize,
+    other: &'a Key,
+) -> Option<&'a Key>
     requires { other.now ≡ Key.Vt }
-    ensures { MatchOption result (first (drop from (keys_at rows.now places.now)) ≡ None) (λ key. first (drop from (keys_at rows.now places.now)) ≡ Some key.now) }
+    ensures { MatchOption result (first (drop from (keys_at rows.now.items places.now)) ≡ None) (λ key. first (drop from (keys_at rows.now.items places.now)) ≡ Some key.now) }
 {
     let place = places.get(from)?;
     Some(key_or(rows, *place, other))
 }
 
 /// How many keys are below that one.
-fn place(rows: &[Row], places: &[usize], key: &Key) -> usize
-    requires { KeysAscend (keys_at rows.now places.now) }
-    ensures front { IsFront (λ (x : AnyKey). key_lt x key.now) result (keys_at rows.now places.now) }
+fn place(rows: &Ordered, places: &[usize], key: &Key) -> usize
+    requires { KeysAscend (keys_at rows.now.items places.now) }
+    ensures front { IsFront (λ (x : AnyKey). key_lt x key.now) result (keys_at rows.now.items places.now) }
     ensures bound { result ≤ length places.now }
 {
     places.partition_point(
         |place: &usize| -> bool
-            ensures { result ≡ key_lt (key_at rows.entry.now place.now) key.entry.now }
+            ensures { result ≡ key_lt (key_at rows.entry.now.items place.now) key.entry.now }
         { is_key_below(key_or(rows, *place, &Key::Vt), key) },
     )
 }
 
 /// How many keys are not above that one.
-fn place_behind(rows: &[Row], places: &[usize], key: &Key) -> usize
-    requires { KeysAscend (keys_at rows.now places.now) }
-    ensures front { IsFront (λ (x : AnyKey). not (key_lt key.now x)) result (keys_at rows.now places.now) }
+fn place_behind(rows: &Ordered, places: &[usize], key: &Key) -> usize
+    requires { KeysAscend (keys_at rows.now.items places.now) }
+    ensures front { IsFront (λ (x : AnyKey). not (key_lt key.now x)) result (keys_at rows.now.items places.now) }
     ensures bound { result ≤ length places.now }
 {
     places.partition_point(
         |place: &usize| -> bool
-            ensures { result ≡ not (key_lt key.entry.now (key_at rows.entry.now place.now)) }
+            ensures { result ≡ not (key_lt key.entry.now (key_at rows.entry.now.items place.now)) }
         { !is_key_below(key, key_or(rows, *place, &Key::Vt)) },
     )
 }
 
 /// How many keys are of a lower rank.
-fn place_of_rank(rows: &[Row], places: &[usize], rank: u8) -> usize
-    requires { KeysAscend (keys_at rows.now places.now) }
-    ensures front { IsFront (λ (x : AnyKey). nat_lt (rank_of x) rank) result (keys_at rows.now places.now) }
+fn place_of_rank(rows: &Ordered, places: &[usize], rank: u8) -> usize
+    requires { KeysAscend (keys_at rows.now.items places.now) }
+    ensures front { IsFront (λ (x : AnyKey). nat_lt (rank_of x) rank) result (keys_at rows.now.items places.now) }
     ensures bound { result ≤ length places.now }
 {
     places.partition_point(
         |place: &usize| -> bool
-            ensures { result ≡ nat_lt (rank_of (key_at rows.entry.now place.now)) rank }
+            ensures { result ≡ nat_lt (rank_of (key_at rows.entry.now.items place.now)) rank }
         { rank_of(key_or(rows, *place, &Key::Vt)) < rank },
     )
 }
 
 /// How many keys are in front of those of the names above that one.
-fn place_above<N: Name>(rows: &[Row], places: &[usize], above: Option<N>) -> usize
-    requires { KeysAscend (keys_at rows.now places.now) }
-    ensures front { IsFront (is_passed N.key_of N.rank above) result (keys_at rows.now places.now) }
+fn place_above<N: Name>(rows: &Ordered, places: &[usize], above: Option<N>) -> usize
+    requires { KeysAscend (keys_at rows.now.items places.now) }
+    ensures front { IsFront (is_passed N.key_of N.rank above) result (keys_at rows.now.items places.now) }
     ensures bound { result ≤ length places.now }
 {
     match above {
@@ -105,9 +110,9 @@ fn place_above<N: Name>(rows: &[Row], places: &[usize], above: Option<N>) -> usi
 }
 
 /// How many keys are in front of those of the devices above that one that a session has taken.
-fn place_taken(rows: &[Row], places: &[usize], session: SessId, above: Option<DevNo>) -> usize
-    requires { KeysAscend (keys_at rows.now places.now) }
-    ensures front { IsFront (is_taken_passed session above) result (keys_at rows.now places.now) }
+fn place_taken(rows: &Ordered, places: &[usize], session: SessId, above: Option<DevNo>) -> usize
+    requires { KeysAscend (keys_at rows.now.items places.now) }
+    ensures front { IsFront (is_taken_passed session above) result (keys_at rows.now.items places.now) }
     ensures bound { result ≤ length places.now }
 {
     match above {
@@ -138,13 +143,13 @@ fn taken_in(session: SessId, key: &Key) -> Option<DevNo>
 
 /// The least device above that one that a session has taken.
 fn next_taken(
-    rows: &[Row],
+    rows: &Ordered,
     places: &[usize],
     session: SessId,
     above: Option<DevNo>,
 ) -> Option<DevNo>
-    requires { KeysAscend (keys_at rows.now places.now) }
-    ensures { IsNext device_lt (λ d. has (Key.Taken session d) (keys_at rows.now places.now)) above result }
+    requires { KeysAscend (keys_at rows.now.items places.now) }
+    ensures { IsNext device_lt (λ d. has (Key.Taken session d) (keys_at rows.now.items places.now)) above result }
 {
     let from = place_taken(rows, places, session, above);
     taken_in(session, first_key(rows, places, from, &Key::Vt)?)
@@ -171,31 +176,31 @@ fn is_holder_passed(above: Option<SessId>, key: &Key) -> bool
 }
 
 /// How many keys are in front of those of what the sessions above that one have taken.
-fn place_of_holder(rows: &[Row], places: &[usize], above: Option<SessId>) -> usize
-    requires { KeysAscend (keys_at rows.now places.now) }
-    ensures front { IsFront (is_holder_passed above) result (keys_at rows.now places.now) }
+fn place_of_holder(rows: &Ordered, places: &[usize], above: Option<SessId>) -> usize
+    requires { KeysAscend (keys_at rows.now.items places.now) }
+    ensures front { IsFront (is_holder_passed above) result (keys_at rows.now.items places.now) }
     ensures bound { result ≤ length places.now }
 {
     places.partition_point(
         |place: &usize| -> bool
-            ensures { result ≡ is_holder_passed above (key_at rows.entry.now place.now) }
+            ensures { result ≡ is_holder_passed above (key_at rows.entry.now.items place.now) }
         { is_holder_passed(above, key_or(rows, *place, &Key::Vt)) },
     )
 }
 
 /// The least session above that one that has anything taken.
-fn next_holder(rows: &[Row], places: &[usize], above: Option<SessId>) -> Option<SessId>
-    requires { KeysAscend (keys_at rows.now places.now) }
-    ensures { IsNext session_lt (λ s. is_holder s (keys_at rows.now places.now)) above result }
+fn next_holder(rows: &Ordered, places: &[usize], above: Option<SessId>) -> Option<SessId>
+    requires { KeysAscend (keys_at rows.now.items places.now) }
+    ensures { IsNext session_lt (λ s. is_holder s (keys_at rows.now.items places.now)) above result }
 {
     let from = place_of_holder(rows, places, above);
     holder_in(first_key(rows, places, from, &Key::Vt)?)
 }
 
 /// Whether a key is there. It is found by halving.
-fn has(rows: &[Row], places: &[usize], key: &Key) -> bool
-    requires { KeysAscend (keys_at rows.now places.now) }
-    ensures { result ≡ has key.now (keys_at rows.now places.now) }
+fn has(rows: &Ordered, places: &[usize], key: &Key) -> bool
+    requires { KeysAscend (keys_at rows.now.items places.now) }
+    ensures { result ≡ has key.now (keys_at rows.now.items places.now) }
 {
     match first_key(rows, places, place(rows, places, key), &Key::Vt) {
         Some(found) => is_same_key(found, key),
@@ -205,13 +210,13 @@ fn has(rows: &[Row], places: &[usize], key: &Key) -> bool
 
 /// The least session above that one that has a device taken. It goes from one that has anything taken to the next.
 fn next_taker(
-    rows: &[Row],
+    rows: &Ordered,
     places: &[usize],
     device: DevNo,
     above: Option<SessId>,
 ) -> Option<SessId>
-    requires { KeysAscend (keys_at rows.now places.now) }
-    ensures { IsNext session_lt (λ s. has (Key.Taken s device) (keys_at rows.now places.now)) above result }
+    requires { KeysAscend (keys_at rows.now.items places.now) }
+    ensures { IsNext session_lt (λ s. has (Key.Taken s device) (keys_at rows.now.items places.now)) above result }
 {
     let mut from = above;
     while let Some(session) = next_holder(rows, places, from) {
@@ -224,9 +229,9 @@ fn next_taker(
 }
 
 /// The first name that a key is about. It goes no further than the keys of its kind.
-fn first_named<N: Name>(rows: &[Row], places: &[usize]) -> Option<N>
-    requires { KeysAscend (keys_at rows.now places.now) }
-    ensures { result ≡ first_named N.name_in (keys_at rows.now places.now) }
+fn first_named<N: Name>(rows: &Ordered, places: &[usize]) -> Option<N>
+    requires { KeysAscend (keys_at rows.now.items places.now) }
+    ensures { result ≡ first_named N.name_in (keys_at rows.now.items places.now) }
 {
     let none = Key::Vt;
     for place in places {
@@ -337,9 +342,9 @@ impl Places {
     }
 
     /// The least name above that one whose key is there.
-    pub(crate) fn next<N: Name>(&self, rows: &[Row], above: Option<N>) -> Option<N>
-        requires { KeysAscend (keys_at rows.now self.now.list) }
-        ensures { IsNext N.lt (λ a. has (N.key_of a) (keys_at rows.now self.now.list)) above result }
+    pub(crate) fn next<N: Name>(&self, rows: &Ordered, above: Option<N>) -> Option<N>
+        requires { KeysAscend (keys_at rows.now.items self.now.list) }
+        ensures { IsNext N.lt (λ a. has (N.key_of a) (keys_at rows.now.items self.now.list)) above result }
     {
         let places = self.places.as_slice();
         first_named(rows, &places[place_above(rows, places, above)..])
@@ -348,12 +353,12 @@ impl Places {
     /// The least device above that one whose key is there with the session.
     pub(crate) fn next_taken(
         &self,
-        rows: &[Row],
+        rows: &Ordered,
         session: SessId,
         above: Option<DevNo>,
     ) -> Option<DevNo>
-        requires { KeysAscend (keys_at rows.now self.now.list) }
-        ensures { IsNext device_lt (λ d. has (Key.Taken session d) (keys_at rows.now self.now.list)) above result }
+        requires { KeysAscend (keys_at rows.now.items self.now.list) }
+        ensures { IsNext device_lt (λ d. has (Key.Taken session d) (keys_at rows.now.items self.now.list)) above result }
     {
         next_taken(rows, self.places.as_slice(), session, above)
     }
@@ -361,12 +366,12 @@ impl Places {
     /// The least session above that one whose key is there with the device.
     pub(crate) fn next_taker(
         &self,
-        rows: &[Row],
+        rows: &Ordered,
         device: DevNo,
         above: Option<SessId>,
     ) -> Option<SessId>
-        requires { KeysAscend (keys_at rows.now self.now.list) }
-        ensures { IsNext session_lt (λ s. has (Key.Taken s device) (keys_at rows.now self.now.list)) above result }
+        requires { KeysAscend (keys_at rows.now.items self.now.list) }
+        ensures { IsNext session_lt (λ s. has (Key.Taken s device) (keys_at rows.now.items self.now.list)) above result }
     {
         next_taker(rows, self.places.as_slice(), device, above)
     }

@@ -14,7 +14,7 @@ above m n a b e f h = grind (arith, nat_tests)
 pub returns-then-rank_of-rank : goal.returns-then-rank_of-rank
 returns-then-rank_of-rank g c =
     let n = g.N.Name in
-    let rows = c.args.rows.now in
+    let rows = c.args.rows.now.items in
     let places = c.args.places.now in
     let xs = keys_at rows places in
     let i = c.loop-place.place-index in

@@ -5,4 +5,4 @@ use Rattle.login_table.proofs.places.first_named.Given as goal
 
 -- no key so far is about a name
 abbrev pub invariant-loop-place : goal.invariant-loop-place
-invariant-loop-place g l = first_named g.N.Name.name_in (keys_at l.rows (drop l.place-index l.places)) ≡ first_named g.N.Name.name_in (keys_at l.rows l.places)
+invariant-loop-place g l = first_named g.N.Name.name_in (keys_at l.rows.items (drop l.place-index l.places)) ≡ first_named g.N.Name.name_in (keys_at l.rows.items l.places)

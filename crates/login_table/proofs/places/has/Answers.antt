@@ -9,7 +9,7 @@ use Rattle.login_table.proofs.places.has.Goals as goal
 pub returns-in-Some : goal.returns-in-Some
 returns-in-Some c =
     let k = c.args.key.now in
-    let xs = keys_at c.args.rows.now c.args.places.now in
+    let xs = keys_at c.args.rows.now.items c.args.places.now in
     c.is_same_key.ensures
     ∙ ap (λ (r : Option Key). option_map_or (λ (x : Key). same_key x k) r false) (sym c.in-Some.ensures)
     ∙ has-first k None xs c.place.result (keys-opened xs c.requires) c.place.ensures.front
@@ -17,6 +17,6 @@ returns-in-Some c =
 pub returns-in-None : goal.returns-in-None
 returns-in-None c =
     let k = c.args.key.now in
-    let xs = keys_at c.args.rows.now c.args.places.now in
+    let xs = keys_at c.args.rows.now.items c.args.places.now in
     ap (λ (r : Option Key). option_map_or (λ (x : Key). same_key x k) r false) (sym c.in-None.ensures)
     ∙ has-first k None xs c.place.result (keys-opened xs c.requires) c.place.ensures.front

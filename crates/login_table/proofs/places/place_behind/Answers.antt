@@ -12,7 +12,7 @@ pub returns-clause-front : goal.returns-clause-front
 returns-clause-front c =
     let k = c.args.key.now in
     let p = λ (x : Key). not (key_lt k x) in
-    let rows = c.args.rows.now in
+    let rows = c.args.rows.now.items in
     let places = c.args.places.now in
     let q = λ (i : ℕ). p (key_at rows i) in
     keys-front p rows c.partition_point.result places (front-point q places c.partition_point.result c.partition_point.ensures.bound

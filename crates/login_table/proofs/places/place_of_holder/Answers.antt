@@ -10,7 +10,7 @@ use Rattle.login_table.proofs.places.place_of_holder.Goals as goal
 pub returns-clause-front : goal.returns-clause-front
 returns-clause-front c =
     let p = is_holder_passed c.args.above in
-    let rows = c.args.rows.now in
+    let rows = c.args.rows.now.items in
     let places = c.args.places.now in
     let q = λ (i : ℕ). p (key_at rows i) in
     keys-front p rows c.partition_point.result places (front-point q places c.partition_point.result c.partition_point.ensures.bound

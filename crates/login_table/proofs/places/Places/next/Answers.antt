@@ -8,12 +8,12 @@ use Rattle.login_table.proofs.RowPlaces.{keys-of-slice, rest-keys}
 use Rattle.login_table.proofs.places.Places.next.Goals as goal
 
 pub place_above-requires : goal.place_above-requires
-place_above-requires g c = keys-of-slice c.args.rows.now c.as_slice-places.result.now c.args.self.now.list (c.as_slice-places.ensures.value ∙ ap (λ (v : PlaceList). v.list) c.self.view_is) c.requires
+place_above-requires g c = keys-of-slice c.args.rows.now.items c.as_slice-places.result.now c.args.self.now.list (c.as_slice-places.ensures.value ∙ ap (λ (v : PlaceList). v.list) c.self.view_is) c.requires
 
 pub first_named-requires : goal.first_named-requires
 first_named-requires g c =
     let n = g.N.Name in
-    let rows = c.args.rows.now in
+    let rows = c.args.rows.now.items in
     let places = c.as_slice-places.result.now in
     let keys = keys_at rows places in
     let up = keys-of-slice rows places c.args.self.now.list (c.as_slice-places.ensures.value ∙ ap (λ (v : PlaceList). v.list) c.self.view_is) c.requires in
@@ -23,7 +23,7 @@ first_named-requires g c =
 pub returns : goal.returns
 returns g c =
     let n = g.N.Name in
-    let rows = c.args.rows.now in
+    let rows = c.args.rows.now.items in
     let places = c.as_slice-places.result.now in
     let keys = keys_at rows places in
     let same = c.as_slice-places.ensures.value ∙ ap (λ (v : PlaceList). v.list) c.self.view_is in

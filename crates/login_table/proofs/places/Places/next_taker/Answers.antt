@@ -7,9 +7,9 @@ use Rattle.login_table.proofs.RowPlaces.{keys-of-slice}
 use Rattle.login_table.proofs.places.Places.next_taker.Goals as goal
 
 pub next_taker-requires : goal.next_taker-requires
-next_taker-requires c = keys-of-slice c.args.rows.now c.as_slice.result.now c.args.self.now.list (c.as_slice.ensures.value ∙ ap (λ (v : PlaceList). v.list) c.self.view_is) c.requires
+next_taker-requires c = keys-of-slice c.args.rows.now.items c.as_slice.result.now c.args.self.now.list (c.as_slice.ensures.value ∙ ap (λ (v : PlaceList). v.list) c.self.view_is) c.requires
 
 pub returns : goal.returns
 returns c =
-    let Q : List ℕ → Type 0 = λ ps. IsNext session_lt (λ s. has (Taken s c.args.device) (keys_at c.args.rows.now ps)) c.args.above c.next_taker.result in
+    let Q : List ℕ → Type 0 = λ ps. IsNext session_lt (λ s. has (Taken s c.args.device) (keys_at c.args.rows.now.items ps)) c.args.above c.next_taker.result in
     subst Q (c.as_slice.ensures.value ∙ ap (λ (v : PlaceList). v.list) c.self.view_is) c.next_taker.ensures

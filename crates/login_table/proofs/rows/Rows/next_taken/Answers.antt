@@ -9,10 +9,10 @@ use Rattle.login_table.proofs.NextRow.{keys-of, next-there, there-of}
 use Rattle.login_table.proofs.rows.Rows.next_taken.Goals as goal
 
 pub next_taken-requires : goal.next_taken-requires
-next_taken-requires c = keys-of c.self.inside.rows.items c.as_slice.result.now c.self.inside.there.list c.self.invariant.0 c.as_slice.ensures.value
+next_taken-requires c = keys-of c.self.inside.rows.items c.self.inside.there.list c.self.invariant.0
 
 pub returns : goal.returns
 returns c =
     let s = c.args.session in
-    next-there device_lt device_order (taken_in s) (Taken s) is_handle_fact None (taken_keys s) (λ a x. refl) (keys_at c.as_slice.result.now c.self.inside.there.list) c.args.self.now.trail
-    (there-of c.self.inside.rows.items c.as_slice.result.now c.self.inside.there.list c.args.self.now.trail c.self.invariant.0 c.as_slice.ensures.value (ap (λ (v : RowList). v.trail) c.self.view_is)) c.args.above c.next_taken.result c.next_taken.result c.next_taken.ensures refl
+    next-there device_lt device_order (taken_in s) (Taken s) is_handle_fact None (taken_keys s) (λ a x. refl) (keys_at c.self.inside.rows.items c.self.inside.there.list) c.args.self.now.trail
+    (there-of c.self.inside.rows.items c.self.inside.there.list c.args.self.now.trail c.self.invariant.0 (ap (λ (v : RowList). v.trail) c.self.view_is)) c.args.above c.next_taken.result c.next_taken.result c.next_taken.ensures refl
