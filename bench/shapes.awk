@@ -1,8 +1,10 @@
 # A recording of so many entries of a shape, without its last line `end`.
 # usage: awk -v shape=SHAPE -v count=ENTRIES [-v beside=SESSIONS] -f shapes.awk
 # With `beside`, so many sessions stay from the start, two of them on terminals, and the entries come behind them. In
-# `seated_stranger` there is one more, of another user, on a terminal too; in `next_elsewhere` and `elsewhere_stranger`
-# there are three more on another seat, two of them of another user, who is not active there.
+# `next_of_many` as many are on terminals as can be, in `ticks_of_users` they are of 1,000 users in turn, and in
+# `late_hints` each is locked. In `seated_stranger` there is one more, of another user, on a terminal too; in
+# `next_elsewhere` and `elsewhere_stranger` there are three more on another seat, two of them of another user, who is not
+# active there.
 
 function line(text) { print text; made++ }
 
@@ -18,18 +20,25 @@ function create(who, vt, text, user, seat) {
 
 function create_many(who, many,  i) { for (i = 1; i <= many; i++) create(who, 0) }
 
+# Creates so many sessions that stay.
+function stay(many,  i) {
+    for (i = 1; i <= many; i++)
+        create(1, i <= (shape == "next_of_many" ? 63 : 2) ? i : 0, "", shape == "ticks_of_users" ? 1000 + i % 1000 : 0)
+    if (shape == "late_hints") for (i = 1; i <= many; i++) call(1, "locked c" i " true")
+}
+
 function setting(i) { return i % 2 ? "true" : "false" }
 
 # What stands before the entries.
 function begin(  i, s) {
     print "login-recording 1\nuser 1000 1000 alice"
-    if (shape == "users") for (i = 1; i < 1000; i++) print "user " 1000 + i " " 1000 + i " user" i
+    if (shape ~ /users$/) for (i = 1; i < 1000; i++) print "user " 1000 + i " " 1000 + i " user" i
     if (shape ~ /^(seated_stranger|.*elsewhere.*)$/) print "user 1001 1001 bob"
     print "go"
     line("connect 1 0")
     if (beside) {
         line("connect 2 1000"); line("connect 3 1001")
-        create(1, 1); create(1, 2); create_many(1, beside - 2)
+        stay(beside)
         if (shape == "seated_stranger") create(1, 3, "", 1001)
         else if (shape == "sharing_stranger") line("connect 4 1064")
         else if (shape ~ /elsewhere/) {
@@ -70,6 +79,8 @@ function begin(  i, s) {
         call(1, "inhibit shutdown login test delay"); call(1, "power poweroff")
     } else if (shape == "many_devices") for (i = 1; i <= 2000; i++) line("add 14 " i " evdev seat0")
     long = sprintf("%512s", ""); gsub(/ /, "x", long)
+    # NUL, `AUTH EXTERNAL 30` and `BEGIN`, with their line ends
+    greeting = "00415554482045585445524e414c2033300d0a424547494e0d0a"
 }
 
 # A session that comes and goes, as the i-th.
@@ -98,11 +109,13 @@ function step(i,  who) {
     else if (shape == "links_in_turn") {
         who = int((i - 1) / 2) % 60 + 1
         call(who + 1, i % 2 ? "control c" who " false" : "uncontrol c" who)
+    } else if (shape == "links_of_bytes") {
+        line("link " (i + 1) " 0"); line("in " (i + 1) " " greeting); line("hangup " (i + 1))
     } else if (shape == "links_that_go") {
         line("connect " (i + 1) " 0"); call(i + 1, "get-session c1"); line("disconnect " (i + 1))
     } else if (shape == "fifos_that_end") end_fifos(i + 1)
     else if (shape ~ /^go/) come_and_go(i, shape ~ /texts/ ? long : "")
-    else if (shape == "ticks") line("tick " i)
+    else if (shape ~ /^ticks/) line("tick " i)
     else if (shape == "refused") call(2, "control c1 false")
     else if (shape == "terminals") line("vtkey " (1 + i % 2))
     else if (shape ~ /switches$/) switch_over(i)
@@ -124,7 +137,8 @@ function step(i,  who) {
     else if (shape == "pings") call(1, "ping")
     else if (shape ~ /^callers/) call(2 + i % 60, "ping")
     else if (shape == "idle_hints") call(1, "idle c" (1 + i % beside) " " setting(int(i / beside) + 1))
-    else if (shape == "next") call(1, "next seat0")
+    else if (shape == "late_hints") call(1, "idle c" (beside - (i - 1) % beside) " " setting(int((i - 1) / beside) + 1))
+    else if (shape ~ /^next(_of_many)?$/) call(1, "next seat0")
     else if (shape == "next_elsewhere") call(1, "next seat-x")
     else if (shape == "ends") { line("connect " (i + 3) " 1001"); line("disconnect " (i + 3)) }
     else if (shape == "closings") { create(1, 0); call(1, "close " sessions); line("exit c" sessions) }
