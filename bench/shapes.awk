@@ -136,8 +136,7 @@ function step(i,  who) {
     else if (shape == "manager_properties") call(1, "get-all /org/freedesktop/login1 %")
     else if (shape == "pings") call(1, "ping")
     else if (shape ~ /^callers/) call(2 + i % 60, "ping")
-    else if (shape == "idle_hints") call(1, "idle c" (1 + i % beside) " " setting(int(i / beside) + 1))
-    else if (shape == "late_hints") call(1, "idle c" (beside - (i - 1) % beside) " " setting(int((i - 1) / beside) + 1))
+    else if (shape ~ /_hints$/) call(1, "idle c" (1 + i % beside) " " setting(int(i / beside) + 1))
     else if (shape ~ /^next(_of_many)?$/) call(1, "next seat0")
     else if (shape == "next_elsewhere") call(1, "next seat-x")
     else if (shape == "ends") { line("connect " (i + 3) " 1001"); line("disconnect " (i + 3)) }
