@@ -105,7 +105,7 @@ impl SeatName {
     pub fn is_seat0(&self) -> bool
         ensures { result ≡ bytes_eq self.now seat0 }
     {
-        self.as_slice() == SeatName::SEAT0.as_slice()
+        self.as_slice() == b"seat0".as_slice()
     }
 
     /// The seat of this name.

@@ -1,5 +1,5 @@
 -- The counts that the facts keep.
-use Rattle.std.proofs.Common.{◌≡◌, ℕ, ◌+◌, ◌*◌, ◌<◌, ◌^◌, nat_lt, true, false, None, Some, List, [], ◌∷◌, length, refl, ap, sym, ◌∙◌, arith}
+use Rattle.std.proofs.Common.{◌≡◌, ℕ, ◌+◌, ◌*◌, ◌<◌, ◌^◌, ◌&&◌, nat_lt, Bool, true, false, not, cond, inl, inr, filter, None, Some, List, [], ◌∷◌, length, refl, ap, sym, ◌∙◌, arith}
 use Rattle.std.proofs.lemmas.Bool.Decides.{nat_tests}
 use Rattle.login_base.specs.declared.ids.SessId.{SessId}
 use Rattle.login_base.specs.declared.ids.ConnId.{ConnId}
@@ -16,22 +16,32 @@ use Rattle.login_model.specs.declared.mark.Whom.{Whom}
 use Rattle.login_model.specs.declared.mark.Notice.{Notice}
 use Rattle.login_model.specs.declared.mark.Entry.{Entry}
 use Rattle.login_model.specs.declared.setup.Setup.{Setup}
+use Rattle.login_model.specs.declared.lock.Inhibited.{Inhibited}
+use Rattle.login_model.specs.declared.lock.LockMode.{LockMode}
+use Rattle.login_model.specs.declared.lock.LockMode.TheVariants.{Block, Delay}
+use Rattle.login_model.specs.declared.operation.OpKind.{OpKind}
+use Rattle.login_model.specs.declared.operation.OpKind.TheVariants as operation
 use Rattle.login_model.specs.Devices.{is_handle_fact}
-use Rattle.login_model.specs.Facts.{is_connected_fact, is_controlled_fact, is_device_fact, is_leaving_fact, is_lock_fact, is_open_fact, is_user_fact}
+use Rattle.login_model.specs.Facts.{holds_back, holds_up, is_connected_fact, is_controlled_fact, is_device_fact, is_leaving_fact, is_lock_fact, is_open_fact, is_user_fact}
 use Rattle.login_model.specs.Full.{controlled_sessions, marks_needed}
 use Rattle.login_model.specs.Kind.{AreKeys}
 use Rattle.login_model.specs.Legal.{IsLegal, trail_of}
 use Rattle.login_model.specs.Names.{conn_in, conn_lt, device_in, device_lt, lock_in, lock_lt, names, session_in, session_lt, user_in, user_lt}
+use Rattle.login_model.specs.Locks.{matching}
+use Rattle.login_model.specs.Procedure.{is_empty}
+use Rattle.login_model.specs.Properties.{is_shutdown}
+use Rattle.login_model.specs.Same.{same_mode}
 use Rattle.login_model.specs.Trail.{Trail, value}
-use Rattle.login_model.specs.Where.{connections, devices, is_open, locks, open_sessions, sessions, users}
+use Rattle.login_model.specs.Where.{connections, devices, is_lock, is_open, locks, open_sessions, sessions, users}
 use Rattle.login_model.proofs.NameLaws.{conn_keys, conn_order, device_keys, device_order, lock_keys, lock_order, session_keys, session_order, user_keys, user_order}
+use Rattle.login_model.proofs.Keys.{test}
 use Rattle.login_laws.specs.Sound.{IsSound}
 use Rattle.login_laws.proofs.Counts.{controlled-list, count-same, open-list}
 use Rattle.login_laws.proofs.Paying.{open-session}
 use Rattle.login_laws.proofs.SoundLaws.{sound-journal}
 use Rattle.login_table.proofs.Listing.{Kind, all, kind, session_kind, sessions-all}
 use Rattle.login_core.specs.declared.room.counts.Counts.{Counts}
-use Rattle.login_core.specs.inner.Counts.{AreCounted, CanAllMove, Follow, HoldersAreThere, controlled, controlled_in, counts_of, is_controlled, leavers, taken_pairs}
+use Rattle.login_core.specs.inner.Counts.{AreCounted, CanAllMove, Follow, HoldersAreThere, controlled, controlled_in, counts_of, holding, holding_in, holding_such, is_controlled, leavers, taken_pairs}
 use Rattle.login_core.proofs.CountLaws.{count-say, fits, follows, kind-list}
 use Rattle.login_core.proofs.PairLaws.{pair_kind, pairs-all, pairs-taken}
 
@@ -39,6 +49,9 @@ use Rattle.login_core.proofs.PairLaws.{pair_kind, pairs-all, pairs-taken}
 
 no-flag : false ≡ true → ⊥
 no-flag e = cc
+
+no-lock : {l : LockNo} → None ≡ Some l → ⊥
+no-lock e = cc
 
 no-user : {u : Uid} → None ≡ Some u → ⊥
 no-user e = cc
@@ -80,6 +93,16 @@ leaving_kind = kind user_lt user_order user_in key.User is_leaving_fact None lea
 pub leaving-all : (t : Trail) → length (leavers t) ≡ length (all leaving_kind t)
 unfolding leavers
 leaving-all t = refl
+
+holding_keys : (k : OpKind) (mode : LockMode) → AreKeys lock_in key.Lock (holds_back k mode) None
+holding_keys k mode = record { own = lock_keys.own; named = λ l. refl; start = λ l h. absurd (no-flag h); begins = λ l e. absurd (no-lock e) }
+
+abbrev holding_kind : OpKind → LockMode → Kind LockNo
+holding_kind k mode = kind lock_lt lock_order lock_in key.Lock (holds_back k mode) None (holding_keys k mode)
+
+holding-all : (k : OpKind) (mode : LockMode) (t : Trail) → length (holding k mode t) ≡ length (all (holding_kind k mode) t)
+unfolding holding
+holding-all k mode t = refl
 
 present-all : (t : Trail) → length (sessions t) ≡ length (all session_kind t)
 present-all t = ap length (sessions-all t)
@@ -123,6 +146,10 @@ counted-say c w n t a =
       locks = a.locks ∙ locks-all t ∙ sym (count-say lock_kind w n t) ∙ sym (locks-all u);
       opened = a.opened ∙ open-all t ∙ sym (count-say open_kind w n t) ∙ sym (open-all u);
       present = a.present ∙ present-all t ∙ sym (count-say session_kind w n t) ∙ sym (present-all u);
+      shutdown_blocks = a.shutdown_blocks ∙ holding-all operation.PowerOff Block t ∙ sym (count-say (holding_kind operation.PowerOff Block) w n t) ∙ sym (holding-all operation.PowerOff Block u);
+      shutdown_delays = a.shutdown_delays ∙ holding-all operation.PowerOff Delay t ∙ sym (count-say (holding_kind operation.PowerOff Delay) w n t) ∙ sym (holding-all operation.PowerOff Delay u);
+      sleep_blocks = a.sleep_blocks ∙ holding-all operation.Suspend Block t ∙ sym (count-say (holding_kind operation.Suspend Block) w n t) ∙ sym (holding-all operation.Suspend Block u);
+      sleep_delays = a.sleep_delays ∙ holding-all operation.Suspend Delay t ∙ sym (count-say (holding_kind operation.Suspend Delay) w n t) ∙ sym (holding-all operation.Suspend Delay u);
       taken = a.taken ∙ pairs-all t ∙ sym (count-say pair_kind w n t) ∙ sym (pairs-all u);
       users = a.users ∙ users-all t ∙ sym (count-say user_kind w n t) ∙ sym (users-all u);
     }
@@ -136,6 +163,10 @@ counted-set c d k x t a f = record {
   locks = follows lock_kind locks locks-all k x t c.locks d.locks a.locks f.locks;
   opened = follows open_kind open_sessions open-all k x t c.opened d.opened a.opened f.opened;
   present = follows session_kind sessions present-all k x t c.present d.present a.present f.present;
+  shutdown_blocks = follows (holding_kind operation.PowerOff Block) (holding operation.PowerOff Block) (holding-all operation.PowerOff Block) k x t c.shutdown_blocks d.shutdown_blocks a.shutdown_blocks f.shutdown_blocks;
+  shutdown_delays = follows (holding_kind operation.PowerOff Delay) (holding operation.PowerOff Delay) (holding-all operation.PowerOff Delay) k x t c.shutdown_delays d.shutdown_delays a.shutdown_delays f.shutdown_delays;
+  sleep_blocks = follows (holding_kind operation.Suspend Block) (holding operation.Suspend Block) (holding-all operation.Suspend Block) k x t c.sleep_blocks d.sleep_blocks a.sleep_blocks f.sleep_blocks;
+  sleep_delays = follows (holding_kind operation.Suspend Delay) (holding operation.Suspend Delay) (holding-all operation.Suspend Delay) k x t c.sleep_delays d.sleep_delays a.sleep_delays f.sleep_delays;
   taken = follows pair_kind taken_pairs pairs-all k x t c.taken d.taken a.taken f.taken;
   users = follows user_kind users users-all k x t c.users d.users a.users f.users;
 }
@@ -149,13 +180,17 @@ counted-fit c k x t a few = record {
   locks = fits lock_kind locks locks-all refl k x t c.locks a.locks few;
   opened = fits open_kind open_sessions open-all refl k x t c.opened a.opened few;
   present = fits session_kind sessions present-all refl k x t c.present a.present few;
+  shutdown_blocks = fits (holding_kind operation.PowerOff Block) (holding operation.PowerOff Block) (holding-all operation.PowerOff Block) refl k x t c.shutdown_blocks a.shutdown_blocks few;
+  shutdown_delays = fits (holding_kind operation.PowerOff Delay) (holding operation.PowerOff Delay) (holding-all operation.PowerOff Delay) refl k x t c.shutdown_delays a.shutdown_delays few;
+  sleep_blocks = fits (holding_kind operation.Suspend Block) (holding operation.Suspend Block) (holding-all operation.Suspend Block) refl k x t c.sleep_blocks a.sleep_blocks few;
+  sleep_delays = fits (holding_kind operation.Suspend Delay) (holding operation.Suspend Delay) (holding-all operation.Suspend Delay) refl k x t c.sleep_delays a.sleep_delays few;
   taken = fits pair_kind taken_pairs pairs-all refl k x t c.taken a.taken few;
   users = fits user_kind users users-all refl k x t c.users a.users few;
 }
 
-pub counted-none : AreCounted (record { connections = 0; controlled = 0; devices = 0; leaving = 0; locks = 0; opened = 0; present = 0; taken = 0; users = 0 }) []
-unfolding connections controlled devices leavers locks open_sessions sessions taken_pairs users names
-counted-none = record { connections = refl; controlled = refl; devices = refl; leaving = refl; locks = refl; opened = refl; present = refl; taken = refl; users = refl }
+pub counted-none : AreCounted (record { connections = 0; controlled = 0; devices = 0; leaving = 0; locks = 0; opened = 0; present = 0; shutdown_blocks = 0; shutdown_delays = 0; sleep_blocks = 0; sleep_delays = 0; taken = 0; users = 0 }) []
+unfolding connections controlled devices holding leavers locks open_sessions sessions taken_pairs users names
+counted-none = record { connections = refl; controlled = refl; devices = refl; leaving = refl; locks = refl; opened = refl; present = refl; shutdown_blocks = refl; shutdown_delays = refl; sleep_blocks = refl; sleep_delays = refl; taken = refl; users = refl }
 
 -- ---- the counts of a sound journal
 
@@ -205,3 +240,70 @@ none-leaving c t a e = no-longer (leavers t) (sym a.leaving ∙ none c.leaving e
   where
     none : (n : ℕ) → nat_lt 0 n ≡ false → n ≡ 0
     none n e = grind (arith, nat_tests)
+
+-- ---- what holds up an operation
+
+-- who is taken in by one test and by another that says no more is taken in by the one
+twice : {A : Type 0} (p q : A → Bool) (xs : List A) → ((a : A) → p a ≡ true → q a ≡ true) → filter p (filter q xs) ≡ filter p xs
+twice p q [] h = refl
+twice {A} p q (x ∷ xs) h =
+    let both : Bool → Bool → List A = λ b c. filter p (cond b (x ∷ filter q xs) (filter q xs)) in
+    elim (test (q x)) [
+      | inl y ↦ ap (λ (b : Bool). filter p (cond b (x ∷ filter q xs) (filter q xs))) y ∙ ap (λ (ys : List A). cond (p x) (x ∷ ys) ys) (twice p q xs h)
+      | inr n ↦ ap (λ (b : Bool). filter p (cond b (x ∷ filter q xs) (filter q xs))) n ∙ twice p q xs h ∙ sym (ap (λ (b : Bool). cond b (x ∷ filter p xs) (filter p xs)) (unmet (p x) (q x) (h x) n))
+    ]
+  where
+    unmet : (a b : Bool) → (a ≡ true → b ≡ true) → b ≡ false → a ≡ false
+    unmet true b f e = absurd (no-flag (sym e ∙ f refl))
+    unmet false b f e = refl
+
+same-test : {A : Type 0} (p q : A → Bool) (xs : List A) → ((a : A) → p a ≡ q a) → filter p xs ≡ filter q xs
+same-test p q [] h = refl
+same-test {A} p q (x ∷ xs) h = ap (λ (b : Bool). cond b (x ∷ filter p xs) (filter p xs)) (h x) ∙ ap (λ (ys : List A). cond (q x) (x ∷ ys) ys) (same-test p q xs h)
+
+holds-lock : (k : OpKind) (mode : LockMode) (x : Fact) → holds_back k mode x ≡ true → is_lock_fact x ≡ true
+holds-lock k mode (fact.Lock l) e = refl
+holds-lock k mode _ e = cc
+
+matching-held : (t : Trail) (k : OpKind) (mode : LockMode) → matching t k mode ≡ holding k mode t
+unfolding matching locks holding
+matching-held t k mode =
+    twice (λ (l : LockNo). holds_back k mode (value t (key.Lock l))) (is_lock t) (names lock_lt lock_in t) (λ l e. holds-lock k mode (value t (key.Lock l)) e)
+
+-- an operation that stands for all that are held up by the same locks
+abbrev such : Bool → OpKind
+such b = cond b operation.PowerOff operation.Suspend
+
+held-alike : (k : OpKind) (what : Inhibited) → holds_up k what ≡ holds_up (such (is_shutdown k)) what
+held-alike operation.PowerOff what = refl
+held-alike operation.Reboot what = refl
+held-alike operation.Halt what = refl
+held-alike operation.Suspend what = refl
+held-alike operation.Hibernate what = refl
+held-alike operation.HybridSleep what = refl
+held-alike operation.SuspendThenHibernate what = refl
+
+back-alike : (k : OpKind) (mode : LockMode) (x : Fact) → holds_back k mode x ≡ holds_back (such (is_shutdown k)) mode x
+back-alike k mode (fact.Lock l) = ap (λ (b : Bool). same_mode l.mode mode && b) (held-alike k l.what)
+back-alike k mode _ = cc
+
+holding-alike : (k : OpKind) (mode : LockMode) (t : Trail) → holding k mode t ≡ holding (such (is_shutdown k)) mode t
+unfolding holding
+holding-alike k mode t =
+    same-test (λ (l : LockNo). holds_back k mode (value t (key.Lock l))) (λ (l : LockNo). holds_back (such (is_shutdown k)) mode (value t (key.Lock l))) (names lock_lt lock_in t)
+    (λ l. back-alike k mode (value t (key.Lock l)))
+
+such-counted : (c : Counts) (t : Trail) → AreCounted c t → (b : Bool) (mode : LockMode) → holding_such c b mode ≡ length (holding (such b) mode t)
+such-counted c t a true Block = a.shutdown_blocks
+such-counted c t a true Delay = a.shutdown_delays
+such-counted c t a false Block = a.sleep_blocks
+such-counted c t a false Delay = a.sleep_delays
+
+there-is : {A : Type 0} (xs : List A) (n : ℕ) → n ≡ length xs → nat_lt 0 n ≡ not (is_empty xs)
+there-is [] n e = grind (arith, nat_tests)
+there-is (x ∷ xs) n e = grind (arith, nat_tests)
+
+pub held-up : (c : Counts) (t : Trail) → AreCounted c t → (k : OpKind) (mode : LockMode) → nat_lt 0 (holding_in c k mode) ≡ not (is_empty (matching t k mode))
+held-up c t a k mode =
+    there-is (matching t k mode) (holding_in c k mode)
+    (such-counted c t a (is_shutdown k) mode ∙ ap length (sym (matching-held t k mode ∙ holding-alike k mode t)))

@@ -18,8 +18,8 @@ use Rattle.login_model.proofs.Keys.{both, same-number, test}
 use Rattle.login_laws.proofs.Paying.{open-session}
 use Rattle.login_table.proofs.Listing.{all, session_kind, sessions-all}
 use Rattle.login_core.specs.declared.board.seating.Tally.{Tally}
-use Rattle.login_core.specs.declared.board.seating.Crowd.TheVariants.{Nobody, Alone}
-use Rattle.login_core.specs.inner.Seating.{AreLow, AreTallied, IsCrowd, aside_in, bucket_of, buckets, either, high_in, is_acting_of, is_at, is_current_of, is_elsewhere_of, is_none_at, is_on_seat0_of, is_one_at, is_some_acting, is_some_current, is_some_elsewhere, is_some_on_seat0, placed_at, sits_elsewhere}
+use Rattle.login_core.specs.declared.board.seating.Crowd.TheVariants.{Nobody}
+use Rattle.login_core.specs.inner.Seating.{AreLow, AreTallied, IsAlone, IsCrowd, aside_in, bucket_of, buckets, either, high_in, is_acting_of, is_at, is_current_of, is_elsewhere_of, is_none_at, is_on_seat0_of, is_one_at, is_some_acting, is_some_current, is_some_elsewhere, is_some_on_seat0, placed_at, sits_elsewhere}
 use Rattle.login_core.proofs.CountLaws.{kind-list}
 use Rattle.login_core.proofs.TallyLaws.{alone-at, at, at-all, bound, equal, find-nobody, find-only, nobody-at, not-so}
 
@@ -39,7 +39,7 @@ pub nobody-there : (place_in : Fact → Option ℕ) → place_in fact.Absent ≡
 nobody-there place_in start c t n a e = λ s. nobody-at place_in (bucket_of n) t start (none n a e) s
 
 pub alone-there : (place_in : Fact → Option ℕ) → place_in fact.Absent ≡ None → (c : Tally) (t : Trail) (n : ℕ) (r : SessId) → AreTallied place_in c t → is_one_at c n ≡ true
-    → is_at (place_in (value t (key.Sess r))) (bucket_of n) ≡ true → IsCrowd place_in t n (Alone r)
+    → is_at (place_in (value t (key.Sess r))) (bucket_of n) ≡ true → IsAlone place_in t n r
 alone-there place_in start c t n r a e i = (i, λ s h. alone-at place_in (bucket_of n) t start (one n a e) r s i h)
 
 -- ---- a test that only sessions of one bucket meet
@@ -59,7 +59,7 @@ nobody-meets place_in t n p nobody h =
     ])
 
 -- where one session is alone there, the test of it tells
-alone-meets : (place_in : Fact → Option ℕ) (t : Trail) (n : ℕ) (r : SessId) (p : SessId → Bool) → IsCrowd place_in t n (Alone r)
+alone-meets : (place_in : Fact → Option ℕ) (t : Trail) (n : ℕ) (r : SessId) (p : SessId → Bool) → IsAlone place_in t n r
     → (is_at (place_in (value t (key.Sess r))) (bucket_of n) ≡ true → is_open_fact (value t (key.Sess r)) ≡ true)
     → ((s : SessId) → p s ≡ true → is_at (place_in (value t (key.Sess s))) (bucket_of n) ≡ true) → is_some (find p (sessions t)) ≡ p r
 alone-meets place_in t n r p alone opens h =
@@ -140,13 +140,13 @@ unfolding session_on
 terminal-free t v nobody =
     nobody-meets terminal_in t v (λ (s : SessId). is_on_terminal (fact.Number v) (value t (key.Sess s))) nobody (λ s h. terminal-at (value t (key.Sess s)) v h)
 
-pub terminal-alone : (t : Trail) (v : ℕ) (s : SessId) → IsCrowd terminal_in t v (Alone s) → is_on_terminal (fact.Number v) (value t (key.Sess s)) ≡ true → session_on t v ≡ Some s
+pub terminal-alone : (t : Trail) (v : ℕ) (s : SessId) → IsAlone terminal_in t v s → is_on_terminal (fact.Number v) (value t (key.Sess s)) ≡ true → session_on t v ≡ Some s
 unfolding session_on
 terminal-alone t v s alone on =
     find-only (λ (r : SessId). is_on_terminal (fact.Number v) (value t (key.Sess r))) s (sessions t) on (λ r h. alone.1 r (terminal-at (value t (key.Sess r)) v h))
     (among-sessions t s (open-fact (value t (key.Sess s)) v on))
 
-pub terminal-none : (t : Trail) (v : ℕ) (s : SessId) → IsCrowd terminal_in t v (Alone s) → is_on_terminal (fact.Number v) (value t (key.Sess s)) ≡ false → session_on t v ≡ None
+pub terminal-none : (t : Trail) (v : ℕ) (s : SessId) → IsAlone terminal_in t v s → is_on_terminal (fact.Number v) (value t (key.Sess s)) ≡ false → session_on t v ≡ None
 unfolding session_on
 terminal-none t v s alone off =
     let p = λ (r : SessId). is_on_terminal (fact.Number v) (value t (key.Sess r)) in
@@ -218,7 +218,7 @@ pub seatless : (t : Trail) (uid : ℕ) → IsCrowd seated_user t uid Nobody → 
 seatless t uid nobody =
     ap is_some (nobody-meets seated_user t uid (λ (s : SessId). is_seated_of uid (value t (key.Sess s))) nobody (λ s h. seated-at (value t (key.Sess s)) uid h))
 
-pub seated-alone : (t : Trail) (uid : ℕ) (r : SessId) → IsCrowd seated_user t uid (Alone r) → has_seat t uid ≡ is_seated_of uid (value t (key.Sess r))
+pub seated-alone : (t : Trail) (uid : ℕ) (r : SessId) → IsAlone seated_user t uid r → has_seat t uid ≡ is_seated_of uid (value t (key.Sess r))
 seated-alone t uid r alone =
     let x = value t (key.Sess r) in
     alone-meets seated_user t uid r (λ (s : SessId). is_seated_of uid (value t (key.Sess s))) alone (opened (is_open_fact x) (is_some (seat_in_fact x)) (user_or_root x).0 (bucket_of uid))
@@ -239,7 +239,7 @@ at-own t v s h e = ap (is_at (terminal_in (value t (key.Sess s)))) (own-bucket v
 pub none-by-nobody : (t : Trail) (uid v : ℕ) → v < buckets → IsCrowd terminal_in t v Nobody → NoneAt t uid v
 none-by-nobody t uid v h nobody = record { none = λ s e. absurd (not-so (at-own t v s h e) (nobody s)) }
 
-pub none-by-alone : (t : Trail) (uid v : ℕ) (r : SessId) → v < buckets → IsCrowd terminal_in t v (Alone r) → is_open_of uid (value t (key.Sess r)) ≡ false → NoneAt t uid v
+pub none-by-alone : (t : Trail) (uid v : ℕ) (r : SessId) → v < buckets → IsAlone terminal_in t v r → is_open_of uid (value t (key.Sess r)) ≡ false → NoneAt t uid v
 none-by-alone t uid v r h alone never = record {
   none = λ s e. ap (λ (q : SessId). is_open_of uid (value t (key.Sess q))) (alone.1 s (at-own t v s h e)) ∙ never;
 }
@@ -273,7 +273,7 @@ placed-both true true n v e = (refl, refl)
 placed-both true false n v e = cc
 placed-both false b n v e = cc
 
-pub some-on-seat0 : (t : Trail) (uid v : ℕ) (r : SessId) → IsCrowd terminal_in t v (Alone r) → is_open_of uid (value t (key.Sess r)) ≡ true → is_some_on_seat0 t uid ≡ true
+pub some-on-seat0 : (t : Trail) (uid v : ℕ) (r : SessId) → IsAlone terminal_in t v r → is_open_of uid (value t (key.Sess r)) ≡ true → is_some_on_seat0 t uid ≡ true
 some-on-seat0 t uid v r alone is_so =
     let x = value t (key.Sess r) in
     let h = placed-both (is_open_fact x) (is_seat0 (seat_in_fact x)) (vt_in x) (bucket_of v) alone.0 in
@@ -317,7 +317,7 @@ pub current-free : (t : Trail) (uid v : ℕ) → number_in_fact (value t key.Vt)
 current-free t uid v n nobody =
     ap is_some (nobody-meets terminal_in t v (is_current_of t uid) nobody (λ s h. current-at (value t key.Vt) (value t (key.Sess s)) uid v n h))
 
-pub current-alone : (t : Trail) (uid v : ℕ) (r : SessId) → number_in_fact (value t key.Vt) ≡ Some v → IsCrowd terminal_in t v (Alone r) → is_some_current t uid ≡ is_current_of t uid r
+pub current-alone : (t : Trail) (uid v : ℕ) (r : SessId) → number_in_fact (value t key.Vt) ≡ Some v → IsAlone terminal_in t v r → is_some_current t uid ≡ is_current_of t uid r
 current-alone t uid v r n alone =
     let x = value t (key.Sess r) in
     alone-meets terminal_in t v r (is_current_of t uid) alone (opened (is_open_fact x) (is_seat0 (seat_in_fact x)) (vt_in x) (bucket_of v))
@@ -409,7 +409,7 @@ active-at t uid s e = (let x = value t (key.Sess s) in seated-at x uid (active-s
 pub inactive : (t : Trail) (uid : ℕ) → IsCrowd seated_user t uid Nobody → has_active t uid ≡ false
 inactive t uid nobody = ap is_some (nobody-meets seated_user t uid (is_active_of t uid) nobody (active-at t uid))
 
-pub active-alone : (t : Trail) (uid : ℕ) (r : SessId) → IsCrowd seated_user t uid (Alone r) → has_active t uid ≡ is_active_of t uid r
+pub active-alone : (t : Trail) (uid : ℕ) (r : SessId) → IsAlone seated_user t uid r → has_active t uid ≡ is_active_of t uid r
 active-alone t uid r alone =
     let x = value t (key.Sess r) in
     alone-meets seated_user t uid r (is_active_of t uid) alone (opened (is_open_fact x) (is_some (seat_in_fact x)) (user_or_root x).0 (bucket_of uid)) (active-at t uid)

@@ -46,8 +46,8 @@ use crate::room::counts::Counts;
 use crate::room::ledger::Ledger;
 use login_base::{ConnId, DevNo, HandleNo, LockNo, NoMemory, Reserved, SeatName, SessId, Uid};
 use login_model::{
-    Answer, Event, Fact, Input, Inputs, Journal, Key, Look, Mark, Notice, Verdict, Whom,
-    is_same_fact,
+    Answer, Event, Fact, Input, Inputs, Journal, Key, LockMode, Look, Mark, Notice, OpKind,
+    Verdict, Whom, is_same_fact,
 };
 use std::alloc::Global;
 use std::marker::Model;
@@ -334,6 +334,10 @@ impl Look for Draft {
 
     fn lock_count(&self) -> u32 {
         self.facts.counts().locks
+    }
+
+    fn is_held_up(&self, kind: OpKind, mode: LockMode) -> bool {
+        self.so_far().is_held_up(kind, mode)
     }
 
     fn on_terminal(&self, vt: u32) -> Option<SessId> {

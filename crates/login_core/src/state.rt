@@ -26,7 +26,8 @@ use crate::room::texts::Texts;
 use login_base::{ConnId, DevNo, HandleNo, LockNo, NoMemory, SeatName, SessId, Uid};
 use login_judge::judge;
 use login_model::{
-    Answer, Entry, Event, Fact, Fullness, Inputs, Journal, Key, Look, Setup, Verdict,
+    Answer, Entry, Event, Fact, Fullness, Inputs, Journal, Key, LockMode, Look, OpKind, Setup,
+    Verdict,
 };
 use std::alloc::Global;
 use std::marker::Model;
@@ -409,6 +410,10 @@ impl Look for Core {
 
     fn lock_count(&self) -> u32 {
         self.draft().lock_count()
+    }
+
+    fn is_held_up(&self, kind: OpKind, mode: LockMode) -> bool {
+        self.draft().is_held_up(kind, mode)
     }
 
     fn on_terminal(&self, vt: u32) -> Option<SessId> {

@@ -18,9 +18,13 @@ use login_table::{key_lock, matching_lock};
 pub(crate) fn inhibited<F: Look>(facts: &F, kind: OpKind) -> Option<Rule>
     ensures { result ≡ inhibited (F.trail facts.now) kind }
 {
-    match matching_lock(facts, kind, LockMode::Block) {
-        Some(lock) => Some(Rule::Inhibited(lock)),
-        None => None,
+    if facts.is_held_up(kind, LockMode::Block) {
+        match matching_lock(facts, kind, LockMode::Block) {
+            Some(lock) => Some(Rule::Inhibited(lock)),
+            None => None,
+        }
+    } else {
+        None
     }
 }
 

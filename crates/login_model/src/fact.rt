@@ -253,17 +253,21 @@ impl Fact {
     pub fn is_seated_of(&self, uid: u32) -> bool
         ensures { result ≡ is_seated_of uid self.now }
     {
-        self.is_open_of(uid) && self.seat().is_some()
+        self.seated_user() == Some(uid)
     }
 
     /// The user of an open session that has a seat.
     pub fn seated_user(&self) -> Option<u32>
         ensures { result ≡ seated_user self.now }
     {
-        if self.is_open() && self.seat().is_some() {
-            Some(self.user_or_root().0)
-        } else {
-            None
+        match self.session()? {
+            Session {
+                phase: Phase::Open,
+                seat: Some(_),
+                uid,
+                ..
+            } => Some(uid.0),
+            _ => None,
         }
     }
 
@@ -299,15 +303,14 @@ impl Fact {
     pub fn terminal(&self) -> Option<u32>
         ensures { result ≡ terminal_in self.now }
     {
-        match self.seat() {
-            Some(seat) => {
-                if self.is_open() && seat.is_seat0() {
-                    Some(self.vt())
-                } else {
-                    None
-                }
-            }
-            None => None,
+        match self.session()? {
+            Session {
+                phase: Phase::Open,
+                seat: Some(seat),
+                vt,
+                ..
+            } => { if seat.is_seat0() { Some(*vt) } else { None } }
+            _ => None,
         }
     }
 

@@ -1,14 +1,18 @@
 // What tells facts.
 
-ghost use Rattle.std.specs.Prelude.{◌≡◌, length};
+ghost use Rattle.std.specs.Prelude.{◌≡◌, length, not};
 ghost use Rattle.login_model.specs.Trail.{Trail, value};
 ghost use Rattle.login_model.specs.Fresh.{next_handle};
 ghost use Rattle.login_model.specs.Names.{IsNext, session_lt, user_lt, conn_lt, seat_lt, device_lt, lock_lt};
 ghost use Rattle.login_model.specs.Where.{is_session, is_user, is_connected, is_seat, is_device, is_lock, sessions, connections, devices, locks, session_on};
 ghost use Rattle.login_model.specs.Standing.{has_active, has_seat};
+ghost use Rattle.login_model.specs.Locks.{matching};
+ghost use Rattle.login_model.specs.Procedure.{is_empty};
 ghost use Rattle.login_model.specs.Devices.{is_taken};
 
 use crate::fact::{Fact, Key};
+use crate::lock::LockMode;
+use crate::operation::OpKind;
 use login_base::{ConnId, DevNo, HandleNo, LockNo, SeatName, SessId, Uid};
 
 /// What tells facts: it stands for a list of marks. None of its calls takes memory. Each `next` call
@@ -74,6 +78,10 @@ pub trait Look {
     /// How many locks stand.
     fn lock_count(&self) -> u32
         ensures { result ≡ length (locks (trail self.now)) };
+
+    /// Whether a lock of a mode stands that holds up an operation.
+    fn is_held_up(&self, kind: OpKind, mode: LockMode) -> bool
+        ensures { result ≡ not (is_empty (matching (trail self.now) kind mode)) };
 
     /// The open session of seat0 that has a virtual terminal.
     fn on_terminal(&self, vt: u32) -> Option<SessId>

@@ -1,9 +1,8 @@
 -- Rows in the order of their places: what is read there, and what a fact exchanged and a row put in make of them.
-use Rattle.std.proofs.Common.{◌≡◌, ℕ, zero, suc, ◌==◌, ◌<◌, ◌≤◌, Bool, true, false, Option, Some, None, List, [], ◌∷◌, ◌++◌, length, get_or, take, drop, set, refl, ap, sym, ◌∙◌, subst, arith, Bor, MatchOption}
+use Rattle.std.proofs.Common.{◌≡◌, ℕ, zero, suc, ◌==◌, ◌<◌, Bool, true, false, None, List, [], ◌∷◌, ◌++◌, length, get_or, take, drop, set, refl, ap, sym, ◌∙◌, subst, arith}
 use Rattle.std.proofs.lemmas.List.{get_or_append_left, get_or_read, get_or-set_other, get_or-set_same}
 use Rattle.std.proofs.Math.Seq.{get_or-append_seam}
 use Rattle.std.proofs.lemmas.Bool.Decides.{nat_tests}
-use Rattle.std.specs.List.{HoldsAt}
 use Rattle.std.specs.List.Sorted.{IsPartitionedBy}
 use Rattle.login_model.specs.declared.fact.Key.TheVariants.{Vt}
 use Rattle.login_model.specs.declared.fact.Fact.{Fact}
@@ -52,20 +51,13 @@ order-front p xs (suc n) (q ∷ ps) f = (f.0, order-front p xs n ps f.1)
 
 -- ---- a row that is read
 
--- what is read of a row that has so many in front of it
-abbrev pub IsRow : List Row → ℕ → Option (Bor Row) → Type 0
-IsRow xs i r = MatchOption r (length xs ≤ i) (λ x. (i < length xs) × ((d : Row) → get_or xs i d ≡ x.now))
-
-pub got : (xs : List Row) (ps : List ℕ) (i q : ℕ) (r : Option (Bor Row)) → PlacesApart (length xs) ps → i < length ps → ((d : ℕ) → q ≡ get_or ps i d)
-    → MatchOption r (length xs ≤ q) (λ x. (q < length xs) × HoldsAt (λ y. x.now ≡ y) xs q) → IsRow (in_order xs ps) i r
-got xs ps i q None a h at m = absurd (omega (arith, m, at 0, place-within (length xs) ps i 0 a h))
-got xs ps i q (Some x) a h at m = (
-  omega (arith, h, length-order xs ps),
-  λ d. row-there xs ps i q d h ∙ ap (row_at xs) (sym (at q)) ∙ sym (m.1 (record { key = Vt; fact = Absent })),
-)
-
-pub got-none : (xs : List Row) (ps : List ℕ) (i : ℕ) (r : Option (Bor Row)) → r ≡ None → length ps ≤ i → IsRow (in_order xs ps) i r
-got-none xs ps i r e h = let P : Option (Bor Row) → Type 0 = λ s. IsRow (in_order xs ps) i s in subst P (sym e) (omega (arith, h, length-order xs ps))
+pub got : (xs : List Row) (ps : List ℕ) (i q : ℕ) (x : Row) → PlacesApart (length xs) ps → i < length ps → ((d : ℕ) → q ≡ get_or ps i d) → x ≡ get_or xs q x
+    → (i < length (in_order xs ps)) × ((d : Row) → get_or (in_order xs ps) i d ≡ x)
+got xs ps i q x a h at e =
+    let within : q < length xs = omega (arith, at 0, place-within (length xs) ps i 0 a h) in (
+      omega (arith, h, length-order xs ps),
+      λ d. row-there xs ps i q d h ∙ ap (row_at xs) (sym (at q)) ∙ sym (get_or_read xs q x within e (record { key = Vt; fact = Absent })),
+    )
 
 -- ---- a fact exchanged
 

@@ -1,6 +1,6 @@
 // Rows in an order that is kept beside them.
 
-ghost use Rattle.std.specs.Prelude.{◌≡◌, ◌+◌, ◌<◌, ◌≤◌, [], ◌∷◌, ◌++◌, MatchOption, OnOk, drop, length, slice_index_or, take, vec_capacity};
+ghost use Rattle.std.specs.Prelude.{◌≡◌, ◌+◌, ◌<◌, ◌≤◌, [], ◌∷◌, ◌++◌, MatchOption, OnOk, drop, false, length, slice_index_or, take, true, vec_capacity};
 ghost use Rattle.login_model.specs.Start.{start_fact};
 ghost use Rattle.login_model.specs.Trail.{value};
 ghost use Rattle.login_table.specs.KeyOrder.{key_lt};
@@ -52,15 +52,13 @@ fn make_room<T>(list: &mut Vec<T>, more: usize) -> Result<(), NoMemory>
     Ok(())
 }
 
-/// The key of the row at a place, or that other one where there is no row. A body can not make a reference to a key
-/// that it gives out, so the other one comes from the caller.
-fn key_at<'a>(rows: &'a [Row], place: u32, other: &'a Key) -> &'a Key
-    requires { other.now ≡ Key.Vt }
-    ensures { result.now ≡ (row_at rows.now place).key }
+/// Whether the row at a place is below a key. Where there is no row, a key stands for it all the same.
+fn is_row_below(rows: &[Row], place: u32, key: &Key) -> bool
+    ensures { result ≡ key_lt (row_at rows.now place).key key.now }
 {
     match rows.get(place as usize) {
-        Some(row) => &row.key,
-        None => other,
+        Some(row) => is_key_below(&row.key, key),
+        None => is_key_below(&Key::Vt, key),
     }
 }
 
@@ -73,7 +71,7 @@ fn count_below(rows: &[Row], order: &[u32], key: &Key) -> usize
     order.partition_point(
         |place: &u32| -> bool
             ensures { result ≡ key_lt (row_at rows.entry.now place.now).key key.entry.now }
-        { is_key_below(key_at(rows, *place, &Key::Vt), key) },
+        { is_row_below(rows, *place, key) },
     )
 }
 
@@ -117,17 +115,26 @@ impl Ordered {
         ensures { MatchOption result (length self.now.items ≤ at) (λ row. (at < length self.now.items) × ((d : AnyRow) → slice_index_or self.now.items at d ≡ row.now)) }
     {
         let place = self.order.get(at)?;
-        self.rows.get(*place as usize)
+        Some(&self.rows[*place as usize])
+    }
+
+    /// The row that has so many in front of it, if it is that key's.
+    fn row_of(&self, at: usize, key: &Key) -> Option<&Row>
+        ensures { MatchOption result (is_row_of key.now at self.now.items ≡ false) (λ row. (is_row_of key.now at self.now.items ≡ true) × ((d : AnyRow) → slice_index_or self.now.items at d ≡ row.now)) }
+    {
+        let row = self.get(at)?;
+        if is_same_key(&row.key, key) {
+            Some(row)
+        } else {
+            None
+        }
     }
 
     /// Whether the row that has so many in front of it is that key's.
     pub(crate) fn is_row_of(&self, at: usize, key: &Key) -> bool
         ensures { result ≡ is_row_of key.now at self.now.items }
     {
-        match self.get(at) {
-            Some(row) => is_same_key(&row.key, key),
-            None => false,
-        }
+        self.row_of(at, key).is_some()
     }
 
     /// Where the row of a key stands if its number is as far from that of the first row as there are rows between, as
@@ -160,11 +167,12 @@ impl Ordered {
         requires { Ascend self.now.items }
         ensures { MatchOption result (value (as_trail self.now.items) key.now ≡ start_fact key.now) (λ row. value (as_trail self.now.items) key.now ≡ row.now.fact) }
     {
-        let row = self.get(self.place(key))?;
-        if is_same_key(&row.key, key) {
-            Some(row)
-        } else {
-            None
+        match self.row_of(self.guess(key), key) {
+            Some(row) => Some(row),
+            None => self.row_of(
+                count_below(self.rows.as_slice(), self.order.as_slice(), key),
+                key,
+            ),
         }
     }
 

@@ -9,7 +9,6 @@ use login_base::{Millis, Reserved};
 use login_model::{
     Conf, Fact, Key, LockMode, Look, Mark, Notice, OpKind, Operation, Whom, is_same_fact,
 };
-use login_table::matching_lock;
 
 /// The notice that an operation is about to begin, or is over.
 fn prepare(kind: OpKind, begins: bool) -> Notice
@@ -25,7 +24,7 @@ fn prepare(kind: OpKind, begins: bool) -> Notice
 fn is_delayed<F: Look>(facts: &F, kind: OpKind) -> bool
     ensures { result ≡ is_delayed (F.trail facts.now) kind }
 {
-    matching_lock(facts, kind, LockMode::Delay).is_some()
+    facts.is_held_up(kind, LockMode::Delay)
 }
 
 /// Whether an operation that waits since a moment has waited as long as locks can delay it.

@@ -1,5 +1,5 @@
 -- A machine to which nothing happened yet, for the tests.
-use Rattle.std.proofs.Common.{◌≡◌, ◌≤◌, ◌==◌, ℕ, Bool, true, false, cond, Option, Some, None, List, [], ◌∷◌, length, refl, ap, sym, subst, ◌∙◌, arith}
+use Rattle.std.proofs.Common.{◌≡◌, ◌≤◌, ◌==◌, ℕ, Bool, true, false, not, cond, Option, Some, None, List, [], ◌∷◌, length, refl, ap, sym, subst, ◌∙◌, arith}
 use Rattle.login_base.specs.declared.ids.ConnId.{ConnId}
 use Rattle.login_base.specs.declared.ids.DevNo.{DevNo}
 use Rattle.login_base.specs.declared.ids.HandleNo.{HandleNo}
@@ -13,7 +13,8 @@ use Rattle.login_model.specs.Devices.{is_taken, taken_devices}
 use Rattle.login_model.specs.Fresh.{fresh_handle, next_handle}
 use Rattle.login_model.specs.Full.{taken_by}
 use Rattle.login_model.specs.Names.{IsNext, conn_lt, device_lt, is_above, lock_lt, names, seat_lt, session_lt, user_lt}
-use Rattle.login_model.specs.Procedure.{each, force, if_some, resume, untake}
+use Rattle.login_model.specs.Locks.{matching}
+use Rattle.login_model.specs.Procedure.{each, force, if_some, is_empty, resume, untake}
 use Rattle.login_model.specs.Facts.{is_number_fact}
 use Rattle.login_model.specs.Same.{same_fact}
 use Rattle.login_model.specs.Standing.{has_active, has_seat}
@@ -29,6 +30,8 @@ use Rattle.login_model.specs.declared.fact.Key.{Key}
 use Rattle.login_model.specs.declared.fact.Key.TheVariants as key
 use Rattle.login_model.specs.declared.mark.Mark.{Mark}
 use Rattle.login_model.specs.declared.mark.Mark.TheVariants.{Set}
+use Rattle.login_model.specs.declared.lock.LockMode.{LockMode}
+use Rattle.login_model.specs.declared.operation.OpKind.{OpKind}
 use Rattle.login_table.specs.Appended.{HasRoom}
 use Rattle.switch_core.specs.Handles.{HandlesLeft, IsNumbered}
 
@@ -174,6 +177,10 @@ no-devices = refl
 pub no-locks : length (locks []) ≡ 0
 unfolding locks names
 no-locks = refl
+
+pub nothing-holds : (k : OpKind) (mode : LockMode) → not (is_empty (matching [] k mode)) ≡ false
+unfolding matching locks names
+nothing-holds k mode = refl
 
 pub none-on : (v : ℕ) → session_on [] v ≡ None
 none-on v = no-one v

@@ -3,7 +3,7 @@
 ghost use Rattle.std.specs.Prelude.{◌≤◌, [], IfOk};
 
 use login_base::{ConnId, DevNo, HandleNo, LockNo, NoMemory, Reserved, SeatName, SessId, Uid};
-use login_model::{Conf, Fact, Key, Look, Mark, Notice, StartFacts, Whom};
+use login_model::{Conf, Fact, Key, LockMode, Look, Mark, Notice, OpKind, StartFacts, Whom};
 use login_table::is_above;
 use std::alloc::Global;
 use switch_core::{acknowledge, ask, force, resume, settle, withdraw};
@@ -75,6 +75,10 @@ impl Look for Blank {
 
     fn lock_count(&self) -> u32 {
         0
+    }
+
+    fn is_held_up(&self, kind: OpKind, mode: LockMode) -> bool {
+        false
     }
 
     fn on_terminal(&self, vt: u32) -> Option<SessId> {

@@ -2,13 +2,19 @@
 use Rattle.std.specs.Prelude.{ℕ, ◌≡◌, ◌+◌, ◌<◌, ◌≤◌, ◌^◌, Bool, true, false, if◌then◌else◌, Option, Some, None, List, length, filter}
 use Rattle.login_base.specs.declared.ids.SessId.{SessId}
 use Rattle.login_base.specs.declared.ids.DevNo.{DevNo}
+use Rattle.login_base.specs.declared.ids.LockNo.{LockNo}
 use Rattle.login_base.specs.declared.ids.Uid.{Uid}
 use Rattle.login_model.specs.declared.fact.Key.{Key}
 use Rattle.login_model.specs.declared.fact.Key.TheVariants as key
 use Rattle.login_model.specs.declared.fact.Fact.{Fact}
+use Rattle.login_model.specs.declared.lock.LockMode.{LockMode}
+use Rattle.login_model.specs.declared.lock.LockMode.TheVariants.{Block, Delay}
+use Rattle.login_model.specs.declared.operation.OpKind.{OpKind}
+use Rattle.login_model.specs.declared.operation.OpKind.TheVariants.{PowerOff, Suspend}
 use Rattle.login_model.specs.Devices.{is_handle_fact, is_taken}
-use Rattle.login_model.specs.Facts.{is_connected_fact, is_controlled_fact, is_device_fact, is_leaving_fact, is_lock_fact, is_open_fact, is_session_fact, is_user_fact}
-use Rattle.login_model.specs.Names.{names, conn_in, device_in, lock_in, session_in, user_in, user_lt, session_lt}
+use Rattle.login_model.specs.Facts.{holds_back, is_connected_fact, is_controlled_fact, is_device_fact, is_leaving_fact, is_lock_fact, is_open_fact, is_session_fact, is_user_fact}
+use Rattle.login_model.specs.Names.{names, conn_in, device_in, lock_in, lock_lt, session_in, user_in, user_lt, session_lt}
+use Rattle.login_model.specs.Properties.{is_shutdown}
 use Rattle.login_model.specs.Trail.{Trail, value}
 use Rattle.login_model.specs.Where.{connections, devices, is_session, locks, open_sessions, sessions, users}
 use Rattle.login_table.specs.KeyOrder.{pair_lt}
@@ -60,6 +66,12 @@ pub record HoldersAreThere (t : Trail) : Type 0 where
 unfoldable pub leavers : Trail → List Uid
 leavers t = filter (λ u. is_leaving_fact (value t (key.User u))) (names user_lt user_in t)
 
+-- ---- what is counted of locks
+
+-- the locks of a mode that hold up an operation, in order
+unfoldable pub holding : OpKind → LockMode → Trail → List LockNo
+holding k mode t = filter (λ l. holds_back k mode (value t (key.Lock l))) (names lock_lt lock_in t)
+
 -- ---- counts
 
 -- they are the counts of what is there
@@ -71,8 +83,23 @@ pub record AreCounted (c : Counts) (t : Trail) : Type 0 where
   pub locks : c.locks ≡ length (locks t)
   pub opened : c.opened ≡ length (open_sessions t)
   pub present : c.present ≡ length (sessions t)
+  pub shutdown_blocks : c.shutdown_blocks ≡ length (holding PowerOff Block t)
+  pub shutdown_delays : c.shutdown_delays ≡ length (holding PowerOff Delay t)
+  pub sleep_blocks : c.sleep_blocks ≡ length (holding Suspend Block t)
+  pub sleep_delays : c.sleep_delays ≡ length (holding Suspend Delay t)
   pub taken : c.taken ≡ length (taken_pairs t)
   pub users : c.users ≡ length (users t)
+
+-- how many locks of a mode are counted that hold up what ends the machine's run, or sleep
+abbrev pub holding_such : Counts → Bool → LockMode → ℕ
+holding_such c true Block = c.shutdown_blocks
+holding_such c true Delay = c.shutdown_delays
+holding_such c false Block = c.sleep_blocks
+holding_such c false Delay = c.sleep_delays
+
+-- how many locks of a mode are counted that hold up an operation
+abbrev pub holding_in : Counts → OpKind → LockMode → ℕ
+holding_in c k mode = holding_such c (is_shutdown k) mode
 
 abbrev pub one_if : Bool → ℕ
 one_if there = if there then 1 else 0
@@ -92,6 +119,10 @@ counts_of k x = record {
   locks = one_there (lock_in k) (is_lock_fact x);
   opened = one_there (session_in k) (is_open_fact x);
   present = one_there (session_in k) (is_session_fact x);
+  shutdown_blocks = one_there (lock_in k) (holds_back PowerOff Block x);
+  shutdown_delays = one_there (lock_in k) (holds_back PowerOff Delay x);
+  sleep_blocks = one_there (lock_in k) (holds_back Suspend Block x);
+  sleep_delays = one_there (lock_in k) (holds_back Suspend Delay x);
   taken = one_there (pair_in k) (is_handle_fact x);
   users = one_there (user_in k) (is_user_fact x);
 }
@@ -108,6 +139,10 @@ pub record CanAllMove (c lost gained : Counts) : Type 0 where
   pub locks : CanMove c.locks lost.locks gained.locks
   pub opened : CanMove c.opened lost.opened gained.opened
   pub present : CanMove c.present lost.present gained.present
+  pub shutdown_blocks : CanMove c.shutdown_blocks lost.shutdown_blocks gained.shutdown_blocks
+  pub shutdown_delays : CanMove c.shutdown_delays lost.shutdown_delays gained.shutdown_delays
+  pub sleep_blocks : CanMove c.sleep_blocks lost.sleep_blocks gained.sleep_blocks
+  pub sleep_delays : CanMove c.sleep_delays lost.sleep_delays gained.sleep_delays
   pub taken : CanMove c.taken lost.taken gained.taken
   pub users : CanMove c.users lost.users gained.users
 
@@ -120,5 +155,9 @@ pub record Follow (c lost gained d : Counts) : Type 0 where
   pub locks : d.locks + lost.locks ≡ c.locks + gained.locks
   pub opened : d.opened + lost.opened ≡ c.opened + gained.opened
   pub present : d.present + lost.present ≡ c.present + gained.present
+  pub shutdown_blocks : d.shutdown_blocks + lost.shutdown_blocks ≡ c.shutdown_blocks + gained.shutdown_blocks
+  pub shutdown_delays : d.shutdown_delays + lost.shutdown_delays ≡ c.shutdown_delays + gained.shutdown_delays
+  pub sleep_blocks : d.sleep_blocks + lost.sleep_blocks ≡ c.sleep_blocks + gained.sleep_blocks
+  pub sleep_delays : d.sleep_delays + lost.sleep_delays ≡ c.sleep_delays + gained.sleep_delays
   pub taken : d.taken + lost.taken ≡ c.taken + gained.taken
   pub users : d.users + lost.users ≡ c.users + gained.users

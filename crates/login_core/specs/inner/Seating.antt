@@ -97,10 +97,14 @@ is_one_at c n = has_at c n 1
 pub record AreLow (t : Trail) : Type 0 where
   pub low : (s : SessId) → is_at (high_in (value t (key.Sess s))) 0 ≡ false
 
+-- a session is in the bucket of a number, and no other
+abbrev pub IsAlone : (Fact → Option ℕ) → Trail → ℕ → SessId → Type 0
+IsAlone place_in t n r = (is_at (place_in (value t (key.Sess r))) (bucket_of n) ≡ true) × ((s : SessId) → is_at (place_in (value t (key.Sess s))) (bucket_of n) ≡ true → s ≡ r)
+
 -- who is in the bucket of a number
 abbrev pub IsCrowd : (Fact → Option ℕ) → Trail → ℕ → Crowd → Type 0
 IsCrowd place_in t n Nobody = (s : SessId) → is_at (place_in (value t (key.Sess s))) (bucket_of n) ≡ false
-IsCrowd place_in t n (Alone r) = (is_at (place_in (value t (key.Sess r))) (bucket_of n) ≡ true) × ((s : SessId) → is_at (place_in (value t (key.Sess s))) (bucket_of n) ≡ true → s ≡ r)
+IsCrowd place_in t n (Alone r x) = IsAlone place_in t n r × (x.now ≡ value t (key.Sess r))
 IsCrowd place_in t n Several = Several ≡ Several
 
 -- what two parts say together, as far as they are known

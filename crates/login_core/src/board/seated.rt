@@ -29,7 +29,7 @@ impl Draft {
 /// Buckets.
 impl<'a> SoFar<'a> {
     /// Who of the open sessions of seat0 is in the bucket of a terminal.
-    fn crowd_at(&self, vt: u32) -> Crowd
+    fn crowd_at(&self, vt: u32) -> Crowd<'_>
         ensures { IsCrowd terminal_in self.now vt result }
     {
         let terminals = &self.seating().terminals;
@@ -37,15 +37,16 @@ impl<'a> SoFar<'a> {
             return Crowd::Nobody;
         }
         let alone = terminals.alone_at(vt);
-        if terminals.is_one_at(vt) && is_beside(self.fact(&Key::Sess(alone)).terminal(), vt) {
-            Crowd::Alone(alone)
+        let fact = self.fact(&Key::Sess(alone));
+        if terminals.is_one_at(vt) && is_beside(fact.terminal(), vt) {
+            Crowd::Alone(alone, fact)
         } else {
             Crowd::Several
         }
     }
 
     /// Who of the open sessions with a seat is in the bucket of a user.
-    fn crowd_of(&self, uid: u32) -> Crowd
+    fn crowd_of(&self, uid: u32) -> Crowd<'_>
         ensures { IsCrowd seated_user self.now uid result }
     {
         let users = &self.seating().users;
@@ -53,8 +54,9 @@ impl<'a> SoFar<'a> {
             return Crowd::Nobody;
         }
         let alone = users.alone_at(uid);
-        if users.is_one_at(uid) && is_beside(self.fact(&Key::Sess(alone)).seated_user(), uid) {
-            Crowd::Alone(alone)
+        let fact = self.fact(&Key::Sess(alone));
+        if users.is_one_at(uid) && is_beside(fact.seated_user(), uid) {
+            Crowd::Alone(alone, fact)
         } else {
             Crowd::Several
         }
@@ -137,8 +139,7 @@ impl<'a> SoFar<'a> {
     {
         match self.crowd_at(vt) {
             Crowd::Nobody => None,
-            Crowd::Alone(session) => {
-                let fact = self.fact(&Key::Sess(session));
+            Crowd::Alone(session, fact) => {
                 if fact.is_on_terminal(&Fact::Number(vt)) {
                     Some(session)
                 } else {
@@ -171,8 +172,8 @@ impl<'a> SoFar<'a> {
         for vt in 0..BUCKETS as u32 {
             match self.crowd_at(vt) {
                 Crowd::Nobody => {}
-                Crowd::Alone(session) => {
-                    if self.fact(&Key::Sess(session)).is_open_of(uid) {
+                Crowd::Alone(_session, fact) => {
+                    if fact.is_open_of(uid) {
                         return Some(true);
                     }
                 }
@@ -226,7 +227,7 @@ impl<'a> SoFar<'a> {
     {
         match self.crowd_of(uid) {
             Crowd::Nobody => false,
-            Crowd::Alone(session) => self.fact(&Key::Sess(session)).is_seated_of(uid),
+            Crowd::Alone(_session, fact) => fact.is_seated_of(uid),
             Crowd::Several => self.look_for_seated(uid),
         }
     }
@@ -272,7 +273,7 @@ impl<'a> SoFar<'a> {
         };
         match self.crowd_at(vt) {
             Crowd::Nobody => Some(false),
-            Crowd::Alone(session) => Some(self.is_current_of(uid, session)),
+            Crowd::Alone(session, _) => Some(self.is_current_of(uid, session)),
             Crowd::Several => None,
         }
     }
@@ -322,7 +323,7 @@ impl<'a> SoFar<'a> {
     {
         match self.crowd_of(uid) {
             Crowd::Nobody => false,
-            Crowd::Alone(session) => self.is_active_of(uid, session),
+            Crowd::Alone(session, _) => self.is_active_of(uid, session),
             Crowd::Several => self.look_for_active(uid),
         }
     }

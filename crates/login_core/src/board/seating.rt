@@ -31,10 +31,10 @@ pub fn is_beside(number: Option<u32>, other: u32) -> bool
 
 /// Who is in a bucket, as far as that is known.
 #[derive(Clone, Copy)]
-pub enum Crowd {
+pub enum Crowd<'a> {
     Nobody,
-    /// This session and no other.
-    Alone(SessId),
+    /// This session and no other, with its fact.
+    Alone(SessId, &'a Fact),
     /// Several, or it is not known who.
     Several,
 }

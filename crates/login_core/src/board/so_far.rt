@@ -4,6 +4,7 @@ ghost use Rattle.std.specs.Prelude.{◌≡◌};
 ghost use Rattle.login_model.proofs.InOrder.{sessions-enumerated};
 ghost use Rattle.login_model.specs.Names.{IsNext, names, session_in, session_lt};
 ghost use Rattle.login_model.specs.Where.{is_session};
+ghost use Rattle.login_core.specs.inner.Counts.{AreCounted};
 ghost use Rattle.login_core.specs.inner.Facts.{StandFor};
 ghost use Rattle.login_core.specs.inner.Seating.{AreSeated};
 ghost use Rattle.login_core.specs.inner.UnderWay.{so_far};
@@ -11,8 +12,9 @@ ghost use Rattle.login_core.specs.inner.UnderWay.{so_far};
 use crate::board::choosing::Tells;
 use crate::board::facts::Facts;
 use crate::board::seating::Seating;
+use crate::room::counts::Counts;
 use login_base::{ConnId, DevNo, HandleNo, LockNo, Reserved, SeatName, SessId, Uid};
-use login_model::{Fact, Journal, Key, Look, Mark};
+use login_model::{Fact, Journal, Key, LockMode, Look, Mark, OpKind};
 use std::marker::Model;
 use std::snapshot::Snapshot;
 
@@ -56,6 +58,13 @@ impl<'a> SoFar<'a> {
             journal,
             marks: Snapshot::of(marks),
         }
+    }
+
+    /// How many there are of what has room of its own.
+    fn counts(&self) -> Counts
+        ensures { AreCounted result self.now }
+    {
+        self.facts.counts()
     }
 
     /// Where sessions sit.
@@ -123,6 +132,10 @@ impl<'a> Look for SoFar<'a> {
 
     fn lock_count(&self) -> u32 {
         self.facts.counts().locks
+    }
+
+    fn is_held_up(&self, kind: OpKind, mode: LockMode) -> bool {
+        0 < self.counts().holding(kind, mode)
     }
 
     fn on_terminal(&self, vt: u32) -> Option<SessId> {

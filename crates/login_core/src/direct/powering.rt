@@ -8,7 +8,6 @@ ghost use Rattle.login_core.specs.inner.Draft.{marked_by, Fits};
 use crate::board::Draft;
 use keys_lid::action_of;
 use login_model::{HardKey, Key, KeyAction, LockMode, Look, OpKind, Setup};
-use login_table::matching_lock;
 
 #[tactic(auto, using(crate::proofs::Growing::growing))]
 impl Draft {
@@ -16,7 +15,7 @@ impl Draft {
     fn is_blocked(&self, kind: OpKind) -> bool
         ensures { result ≡ is_blocked self.now.trail kind }
     {
-        matching_lock(self, kind, LockMode::Block).is_some()
+        self.is_held_up(kind, LockMode::Block)
     }
 
     /// An operation is asked for, past the locks that block it now, if there are any.

@@ -8,9 +8,9 @@ ghost use Rattle.login_model.specs.Full.{marks_needed};
 ghost use Rattle.login_model.specs.Limits.{taken_limit};
 ghost use Rattle.login_model.specs.Trail.{Trail};
 ghost use Rattle.login_model.specs.Where.{sessions};
-ghost use Rattle.login_core.specs.inner.Counts.{AreCounted, CanAllMove, Follow, HoldersAreThere, counts_of, one_if};
+ghost use Rattle.login_core.specs.inner.Counts.{AreCounted, CanAllMove, Follow, HoldersAreThere, counts_of, holding_in, one_if};
 
-use login_model::{Fact, Key, MOST_TAKEN};
+use login_model::{Fact, Key, LockMode, MOST_TAKEN, OpKind};
 
 /// What is kept for marks beside the sums over what stands.
 const MARKS_IN_RESERVE: u64 = 64;
@@ -35,6 +35,14 @@ pub struct Counts {
     pub opened: u32,
     /// Sessions that are not gone.
     pub present: u32,
+    /// Locks that block what ends the machine's run.
+    pub shutdown_blocks: u32,
+    /// Locks that delay it.
+    pub shutdown_delays: u32,
+    /// Locks that block sleep.
+    pub sleep_blocks: u32,
+    /// Locks that delay it.
+    pub sleep_delays: u32,
     /// Pairs of a session and a device that it has taken.
     pub taken: u32,
     /// Users that are not absent.
@@ -67,6 +75,10 @@ impl Counts {
         locks: 0,
         opened: 0,
         present: 0,
+        shutdown_blocks: 0,
+        shutdown_delays: 0,
+        sleep_blocks: 0,
+        sleep_delays: 0,
         taken: 0,
         users: 0,
     };
@@ -90,6 +102,10 @@ impl Counts {
             },
             Key::Lock(_) => Counts {
                 locks: one_if(fact.is_lock()),
+                shutdown_blocks: one_if(fact.holds_back(OpKind::PowerOff, LockMode::Block)),
+                shutdown_delays: one_if(fact.holds_back(OpKind::PowerOff, LockMode::Delay)),
+                sleep_blocks: one_if(fact.holds_back(OpKind::Suspend, LockMode::Block)),
+                sleep_delays: one_if(fact.holds_back(OpKind::Suspend, LockMode::Delay)),
                 ..Counts::NONE
             },
             Key::Sess(_) => Counts {
@@ -110,6 +126,18 @@ impl Counts {
         }
     }
 
+    /// How many locks of a mode there are that hold up an operation.
+    pub fn holding(self, kind: OpKind, mode: LockMode) -> u32
+        ensures { result ≡ holding_in self kind mode }
+    {
+        match (kind.is_shutdown(), mode) {
+            (true, LockMode::Block) => self.shutdown_blocks,
+            (true, LockMode::Delay) => self.shutdown_delays,
+            (false, LockMode::Block) => self.sleep_blocks,
+            (false, LockMode::Delay) => self.sleep_delays,
+        }
+    }
+
     /// The counts when so many are lost and so many are gained.
     pub fn moved(self, lost: Counts, gained: Counts) -> Counts
         requires { CanAllMove self lost gained }
@@ -123,6 +151,18 @@ impl Counts {
             locks: moved(self.locks, lost.locks, gained.locks),
             opened: moved(self.opened, lost.opened, gained.opened),
             present: moved(self.present, lost.present, gained.present),
+            shutdown_blocks: moved(
+                self.shutdown_blocks,
+                lost.shutdown_blocks,
+                gained.shutdown_blocks,
+            ),
+            shutdown_delays: moved(
+                self.shutdown_delays,
+                lost.shutdown_delays,
+                gained.shutdown_delays,
+            ),
+            sleep_blocks: moved(self.sleep_blocks, lost.sleep_blocks, gained.sleep_blocks),
+            sleep_delays: moved(self.sleep_delays, lost.sleep_delays, gained.sleep_delays),
             taken: moved(self.taken, lost.taken, gained.taken),
             users: moved(self.users, lost.users, gained.users),
         }

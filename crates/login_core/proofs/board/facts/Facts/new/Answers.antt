@@ -11,7 +11,7 @@ use Rattle.login_core.proofs.board.facts.Facts.new.Goals as goal
 
 pub returns-clause-stands : goal.returns-clause-stands
 returns-clause-stands c =
-    let f : Tables = record { users = c.new.result.trail; sessions = c.new-2.result.trail; seats = c.new-3.result.trail; devices = c.new-4.result.trail; controls = c.new-5.result.trail; takes = c.new-6.result.trail; locks = c.new-7.result.trail; power = c.new-8.result.trail; ears = c.new-4.result.ears; rings = c.new-4.result.rings; counts = record { connections = 0; controlled = 0; devices = 0; leaving = 0; locks = 0; opened = 0; present = 0; taken = 0; users = 0 }; session = 1; handle = 1; lock = 1; held = c.new-9.result.list; owing = c.new-10.result; spare = 0; fresh = record { taken = 0; others = 0 } } in
+    let f : Tables = record { users = c.new.result.trail; sessions = c.new-2.result.trail; seats = c.new-3.result.trail; devices = c.new-4.result.trail; controls = c.new-5.result.trail; takes = c.new-6.result.trail; locks = c.new-7.result.trail; power = c.new-8.result.trail; ears = c.new-4.result.ears; rings = c.new-4.result.rings; counts = record { connections = 0; controlled = 0; devices = 0; leaving = 0; locks = 0; opened = 0; present = 0; shutdown_blocks = 0; shutdown_delays = 0; sleep_blocks = 0; sleep_delays = 0; taken = 0; users = 0 }; session = 1; handle = 1; lock = 1; held = c.new-9.result.list; owing = c.new-10.result; spare = 0; fresh = record { taken = 0; others = 0 } } in
     closed f [] (record {
       facts = all-stand f [] (each-stands f [] c.new.ensures.stands c.new-2.ensures.stands c.new-3.ensures.stands c.new-4.ensures.stands c.new-5.ensures.stands c.new-6.ensures.stands c.new-7.ensures.stands c.new-8.ensures.stands);
       keys = no-keys f c.new.ensures.none c.new-2.ensures.none c.new-3.ensures.none c.new-4.ensures.none c.new-5.ensures.none c.new-6.ensures.none c.new-7.ensures.none c.new-8.ensures.none;

@@ -16,5 +16,5 @@ returns-then-is_beside c =
     let v = c.args.uid in
     let r = c.alone_at-alone.result in
     let beside : is_at (seated_user (value t (Sess r))) (bucket_of v) ≡ true =
-    ap (λ (x : Fact). is_at (seated_user x) (bucket_of v)) (sym c.fact.ensures) ∙ ap (λ (o : Option ℕ). is_at o (bucket_of v)) (sym c.seated_user.ensures) ∙ sym c.is_beside.ensures ∙ c.if-is_beside.true in
-    alone-there seated_user refl c.seating.result.now.users t v r c.seating.ensures.users (sym c.is_one_at.ensures ∙ c.if-is_one_at.true) beside
+    ap (λ (x : Fact). is_at (seated_user x) (bucket_of v)) (sym c.fact-fact.ensures) ∙ ap (λ (o : Option ℕ). is_at o (bucket_of v)) (sym c.seated_user.ensures) ∙ sym c.is_beside.ensures ∙ c.if-is_beside.true in
+    (alone-there seated_user refl c.seating.result.now.users t v r c.seating.ensures.users (sym c.is_one_at.ensures ∙ c.if-is_one_at.true) beside, c.fact-fact.ensures)

@@ -23,4 +23,4 @@ returns-in-Alone c = λ b e.
     let t = c.args.self.now in
     let P : Crowd → Type 0 = IsCrowd terminal_in t c.in-Some.vt in
     let vt : number_in_fact (value t Vt) ≡ Some c.in-Some.vt = ap number_in_fact (sym c.fact.ensures) ∙ sym c.number.ensures ∙ c.in-Some.is in
-    current-alone t c.args.uid c.in-Some.vt c.in-Alone.session vt (subst P c.in-Alone.is c.crowd_at.ensures) ∙ sym c.is_current_of.ensures ∙ told e
+    current-alone t c.args.uid c.in-Some.vt c.in-Alone.session vt (subst P c.in-Alone.is c.crowd_at.ensures).0 ∙ sym c.is_current_of.ensures ∙ told e

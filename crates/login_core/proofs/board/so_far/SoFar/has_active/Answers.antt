@@ -13,4 +13,4 @@ returns-in-Nobody c =
 pub returns-in-Alone : goal.returns-in-Alone
 returns-in-Alone c =
     let P : Crowd → Type 0 = IsCrowd seated_user c.args.self.now c.args.uid in
-    sym (active-alone c.args.self.now c.args.uid c.in-Alone.session (subst P c.in-Alone.is c.crowd_of.ensures) ∙ sym c.is_active_of.ensures)
+    sym (active-alone c.args.self.now c.args.uid c.in-Alone.session (subst P c.in-Alone.is c.crowd_of.ensures).0 ∙ sym c.is_active_of.ensures)

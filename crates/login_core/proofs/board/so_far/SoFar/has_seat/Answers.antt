@@ -13,4 +13,5 @@ returns-in-Nobody c =
 pub returns-in-Alone : goal.returns-in-Alone
 returns-in-Alone c =
     let P : Crowd → Type 0 = IsCrowd seated_user c.args.self.now c.args.uid in
-    sym (seated-alone c.args.self.now c.args.uid c.in-Alone.session (subst P c.in-Alone.is c.crowd_of.ensures) ∙ ap (is_seated_of c.args.uid) (sym c.fact.ensures) ∙ sym c.is_seated_of.ensures)
+    let alone = subst P c.in-Alone.is c.crowd_of.ensures in
+    sym (seated-alone c.args.self.now c.args.uid c.in-Alone._session alone.0 ∙ ap (is_seated_of c.args.uid) (sym alone.1) ∙ sym c.is_seated_of.ensures)

@@ -12,7 +12,8 @@ returns-then-is_open_of c = λ b e.
     let u = c.args.uid in
     let v = c.loop-vt.vt in
     let P : Crowd → Type 0 = IsCrowd terminal_in t v in
-    some-on-seat0 t u v c.in-Alone.session (subst P c.in-Alone.is c.crowd_at.ensures) (ap (is_open_of u) (sym c.fact.ensures) ∙ sym c.is_open_of.ensures ∙ c.if-is_open_of.true) ∙ told e
+    let alone = subst P c.in-Alone.is c.crowd_at.ensures in
+    some-on-seat0 t u v c.in-Alone._session alone.0 (ap (is_open_of u) (sym alone.1) ∙ sym c.is_open_of.ensures ∙ c.if-is_open_of.true) ∙ told e
 
 pub loop-vt-preserved : goal.loop-vt-preserved
 loop-vt-preserved c =
@@ -23,7 +24,10 @@ loop-vt-preserved c =
     let low : v < buckets = omega arith in
     none-before t u v c.loop-vt.invariant (elim c.match-crowd_at.branch [
       | in-Nobody w ↦ none-by-nobody t u v low (subst P w.in-Nobody.is c.crowd_at.ensures)
-      | in-Alone+else-is_open_of w ↦ none-by-alone t u v w.in-Alone.session low (subst P w.in-Alone.is c.crowd_at.ensures) (ap (is_open_of u) (sym w.fact.ensures) ∙ sym w.is_open_of.ensures ∙ w.if-is_open_of.false)
+      | in-Alone+else-is_open_of w ↦ (
+          let alone = subst P w.in-Alone.is c.crowd_at.ensures in
+          none-by-alone t u v w.in-Alone._session low alone.0 (ap (is_open_of u) (sym alone.1) ∙ sym w.is_open_of.ensures ∙ w.if-is_open_of.false)
+          )
     ])
 
 pub returns : goal.returns

@@ -19,8 +19,9 @@ returns-then-is_on_terminal c =
     let v = c.args.vt in
     let s = c.in-Alone.session in
     let P : Crowd → Type 0 = IsCrowd terminal_in t v in
-    let on : is_on_terminal (Number v) (value t (Sess s)) ≡ true = ap (is_on_terminal (Number v)) (sym c.fact-fact.ensures) ∙ sym c.is_on_terminal.ensures ∙ c.if-is_on_terminal.true in
-    sym (terminal-alone t v s (subst P c.in-Alone.is c.crowd_at.ensures) on)
+    let alone = subst P c.in-Alone.is c.crowd_at.ensures in
+    let on : is_on_terminal (Number v) (value t (Sess s)) ≡ true = ap (is_on_terminal (Number v)) (sym alone.1) ∙ sym c.is_on_terminal.ensures ∙ c.if-is_on_terminal.true in
+    sym (terminal-alone t v s alone.0 on)
 
 pub returns-else-is_on_terminal : goal.returns-else-is_on_terminal
 returns-else-is_on_terminal c =
@@ -28,5 +29,6 @@ returns-else-is_on_terminal c =
     let v = c.args.vt in
     let s = c.in-Alone.session in
     let P : Crowd → Type 0 = IsCrowd terminal_in t v in
-    let off : is_on_terminal (Number v) (value t (Sess s)) ≡ false = ap (is_on_terminal (Number v)) (sym c.fact-fact.ensures) ∙ sym c.is_on_terminal.ensures ∙ c.if-is_on_terminal.false in
-    sym (terminal-none t v s (subst P c.in-Alone.is c.crowd_at.ensures) off)
+    let alone = subst P c.in-Alone.is c.crowd_at.ensures in
+    let off : is_on_terminal (Number v) (value t (Sess s)) ≡ false = ap (is_on_terminal (Number v)) (sym alone.1) ∙ sym c.is_on_terminal.ensures ∙ c.if-is_on_terminal.false in
+    sym (terminal-none t v s alone.0 off)
