@@ -236,7 +236,7 @@ impl Draft {
         self.facts.fresh_lock()
     }
 
-    /// How many there are of what needs room.
+    /// How many there are of what is counted.
     pub fn counts(&self) -> Counts
         ensures { AreCounted result self.now.trail }
     {

@@ -19,7 +19,7 @@ use std::alloc::Global;
 
 /// A table of facts: those under the keys that are its own. It stands for marks whose settings were
 /// applied. A table gives its keys and the rows of each kind of key, and has the rest from here. A table of
-/// kinds whose names all keep growing has rows for each of them, so that a new one comes last and moves none.
+/// kinds whose names all keep growing has rows for each of them, so that a new one comes last in their order too.
 pub trait Table {
     /// Whether a key is one of its own.
     ghost owns: { AnyKey → Bool };

@@ -59,7 +59,8 @@ pub fn request<F: Look>(facts: &F, kind: OpKind, skip: bool, out: &mut Reserved<
     out.push(Mark::Say(Whom::All, prepare(kind, true)));
 }
 
-/// Appends the mark with which this operation runs, if it waits and no lock delays it any more.
+/// Appends the mark with which this operation runs, if it waits, and no lock delays it any more
+/// or its limit is over.
 fn start<F: Look>(facts: &F, conf: &Conf, fact: &Fact, out: &mut Reserved<Mark>)
     requires room { HasRoom (start conf.now fact.now) (F.trail facts.now) out.old.spare }
     ensures appends { Appends (start conf.now fact.now) (F.trail facts.now) out.old.items out.new.items }
@@ -73,7 +74,7 @@ fn start<F: Look>(facts: &F, conf: &Conf, fact: &Fact, out: &mut Reserved<Mark>)
 }
 
 /// Appends the mark with which the operation that waits runs, once no lock delays it or it has waited for long. It
-/// takes no memory, and looks at locks only while an operation waits.
+/// takes no memory, and asks for the locks only while an operation waits.
 pub fn settle<F: Look>(facts: &F, conf: &Conf, out: &mut Reserved<Mark>)
     requires room { HasRoom (settle_operation conf.now) (F.trail facts.now) out.old.spare }
     ensures appends { Appends (settle_operation conf.now) (F.trail facts.now) out.old.items out.new.items }

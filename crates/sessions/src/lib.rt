@@ -13,7 +13,7 @@ use std::alloc::Global;
 use std::marker::Model;
 
 /// What each session is, whether it is idle or locked, and the last signal sent to it. What is told of one
-/// besides has rows of its own, so that a hint which comes late moves no session.
+/// besides has rows of its own, so that a hint which comes late moves no session in their order.
 #[derive(Drop)]
 pub struct Sessions {
     sessions: Rows,

@@ -1,4 +1,5 @@
--- How many there are of what needs room in the journal or has a limit, and how a setting changes that.
+-- How many there are of what needs room in the journal, has a limit or is asked for by its number, and how a setting
+-- changes that.
 use Rattle.std.specs.Prelude.{ℕ, ◌≡◌, ◌+◌, ◌<◌, ◌≤◌, ◌^◌, Bool, true, false, if◌then◌else◌, Option, Some, None, List, length, filter}
 use Rattle.login_base.specs.declared.ids.SessId.{SessId}
 use Rattle.login_base.specs.declared.ids.DevNo.{DevNo}

@@ -313,7 +313,7 @@ impl Facts {
         self.owing.marks.of(who.0)
     }
 
-    /// How many there are of what needs room.
+    /// How many there are of what is counted.
     pub fn counts(&self) -> Counts
         ensures { (t : Trail) → StandFor self.now t → AreCounted result t }
     {

@@ -60,7 +60,7 @@ impl<'a> SoFar<'a> {
         }
     }
 
-    /// How many there are of what has room of its own.
+    /// How many there are of what is counted.
     fn counts(&self) -> Counts
         ensures { AreCounted result self.now }
     {

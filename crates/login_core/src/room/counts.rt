@@ -1,4 +1,4 @@
-// How many there are of what needs room or has a limit.
+// How many there are of what needs room, has a limit or is asked for by its number.
 
 ghost use Rattle.std.specs.Prelude.{◌≡◌, ◌+◌, ◌<◌, ◌≤◌, ◌^◌, length};
 ghost use Rattle.login_laws.specs.Few.{most_taken};
@@ -18,7 +18,7 @@ const MARKS_IN_RESERVE: u64 = 64;
 /// By how many marks an event may raise those of the end of who has seat0's active session, beside those of devices.
 const SHARE_BESIDE: u64 = 12;
 
-/// How many there are of what needs room in the journal or has a limit.
+/// How many there are of what needs room in the journal, has a limit or is asked for by its number.
 #[derive(Clone, Copy)]
 pub struct Counts {
     /// Clients that are connected.
