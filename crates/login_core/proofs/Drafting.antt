@@ -13,13 +13,11 @@ use Rattle.login_model.specs.declared.mark.Notice.{Notice}
 use Rattle.login_model.specs.declared.mark.Entry.{Entry}
 use Rattle.device_model.specs.declared.ears.Ear.{Ear}
 use Rattle.login_core.specs.declared.board.Reach.{Reach}
-use Rattle.login_core.specs.declared.board.seating.Seating.{Seating}
 use Rattle.login_laws.specs.Amounts.{Keys, Marks, OfOthers, OfTaken, Part, counts_in, keys_in, new_in, part}
 use Rattle.login_core.specs.State.{keys_of}
 use Rattle.login_core.specs.declared.board.keys.KeyRoom.{KeyRoom}
 use Rattle.login_core.specs.inner.Facts.{Tables, StandFor, table}
 use Rattle.login_table.specs.Home.{home}
-use Rattle.login_core.specs.inner.Seating.{AreSeated}
 use Rattle.login_core.specs.inner.UnderWay.{so_far}
 use Rattle.login_core.specs.inner.Draft.{DraftState, Fits, IsDraft, all_keys, tell, with_ears, with_keys, with_trail}
 use Rattle.login_laws.proofs.JournalLaws.{length-after}
@@ -105,10 +103,10 @@ room-inside es ms f reach d v h =
     let r = ap (λ (w : DraftState). w.reach) v in
     omega arith
 
-pub draft-more : (es : List Entry) (marks new : Room Mark) (facts tables : Tables) (seating seats : Seating) (made : ℕ) (reach : Reach) (x : Mark) → IsDraft (so_far es marks.items) marks facts seating made reach → length (so_far es marks.items) + 1 ≤ reach.entry
+pub draft-more : (es : List Entry) (marks new : Room Mark) (facts tables : Tables) (made : ℕ) (reach : Reach) (x : Mark) → IsDraft (so_far es marks.items) marks facts made reach → length (so_far es marks.items) + 1 ≤ reach.entry
     → new.items ≡ marks.items ++ x ∷ [] → marks.spare ≤ new.spare + 1 → facts.spare ≤ tables.spare + 1 → StandFor tables (x ∷ so_far es marks.items)
-    → AreSeated seats (x ∷ so_far es marks.items) → IsDraft (so_far es new.items) new tables seats (made + 1) reach
-draft-more es marks new facts tables seating seats made reach x d room e m f s p =
+    → IsDraft (so_far es new.items) new tables (made + 1) reach
+draft-more es marks new facts tables made reach x d room e m f s =
     let u = more es marks.items new.items x e in
     let n : length (so_far es new.items) ≡ length (so_far es marks.items) + 1 = ap length u ∙ sym (add-one (length (so_far es marks.items))) in
     let counted = d.counted in
@@ -117,7 +115,6 @@ draft-more es marks new facts tables seating seats made reach x d room e m f s p
     let far = d.far_enough in
     record {
       stands = subst (StandFor tables) (sym u) s;
-      seated = subst (AreSeated seats) (sym u) p;
       counted = omega arith;
       marks_fit = omega arith;
       facts_fit = omega arith;
@@ -153,9 +150,9 @@ pub record ClosesBehind (before old new : List Entry) (e : Entry) (marks blank :
 pub closed-trail : (before old new : List Entry) (e : Entry) (marks blank : Room Mark) → ClosesBehind before old new e marks blank → so_far new blank.items ≡ so_far before marks.items
 closed-trail before old new e marks blank b = closed old new e marks.items blank.items b.entry b.blank_is b.marks_are ∙ sym (so_far-same before old marks.items b.behind)
 
-pub draft-closed : (before old new : List Entry) (e : Entry) (marks blank : Room Mark) (facts : Tables) (seating : Seating) (made : ℕ) (reach : Reach) → IsDraft (so_far before marks.items) marks facts seating made reach
-    → ClosesBehind before old new e marks blank → IsDraft (so_far new blank.items) blank facts seating made (record reach { entry = made })
-draft-closed before old new e marks blank facts seating made reach d b =
+pub draft-closed : (before old new : List Entry) (e : Entry) (marks blank : Room Mark) (facts : Tables) (made : ℕ) (reach : Reach) → IsDraft (so_far before marks.items) marks facts made reach
+    → ClosesBehind before old new e marks blank → IsDraft (so_far new blank.items) blank facts made (record reach { entry = made })
+draft-closed before old new e marks blank facts made reach d b =
     let t = closed-trail before old new e marks blank b in
     let n = ap length t in
     let counted = d.counted in
@@ -163,7 +160,6 @@ draft-closed before old new e marks blank facts seating made reach d b =
     let far = d.far_enough in
     record {
       stands = subst (StandFor facts) (sym t) d.stands;
-      seated = subst (AreSeated seating) (sym t) d.seated;
       counted = omega arith;
       marks_fit = omega arith;
       facts_fit = d.facts_fit;
@@ -187,15 +183,14 @@ none-made es ms f reach d v e =
     none (x ∷ xs) z = absurd (omega arith)
 
 -- a list that is no narrower than the entry's marks may want
-pub draft-changed : (es : List Entry) (marks new : Room Mark) (facts : Tables) (seating : Seating) (made : ℕ) (reach : Reach) (entry : ℕ) → IsDraft (so_far es marks.items) marks facts seating made reach → new.items ≡ marks.items
-    → made ≤ entry → entry ≤ made + new.spare → entry ≤ reach.all → IsDraft (so_far es new.items) new facts seating made (record reach { entry = entry })
-draft-changed es marks new facts seating made reach entry d e within fit far =
+pub draft-changed : (es : List Entry) (marks new : Room Mark) (facts : Tables) (made : ℕ) (reach : Reach) (entry : ℕ) → IsDraft (so_far es marks.items) marks facts made reach → new.items ≡ marks.items
+    → made ≤ entry → entry ≤ made + new.spare → entry ≤ reach.all → IsDraft (so_far es new.items) new facts made (record reach { entry = entry })
+draft-changed es marks new facts made reach entry d e within fit far =
     let t = ap (so_far es) e in
     let n = ap length t in
     let counted = d.counted in
     record {
       stands = subst (StandFor facts) (sym t) d.stands;
-      seated = subst (AreSeated seating) (sym t) d.seated;
       counted = omega arith;
       marks_fit = fit;
       facts_fit = d.facts_fit;

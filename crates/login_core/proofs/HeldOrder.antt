@@ -1,9 +1,8 @@
--- The order of what connections have, and rows that ascend in it.
+-- The order of what some have, and rows that ascend in it.
 use Rattle.std.proofs.Common.{◌≡◌, ℕ, zero, suc, ◌==◌, ◌&&◌, ◌||◌, nat_lt, not, ◌<◌, ◌≤◌, ◌-◌, Bool, true, false, cond, Option, Some, None, List, [], ◌∷◌, ◌++◌, length, get_or, take, drop, filter, refl, ap, sym, ◌∙◌, subst, arith, inl, inr}
 use Rattle.std.specs.List.Sorted.{IsPartitionedBy, IsPartitionPoint}
 use Rattle.std.proofs.lemmas.Bool.Decides.{nat_tests}
 use Rattle.login_base.specs.declared.ids.SessId.{SessId}
-use Rattle.login_base.specs.declared.ids.ConnId.{ConnId}
 use Rattle.login_base.specs.declared.ids.HandleNo.{HandleNo}
 use Rattle.login_base.specs.declared.ids.LockNo.{LockNo}
 use Rattle.login_model.specs.Kind.{IsOrder}
@@ -12,22 +11,22 @@ use Rattle.login_model.proofs.InOrder.{Ascending, IsIn}
 use Rattle.login_model.proofs.Keys.{test}
 use Rattle.login_model.proofs.NameLaws.{seat_order}
 use Rattle.login_core.specs.declared.board.holding.Thing.{Thing}
-use Rattle.login_core.specs.declared.board.holding.Thing.TheVariants.{Session, Lock, Fifo}
+use Rattle.login_core.specs.declared.board.holding.Thing.TheVariants.{Session, Lock, Fifo, Placed}
 use Rattle.login_core.specs.declared.board.holding.Holding.{Holding}
-use Rattle.login_core.specs.inner.Holding.{HoldingsAscend, holding_lt, is_other, is_passed, is_such, is_within, number, rank, turn}
+use Rattle.login_core.specs.inner.Holding.{HoldingsAscend, holding_lt, is_in_front, is_lower, is_other, is_passed, is_such, is_within, number, rank, turn}
 
 -- ---- the order
 
 -- as numbers, by which they stand
 abbrev numbers : Holding → List ℕ
-numbers x = x.who.0 ∷ rank x.thing ∷ number x.thing ∷ turn x.thing ∷ []
+numbers x = x.whose ∷ rank x.thing ∷ number x.thing ∷ turn x.thing ∷ []
 
 alone : (a b : ℕ) → nat_lt a b ≡ seat_lt (a ∷ []) (b ∷ [])
 alone a b = grind (arith, nat_tests)
 
 by-numbers : (x y : Holding) → holding_lt x y ≡ seat_lt (numbers x) (numbers y)
 by-numbers x y =
-    ap (λ (b : Bool). nat_lt x.who.0 y.who.0 || ((x.who.0 == y.who.0)
+    ap (λ (b : Bool). nat_lt x.whose y.whose || ((x.whose == y.whose)
     && (nat_lt (rank x.thing) (rank y.thing) || ((rank x.thing == rank y.thing)
     && (nat_lt (number x.thing) (number y.thing) || ((number x.thing == number y.thing) && b))))))
     (alone (turn x.thing) (turn y.thing))
@@ -51,11 +50,18 @@ thing-one (Lock l) (Fifo s h) p n t = absurd (omega arith)
 thing-one (Fifo s h) (Session r) p n t = absurd (omega arith)
 thing-one (Fifo s h) (Lock l) p n t = absurd (omega arith)
 thing-one (Fifo s g) (Fifo r h) p n t = ap (λ (q : SessId). Fifo q g) (session-one s r n) ∙ ap (Fifo r) (handle-one g h t)
+thing-one (Placed a s) (Placed b r) p n t = ap (λ (q : ℕ). Placed q s) n ∙ ap (Placed b) (session-one s r t)
+thing-one (Placed a s) (Session r) p n t = absurd (omega arith)
+thing-one (Placed a s) (Lock l) p n t = absurd (omega arith)
+thing-one (Placed a s) (Fifo r h) p n t = absurd (omega arith)
+thing-one (Session s) (Placed b r) p n t = absurd (omega arith)
+thing-one (Lock l) (Placed b r) p n t = absurd (omega arith)
+thing-one (Fifo s h) (Placed b r) p n t = absurd (omega arith)
 
-pub holding-one : (x y : Holding) → x.who.0 ≡ y.who.0 → x.thing ≡ y.thing → x ≡ y
+pub holding-one : (x y : Holding) → x.whose ≡ y.whose → x.thing ≡ y.thing → x ≡ y
 holding-one x y w t =
-    ap (λ (n : ℕ). let c : ConnId = record { 0 = n } in let z : Holding = record { who = c; thing = x.thing } in z) w
-    ∙ ap (λ (a : Thing). let z : Holding = record { who = y.who; thing = a } in z) t
+    ap (λ (n : ℕ). let z : Holding = record { whose = n; thing = x.thing } in z) w
+    ∙ ap (λ (a : Thing). let z : Holding = record { whose = y.whose; thing = a } in z) t
 
 from-numbers : (x y : Holding) → numbers x ≡ numbers y → x ≡ y
 from-numbers x y e =
@@ -217,22 +223,22 @@ filter-stays x (y ∷ ys) (suc i) d a e n =
     ap (λ (zs : List Holding). y ∷ zs) (filter-stays x ys i d a.1 (others-in p y ys i e) (λ h. n (omega arith)))
     ∙ sym (keep (is_other x) y ys (below-other x y (first-in p y ys i e)))
 
--- ---- what one connection has of a kind
+-- ---- what one has of a kind
 
 -- it is between what is passed and what is behind
-is-between : (c : ConnId) (p : ℕ) (above : Option ℕ) (x : Holding) → is_such c p above x ≡ (not (is_passed c p above x) && is_within c p x)
+is-between : (c : ℕ) (p : ℕ) (above : Option ℕ) (x : Holding) → is_such c p above x ≡ (not (is_passed c p above x) && is_within c p x)
 is-between c p None x = grind (arith, nat_tests)
 is-between c p (Some n) x = grind (arith, nat_tests)
 
-pub passed-within : (c : ConnId) (p : ℕ) (above : Option ℕ) (x : Holding) → is_passed c p above x ≡ true → is_within c p x ≡ true
+pub passed-within : (c : ℕ) (p : ℕ) (above : Option ℕ) (x : Holding) → is_passed c p above x ≡ true → is_within c p x ≡ true
 passed-within c p None x h = grind (arith, nat_tests)
 passed-within c p (Some n) x h = grind (arith, nat_tests)
 
-pub passed-down : (c : ConnId) (p : ℕ) (above : Option ℕ) (x y : Holding) → holding_lt x y ≡ true → is_passed c p above y ≡ true → is_passed c p above x ≡ true
+pub passed-down : (c : ℕ) (p : ℕ) (above : Option ℕ) (x y : Holding) → holding_lt x y ≡ true → is_passed c p above y ≡ true → is_passed c p above x ≡ true
 passed-down c p None x y l h = grind (arith, nat_tests)
 passed-down c p (Some n) x y l h = grind (arith, nat_tests)
 
-pub within-down : (c : ConnId) (p : ℕ) (x y : Holding) → holding_lt x y ≡ true → is_within c p y ≡ true → is_within c p x ≡ true
+pub within-down : (c : ℕ) (p : ℕ) (x y : Holding) → holding_lt x y ≡ true → is_within c p y ≡ true → is_within c p x ≡ true
 within-down c p x y l h = grind (arith, nat_tests)
 
 and-first : (a b : Bool) → a ≡ true → (not a && b) ≡ false
@@ -276,9 +282,26 @@ module _ {A : Type 0} (p q r : A → Bool) (f : (x : A) → r x ≡ (not (p x) &
   points-ascend (x ∷ xs) (suc i) zero l e h = absurd (not-so (g x (first-in p x xs i e)) (first-out q x xs h))
   points-ascend (x ∷ xs) (suc i) (suc j) l e h = (let n = points-ascend xs i j (omega arith) (others-in p x xs i e) (others-in q x xs j h) in omega arith)
 
-pub such-between : (c : ConnId) (p : ℕ) (above : Option ℕ) (xs : List Holding) (i j : ℕ) → i ≤ length xs → j ≤ length xs → Point (is_passed c p above) xs i → Point (is_within c p) xs j
+pub such-between : (c : ℕ) (p : ℕ) (above : Option ℕ) (xs : List Holding) (i j : ℕ) → i ≤ length xs → j ≤ length xs → Point (is_passed c p above) xs i → Point (is_within c p) xs j
     → take (j - i) (drop i xs) ≡ filter (is_such c p above) xs
 such-between c p above = between (is_passed c p above) (is_within c p) (is_such c p above) (is-between c p above) (passed-within c p above)
 
-pub such-ascend : (c : ConnId) (p : ℕ) (above : Option ℕ) (xs : List Holding) (i j : ℕ) → i ≤ length xs → Point (is_passed c p above) xs i → Point (is_within c p) xs j → i ≤ j
+pub such-ascend : (c : ℕ) (p : ℕ) (above : Option ℕ) (xs : List Holding) (i j : ℕ) → i ≤ length xs → Point (is_passed c p above) xs i → Point (is_within c p) xs j → i ≤ j
 such-ascend c p above = points-ascend (is_passed c p above) (is_within c p) (is_such c p above) (is-between c p above) (passed-within c p above)
+
+-- and below a number
+is-lower-between : (c : ℕ) (p from : ℕ) (x : Holding) → is_lower c p (Some from) x ≡ (not (is_passed c p None x) && is_in_front c p from x)
+is-lower-between c p from x = grind (arith, nat_tests)
+
+front-within : (c : ℕ) (p from : ℕ) (x : Holding) → is_passed c p None x ≡ true → is_in_front c p from x ≡ true
+front-within c p from x h = grind (arith, nat_tests)
+
+pub front-down : (c : ℕ) (p from : ℕ) (x y : Holding) → holding_lt x y ≡ true → is_in_front c p from y ≡ true → is_in_front c p from x ≡ true
+front-down c p from x y l h = grind (arith, nat_tests)
+
+pub lower-between : (c : ℕ) (p from : ℕ) (xs : List Holding) (i j : ℕ) → i ≤ length xs → j ≤ length xs → Point (is_passed c p None) xs i → Point (is_in_front c p from) xs j
+    → take (j - i) (drop i xs) ≡ filter (is_lower c p (Some from)) xs
+lower-between c p from = between (is_passed c p None) (is_in_front c p from) (is_lower c p (Some from)) (is-lower-between c p from) (front-within c p from)
+
+pub lower-ascend : (c : ℕ) (p from : ℕ) (xs : List Holding) (i j : ℕ) → i ≤ length xs → Point (is_passed c p None) xs i → Point (is_in_front c p from) xs j → i ≤ j
+lower-ascend c p from = points-ascend (is_passed c p None) (is_in_front c p from) (is_lower c p (Some from)) (is-lower-between c p from) (front-within c p from)

@@ -12,12 +12,11 @@ pub mod OwedTold
 pub mod OwedLaws
 pub mod OwedShares
 pub mod ConcernLaws
-pub mod TallyLaws
-pub mod SeatedLaws
-pub mod ArrivalLaws
 pub mod HeldOrder
 pub mod HeldRows
+pub mod Hashes
 pub mod HeldNext
+pub mod HeldSessions
 pub mod HomeLaws
 pub mod Welcomed
 pub mod TakerRows
@@ -51,8 +50,7 @@ pub mod ShutLaws
 pub mod DeviceFacts
 pub mod NearestPlace
 pub mod SeatPlaces
-pub mod TerminalPlaces
-pub mod ArrivalPlaces
+pub mod HeldPlaces
 pub mod Turned
 pub mod Filling
 pub mod TextsClose

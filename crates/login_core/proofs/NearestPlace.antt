@@ -1,5 +1,5 @@
--- The nearest of some places, either way, among all and in an ascending list.
-use Rattle.std.proofs.Common.{◌≡◌, ◌&&◌, ℕ, nat_lt, Bool, true, false, cond, Option, Some, None, List, [], ◌∷◌, refl, ap, sym, ◌∙◌, inl, inr}
+-- The nearest of some places, either way, and in an ascending list.
+use Rattle.std.proofs.Common.{◌≡◌, ℕ, nat_lt, Bool, true, false, cond, Option, Some, None, List, [], ◌∷◌, refl, ap, sym, ◌∙◌, inl, inr}
 use Rattle.std.specs.Option.{option_or}
 use Rattle.login_model.specs.Kind.{IsOrder}
 use Rattle.login_model.specs.Names.{is_above}
@@ -9,8 +9,7 @@ use Rattle.login_model.proofs.NameLaws.{number_order}
 use Rattle.login_model.proofs.InOrder.{IsIn, Ascending}
 use Rattle.login_core.specs.declared.turning.Way.{Way}
 use Rattle.login_core.specs.declared.turning.Way.TheVariants.{Next, Previous}
-use Rattle.login_table.specs.Nearest.{is_lower}
-use Rattle.login_core.specs.inner.Places.{is_before, behind, nearer_place}
+use Rattle.login_core.specs.inner.Places.{is_before, behind}
 
 -- places in their order, either way
 pub way-order : (w : Way) → IsOrder (is_before w)
@@ -39,46 +38,6 @@ skip : (lt : ℕ → ℕ → Bool) (xs : List ℕ) (above r : Option ℕ) (x : �
 skip lt xs above None x e h = λ a i f. elim i [ inl p ↦ not-both (is_above lt above x) (sym (ap (is_above lt above) p) ∙ f) e | inr j ↦ h a j f ]
 skip lt xs above (Some n) x e h =
     (inr h.0, h.1, λ a i f. elim i [ inl p ↦ absurd (not-both (is_above lt above x) (sym (ap (is_above lt above) p) ∙ f) e) | inr j ↦ h.2 a j f ])
-
--- one that is takes the place of none
-only : (lt : ℕ → ℕ → Bool) (o : IsOrder lt) (xs : List ℕ) (above : Option ℕ) (x : ℕ) → is_above lt above x ≡ true → IsNearest lt xs above None → IsNearest lt (x ∷ xs) above (Some x)
-only lt o xs above x e h = (inl refl, e, λ a i f. elim i [ inl p ↦ self-not lt o a x p | inr j ↦ absurd (h a j f) ])
-
--- and of a farther one
-take-over : (lt : ℕ → ℕ → Bool) (o : IsOrder lt) (xs : List ℕ) (above : Option ℕ) (x n : ℕ) → is_above lt above x ≡ true → lt x n ≡ true → IsNearest lt xs above (Some n) → IsNearest lt (x ∷ xs) above (Some x)
-take-over lt o xs above x n e l h = (
-  inl refl,
-  e,
-  λ a i f. elim i [
-    | inl p ↦ self-not lt o a x p
-    | inr j ↦ elim (test (lt a x)) [
-      | inl y ↦ absurd (not-both (lt a n) (o.transitive a x n y l) (h.2 a j f))
-      | inr z ↦ z
-    ]
-  ],
-)
-
--- and not of one that is as near
-stay : (lt : ℕ → ℕ → Bool) (xs : List ℕ) (above : Option ℕ) (x n : ℕ) → lt x n ≡ false → IsNearest lt xs above (Some n) → IsNearest lt (x ∷ xs) above (Some n)
-stay lt xs above x n l h = (inr h.0, h.1, λ a i f. elim i [ inl p ↦ ap (λ (z : ℕ). lt z n) p ∙ l | inr j ↦ h.2 a j f ])
-
-step-by : (lt : ℕ → ℕ → Bool) (o : IsOrder lt) (xs : List ℕ) (above best : Option ℕ) (x : ℕ) (b c : Bool) → is_above lt above x ≡ b → is_lower lt x best ≡ c → IsNearest lt xs above best
-    → IsNearest lt (x ∷ xs) above (cond (b && c) (Some x) best)
-step-by lt o xs above best x false c e l h = skip lt xs above best x e h
-step-by lt o xs above None x true true e l h = only lt o xs above x e h
-step-by lt o xs above None x true false e l h = absurd (not-both true refl l)
-step-by lt o xs above (Some n) x true true e l h = take-over lt o xs above x n e l h
-step-by lt o xs above (Some n) x true false e l h = stay lt xs above x n l h
-
--- the nearer of the nearest so far and one more is the nearest
-pub nearer-nearest : (w : Way) (xs : List ℕ) (above best : Option ℕ) (x : ℕ) → IsNearest (is_before w) xs above best → IsNearest (is_before w) (x ∷ xs) above (nearer_place w above x best)
-nearer-nearest w xs above best x h =
-    step-by (is_before w) (way-order w) xs above best x (is_above (is_before w) above x) (is_lower (is_before w) x best) refl refl h
-
--- it is that of the same places in another order
-pub nearest-same : (lt : ℕ → ℕ → Bool) (xs ys : List ℕ) (above r : Option ℕ) → ((a : ℕ) → IsIn a xs → IsIn a ys) → ((a : ℕ) → IsIn a ys → IsIn a xs) → IsNearest lt xs above r → IsNearest lt ys above r
-nearest-same lt xs ys above None f g h = λ a i e. h a (g a i) e
-nearest-same lt xs ys above (Some n) f g h = (f n h.0, h.1, λ a i e. h.2 a (g a i) e)
 
 -- there is one at most
 pub nearest-one : (lt : ℕ → ℕ → Bool) (o : IsOrder lt) (xs : List ℕ) (above r s : Option ℕ) → IsNearest lt xs above r → IsNearest lt xs above s → r ≡ s
@@ -113,8 +72,3 @@ behind-nearest Next None (x ∷ xs) a = first-more nat_lt number_order x xs None
 behind-nearest Next (Some p) (x ∷ xs) a = first-more nat_lt number_order x xs (Some p) (first_above nat_lt p xs) (nat_lt p x) refl a (behind-nearest Next (Some p) xs a.1)
 behind-nearest Previous None (x ∷ xs) a = last-more nat_lt number_order x xs None (last_of xs) true refl a (behind-nearest Previous None xs a.1)
 behind-nearest Previous (Some p) (x ∷ xs) a = last-more nat_lt number_order x xs (Some p) (last_below nat_lt p xs) (nat_lt x p) refl a (behind-nearest Previous (Some p) xs a.1)
-
--- so the nearest of the same places is the one that is found in the list
-pub nearest-behind : (w : Way) (above r : Option ℕ) (xs ys : List ℕ) → Ascending nat_lt ys → ((a : ℕ) → IsIn a xs → IsIn a ys) → ((a : ℕ) → IsIn a ys → IsIn a xs) → IsNearest (is_before w) xs above r → r ≡ behind w above ys
-nearest-behind w above r xs ys asc f g h =
-    nearest-one (is_before w) (way-order w) ys above r (behind w above ys) (nearest-same (is_before w) xs ys above r f g h) (behind-nearest w above ys asc)

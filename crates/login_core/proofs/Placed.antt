@@ -11,10 +11,9 @@ use Rattle.device_model.specs.declared.ears.Ear.{Ear}
 use Rattle.login_table.specs.declared.home.Home.{Home}
 use Rattle.login_table.specs.declared.home.Home.TheVariants.{Users, Sessions, Seats, Devices, Controls, Takes, Locks, Power}
 use Rattle.login_core.specs.declared.room.counts.Counts.{Counts}
-use Rattle.login_core.specs.declared.board.holding.Holding.{Holding}
 use Rattle.login_core.specs.declared.board.keys.KeyRoom.{KeyRoom}
 use Rattle.login_core.specs.inner.Counts.{Follow, counts_of}
-use Rattle.login_core.specs.inner.Holding.{AreHeld}
+use Rattle.login_core.specs.inner.Holding.{AreHeld, Rows}
 use Rattle.login_core.specs.inner.Facts.{Tables, TablesStand, table, gives}
 use Rattle.login_table.specs.Home.{home}
 use Rattle.login_core.proofs.CountedLaws.{counted-set}
@@ -22,7 +21,7 @@ use Rattle.login_core.proofs.Counting.{sessions-set, handles-set, locks-set, ope
 use Rattle.login_core.proofs.HeldRows.{held-set, noted}
 use Rattle.login_core.proofs.HomeLaws.{at-home}
 
--- what a setting makes of the counts, of the numbers and of what connections have
+-- what a setting makes of the counts, of the numbers and of what some have
 pub record Moves (f g : Tables) (k : Key) (x : Fact) (t : Trail) : Type 0 where
   pub counts : Follow f.counts (counts_of k (value t k)) (counts_of k x) g.counts
   pub session : g.session ≡ f.session + opens k x
@@ -100,47 +99,47 @@ stands-placed f g k x h t p m s =
       session = m.session ∙ ap (λ (n : ℕ). n + opens k x) s.session ∙ sym (sessions-set k x t);
       handle = m.handle ∙ ap (λ (n : ℕ). n + gives k x) s.handle ∙ sym (handles-set k x t);
       lock = m.lock ∙ ap (λ (n : ℕ). n + inhibits k x) s.lock ∙ sym (locks-set k x t);
-      held = subst (λ (xs : List Holding). AreHeld xs (Set k x ∷ t)) (sym m.held) (held-set k x t f.held s.held);
+      held = subst (λ (h : Rows). AreHeld h (Set k x ∷ t)) (sym m.held) (held-set k x t f.held s.held);
     }
 
 -- ---- one table after the other
 
-pub but-users : (f : Tables) (rows : Trail) (counts : Counts) (session handle lock : ℕ) (held : List Holding) (spare : ℕ) (fresh : KeyRoom) (i : Home)
+pub but-users : (f : Tables) (rows : Trail) (counts : Counts) (session handle lock : ℕ) (held : Rows) (spare : ℕ) (fresh : KeyRoom) (i : Home)
     → (i ≡ Users) ⊎ (table (record f { users = rows; counts = counts; session = session; handle = handle; lock = lock; held = held; spare = spare; fresh = fresh }) i ≡ table f i)
 but-users f rows counts session handle lock held spare fresh Users = inl refl
 but-users f rows counts session handle lock held spare fresh _ = inr refl
 
-pub but-sessions : (f : Tables) (rows : Trail) (counts : Counts) (session handle lock : ℕ) (held : List Holding) (spare : ℕ) (fresh : KeyRoom) (i : Home)
+pub but-sessions : (f : Tables) (rows : Trail) (counts : Counts) (session handle lock : ℕ) (held : Rows) (spare : ℕ) (fresh : KeyRoom) (i : Home)
     → (i ≡ Sessions) ⊎ (table (record f { sessions = rows; counts = counts; session = session; handle = handle; lock = lock; held = held; spare = spare; fresh = fresh }) i ≡ table f i)
 but-sessions f rows counts session handle lock held spare fresh Sessions = inl refl
 but-sessions f rows counts session handle lock held spare fresh _ = inr refl
 
-pub but-seats : (f : Tables) (rows : Trail) (counts : Counts) (session handle lock : ℕ) (held : List Holding) (spare : ℕ) (fresh : KeyRoom) (i : Home)
+pub but-seats : (f : Tables) (rows : Trail) (counts : Counts) (session handle lock : ℕ) (held : Rows) (spare : ℕ) (fresh : KeyRoom) (i : Home)
     → (i ≡ Seats) ⊎ (table (record f { seats = rows; counts = counts; session = session; handle = handle; lock = lock; held = held; spare = spare; fresh = fresh }) i ≡ table f i)
 but-seats f rows counts session handle lock held spare fresh Seats = inl refl
 but-seats f rows counts session handle lock held spare fresh _ = inr refl
 
-pub but-devices : (f : Tables) (rows : Trail) (ears : List Ear) (rings : ℕ) (counts : Counts) (session handle lock : ℕ) (held : List Holding) (spare : ℕ) (fresh : KeyRoom) (i : Home)
+pub but-devices : (f : Tables) (rows : Trail) (ears : List Ear) (rings : ℕ) (counts : Counts) (session handle lock : ℕ) (held : Rows) (spare : ℕ) (fresh : KeyRoom) (i : Home)
     → (i ≡ Devices) ⊎ (table (record f { devices = rows; ears = ears; rings = rings; counts = counts; session = session; handle = handle; lock = lock; held = held; spare = spare; fresh = fresh }) i ≡ table f i)
 but-devices f rows ears rings counts session handle lock held spare fresh Devices = inl refl
 but-devices f rows ears rings counts session handle lock held spare fresh _ = inr refl
 
-pub but-controls : (f : Tables) (rows : Trail) (counts : Counts) (session handle lock : ℕ) (held : List Holding) (spare : ℕ) (fresh : KeyRoom) (i : Home)
+pub but-controls : (f : Tables) (rows : Trail) (counts : Counts) (session handle lock : ℕ) (held : Rows) (spare : ℕ) (fresh : KeyRoom) (i : Home)
     → (i ≡ Controls) ⊎ (table (record f { controls = rows; counts = counts; session = session; handle = handle; lock = lock; held = held; spare = spare; fresh = fresh }) i ≡ table f i)
 but-controls f rows counts session handle lock held spare fresh Controls = inl refl
 but-controls f rows counts session handle lock held spare fresh _ = inr refl
 
-pub but-takes : (f : Tables) (rows : Trail) (counts : Counts) (session handle lock : ℕ) (held : List Holding) (spare : ℕ) (fresh : KeyRoom) (i : Home)
+pub but-takes : (f : Tables) (rows : Trail) (counts : Counts) (session handle lock : ℕ) (held : Rows) (spare : ℕ) (fresh : KeyRoom) (i : Home)
     → (i ≡ Takes) ⊎ (table (record f { takes = rows; counts = counts; session = session; handle = handle; lock = lock; held = held; spare = spare; fresh = fresh }) i ≡ table f i)
 but-takes f rows counts session handle lock held spare fresh Takes = inl refl
 but-takes f rows counts session handle lock held spare fresh _ = inr refl
 
-pub but-locks : (f : Tables) (rows : Trail) (counts : Counts) (session handle lock : ℕ) (held : List Holding) (spare : ℕ) (fresh : KeyRoom) (i : Home)
+pub but-locks : (f : Tables) (rows : Trail) (counts : Counts) (session handle lock : ℕ) (held : Rows) (spare : ℕ) (fresh : KeyRoom) (i : Home)
     → (i ≡ Locks) ⊎ (table (record f { locks = rows; counts = counts; session = session; handle = handle; lock = lock; held = held; spare = spare; fresh = fresh }) i ≡ table f i)
 but-locks f rows counts session handle lock held spare fresh Locks = inl refl
 but-locks f rows counts session handle lock held spare fresh _ = inr refl
 
-pub but-power : (f : Tables) (rows : Trail) (counts : Counts) (session handle lock : ℕ) (held : List Holding) (spare : ℕ) (fresh : KeyRoom) (i : Home)
+pub but-power : (f : Tables) (rows : Trail) (counts : Counts) (session handle lock : ℕ) (held : Rows) (spare : ℕ) (fresh : KeyRoom) (i : Home)
     → (i ≡ Power) ⊎ (table (record f { power = rows; counts = counts; session = session; handle = handle; lock = lock; held = held; spare = spare; fresh = fresh }) i ≡ table f i)
 but-power f rows counts session handle lock held spare fresh Power = inl refl
 but-power f rows counts session handle lock held spare fresh _ = inr refl

@@ -12,10 +12,9 @@ use Rattle.login_table.specs.Home.{home}
 use Rattle.login_table.specs.declared.home.Home.{Home}
 use Rattle.login_table.specs.declared.home.Home.TheVariants.{Users, Sessions, Seats, Devices, Controls, Takes, Locks, Power}
 use Rattle.login_table.proofs.Appending.{after-more}
-use Rattle.login_core.specs.declared.board.holding.Holding.{Holding}
 use Rattle.login_core.specs.declared.room.counts.Counts.{Counts}
 use Rattle.login_core.specs.inner.Counts.{AreCounted}
-use Rattle.login_core.specs.inner.Holding.{AreHeld}
+use Rattle.login_core.specs.inner.Holding.{AreHeld, Rows}
 use Rattle.login_core.specs.declared.board.keys.KeyRoom.{KeyRoom}
 use Rattle.login_core.specs.declared.board.owing.Owing.{Owing}
 use Rattle.login_core.specs.inner.Dues.{AreOwed}
@@ -71,7 +70,7 @@ tables-roomy f g t s a b c d e i j k counts session handle lock held = record {
   session = session ∙ s.session;
   handle = handle ∙ s.handle;
   lock = lock ∙ s.lock;
-  held = (let P : List Holding → Type 0 = λ xs. AreHeld xs t in subst P (sym held) s.held);
+  held = (let P : Rows → Type 0 = λ h. AreHeld h t in subst P (sym held) s.held);
 }
 
 -- a notice changes no fact

@@ -7,7 +7,7 @@ use Rattle.login_laws.proofs.JournalLaws.{length-after}
 use Rattle.login_laws.proofs.LeftHandles.{handles-are-left}
 use Rattle.login_laws.specs.Sound.{Awaits}
 use Rattle.login_model.specs.Legal.{trail_of}
-use Rattle.login_model.specs.Trail.{Trail, after, value, was_set}
+use Rattle.login_model.specs.Trail.{Trail, after, was_set}
 use Rattle.login_model.specs.declared.fact.Fact.{Fact}
 use Rattle.login_model.specs.declared.fact.Key.{Key}
 use Rattle.login_model.specs.declared.mark.Entry.{Entry}
@@ -19,7 +19,6 @@ use Rattle.login_table.specs.Appended.{Appends, HasRoom, LeavesRoom, SetsPlain}
 use Rattle.switch_core.specs.Handles.{HandlesLeft, IsNumbered}
 use Rattle.device_model.specs.declared.ears.Ear.{Ear}
 use Rattle.login_core.specs.declared.board.Reach.{Reach}
-use Rattle.login_core.specs.declared.board.seating.Seating.{Seating}
 use Rattle.login_core.specs.inner.Draft.{DraftState, Fits, IsDraft, all_keys, marked_by, with_ears, with_keys, with_trail}
 use Rattle.login_laws.specs.Amounts.{Keys, Marks, Part, keys_in, new_in, part}
 use Rattle.login_laws.proofs.Widens.{Widens, say-widens, set-widens, widens-refl, widens-trans}
@@ -27,37 +26,31 @@ use Rattle.login_table.specs.Home.{home}
 use Rattle.login_core.specs.State.{keys_of}
 use Rattle.login_core.specs.declared.board.keys.KeyRoom.{KeyRoom}
 use Rattle.login_core.specs.inner.Facts.{Tables, StandFor, StandsForFew, table}
-use Rattle.login_core.specs.inner.Seating.{AreSeated, CanSeat, Seats}
 use Rattle.login_core.specs.inner.TakingOver.{CanTakeOver, TakesOver}
 use Rattle.login_core.specs.inner.UnderWay.{so_far}
 use Rattle.login_core.proofs.Counting.{handles-bound}
 use Rattle.login_core.proofs.Drafting.{keys-say, keys-set, new-here, new-room, part-keys, same-keys, seen}
 use Rattle.login_core.proofs.Standing.{stand-say}
-use Rattle.login_core.proofs.TallyLaws.{seated-noted, seated-room, seated-say}
 
 -- ---- one mark
 
-pub can-set : (f : Tables) (s : Seating) (m : Mark) (k : Key) (x : Fact) → m ≡ Set k x → CanTakeOver f s (m ∷ []) → CanTakeOver f s (Set k x ∷ [])
-can-set f s m k x e c = subst (λ (n : Mark). CanTakeOver f s (n ∷ [])) e c
+pub can-set : (f : Tables) (m : Mark) (k : Key) (x : Fact) → m ≡ Set k x → CanTakeOver f (m ∷ []) → CanTakeOver f (Set k x ∷ [])
+can-set f m k x e c = subst (λ (n : Mark). CanTakeOver f (n ∷ [])) e c
 
-pub can-note : (f : Tables) (s : Seating) (m : Mark) (k : Key) (x y : Fact) → CanTakeOver f s (m ∷ []) → ((t : Trail) → StandFor f t → y ≡ value t k) → CanSeat s k y x
-can-note f s m k x y c e = let few = c.few in seated-room s k x y c.trail c.seated (e c.trail c.stands) (omega arith)
+pub can-few : (f : Tables) (m : Mark) → CanTakeOver f (m ∷ []) → StandsForFew StandFor f
+can-few f m c = let few = c.few in record { marks = c.trail; stand = c.stands; few = omega arith }
 
-pub can-few : (f : Tables) (s : Seating) (m : Mark) → CanTakeOver f s (m ∷ []) → StandsForFew StandFor f
-can-few f s m c = let few = c.few in record { marks = c.trail; stand = c.stands; few = omega arith }
-
-pub can-fresh : (f : Tables) (s : Seating) (m : Mark) (k : Key) (x : Fact) → m ≡ Set k x → CanTakeOver f s (m ∷ []) → was_set (table f (home k)) k ≡ false → 0 < keys_of (part k) f.fresh
-can-fresh f s m k x e c new =
-    let d = can-set f s m k x e c in
+pub can-fresh : (f : Tables) (m : Mark) (k : Key) (x : Fact) → m ≡ Set k x → CanTakeOver f (m ∷ []) → was_set (table f (home k)) k ≡ false → 0 < keys_of (part k) f.fresh
+can-fresh f m k x e c new =
+    let d = can-set f m k x e c in
     new-room f k x d.trail (keys_in (part k) d.trail + keys_of (part k) f.fresh) d.stands (d.keys (part k)) refl new
 
 -- the setting of a fact, which was read before and put in as a copy
-pub takes-set : (f g : Tables) (s u : Seating) (m : Mark) (k : Key) (x y z : Fact) → m ≡ Set k x → z ≡ x → ((t : Trail) → StandFor f t → y ≡ value t k) → ((t : Trail) → StandFor f t → StandFor g (Set k z ∷ t)) → Seats s k y z u
-    → f.spare ≡ g.spare + 1 → ((p : Part) → keys_of p f.fresh ≡ keys_of p g.fresh + new_in p (table f (home k)) k) → g.ears ≡ f.ears → g.rings ≡ f.rings → TakesOver f s (m ∷ []) g u
-takes-set f g s u m k x y z e copy read stands seats spare fresh ears rings =
+pub takes-set : (f g : Tables) (m : Mark) (k : Key) (x z : Fact) → m ≡ Set k x → z ≡ x → ((t : Trail) → StandFor f t → StandFor g (Set k z ∷ t))
+    → f.spare ≡ g.spare + 1 → ((p : Part) → keys_of p f.fresh ≡ keys_of p g.fresh + new_in p (table f (home k)) k) → g.ears ≡ f.ears → g.rings ≡ f.rings → TakesOver f (m ∷ []) g
+takes-set f g m k x z e copy stands spare fresh ears rings =
     record {
       stands = λ t h. subst (λ (n : Mark). StandFor g (n ∷ t)) (ap (Set k) copy ∙ sym e) (stands t h);
-      seated = λ t h a. subst (λ (n : Mark). AreSeated u (n ∷ t)) (sym e) (seated-noted s u k z y x t a (read t h) copy seats);
       spare = omega arith;
       keys = λ t h p. (
           let n = new-here p f t k h in
@@ -70,10 +63,9 @@ takes-set f g s u m k x y z e copy read stands seats spare fresh ears rings =
       rings = rings;
     }
 
-pub takes-say : (f : Tables) (s : Seating) (m : Mark) (w : Whom) (n : Notice) → m ≡ Say w n → TakesOver f s (m ∷ []) f s
-takes-say f s m w n e = record {
+pub takes-say : (f : Tables) (m : Mark) (w : Whom) (n : Notice) → m ≡ Say w n → TakesOver f (m ∷ []) f
+takes-say f m w n e = record {
   stands = λ t h. subst (λ (k : Mark). StandFor f (k ∷ t)) (sym e) (stand-say f t w n h);
-  seated = λ t h a. subst (λ (k : Mark). AreSeated s (k ∷ t)) (sym e) (seated-say s w n t a);
   spare = omega arith;
   keys = λ t h p. (let c = keys-say p w n t in let q = ap (λ (i : Mark). keys_in p (i ∷ t)) e in omega arith);
   ears = refl;
@@ -86,14 +78,13 @@ after-append : (t : Trail) (ms ns : List Mark) → after t (ms ++ ns) ≡ after 
 after-append t [] ns = refl
 after-append t (m ∷ ms) ns = after-append (m ∷ t) ms ns
 
-takes-both : (f g h : Tables) (s u v : Seating) (ms ns : List Mark) → TakesOver f s ms g u → TakesOver g u ns h v → TakesOver f s (ms ++ ns) h v
-takes-both f g h s u v ms ns a b =
+takes-both : (f g h : Tables) (ms ns : List Mark) → TakesOver f ms g → TakesOver g ns h → TakesOver f (ms ++ ns) h
+takes-both f g h ms ns a b =
     let one = a.spare in
     let two = b.spare in
     let more = length-append ms ns in
     record {
       stands = λ t w. subst (StandFor h) (sym (after-append t ms ns)) (b.stands (after t ms) (a.stands t w));
-      seated = λ t w i. subst (AreSeated v) (sym (after-append t ms ns)) (b.seated (after t ms) (a.stands t w) (a.seated t w i));
       spare = omega arith;
       keys = λ t w p. (
           let one = a.keys t w p in
@@ -106,10 +97,10 @@ takes-both f g h s u v ms ns a b =
     }
 
 -- with one mark more
-pub takes-more : (f g h : Tables) (s u v : Seating) (ms : List Mark) (i : ℕ) (m : Mark) → i < length ms → m ≡ get_or ms i m → TakesOver f s (take i ms) g u → TakesOver g u (m ∷ []) h v → TakesOver f s (take (i + 1) ms) h v
-takes-more f g h s u v ms i m l e a b =
+pub takes-more : (f g h : Tables) (ms : List Mark) (i : ℕ) (m : Mark) → i < length ms → m ≡ get_or ms i m → TakesOver f (take i ms) g → TakesOver g (m ∷ []) h → TakesOver f (take (i + 1) ms) h
+takes-more f g h ms i m l e a b =
     let is : take (i + 1) ms ≡ take i ms ++ m ∷ [] = take_more ms i m l ∙ ap (λ (x : Mark). take i ms ++ x ∷ []) (sym e) in
-    subst (λ (ns : List Mark). TakesOver f s ns h v) (sym is) (takes-both f g h s u v (take i ms) (m ∷ []) a b)
+    subst (λ (ns : List Mark). TakesOver f ns h) (sym is) (takes-both f g h (take i ms) (m ∷ []) a b)
 
 plain-at : (ms : List Mark) (i : ℕ) (m : Mark) → i < length ms → m ≡ get_or ms i m → AllByRecursion SetsPlain ms → SetsPlain m
 plain-at [] i m l e p = absurd (omega arith)
@@ -137,8 +128,8 @@ keys-next p t (x ∷ xs) zero m l e = (let q = ap (λ (n : Mark). keys_in p (n �
 keys-next p t (x ∷ xs) (suc i) m l e = keys-next p (x ∷ t) xs i m (omega arith) e
 
 -- the next one can be put in
-pub can-next : (f g : Tables) (s u : Seating) (ms : List Mark) (i : ℕ) (m : Mark) → i < length ms → m ≡ get_or ms i m → CanTakeOver f s ms → TakesOver f s (take i ms) g u → CanTakeOver g u (m ∷ [])
-can-next f g s u ms i m l e c a =
+pub can-next : (f g : Tables) (ms : List Mark) (i : ℕ) (m : Mark) → i < length ms → m ≡ get_or ms i m → CanTakeOver f ms → TakesOver f (take i ms) g → CanTakeOver g (m ∷ [])
+can-next f g ms i m l e c a =
     let n = taken ms i (omega arith) in
     let longer = length-after c.trail (take i ms) in
     let few = c.few in
@@ -147,7 +138,6 @@ can-next f g s u ms i m l e c a =
     record {
       trail = after c.trail (take i ms);
       stands = a.stands c.trail c.stands;
-      seated = a.seated c.trail c.stands c.seated;
       few = omega arith;
       spare = omega arith;
       keys = λ p. (let b = keys-next p c.trail ms i m l e in let d = a.keys c.trail c.stands p in let all = c.keys p in omega arith);
@@ -157,8 +147,8 @@ can-next f g s u ms i m l e c a =
 -- ---- the draft goes on behind what was put at the end of its list
 
 -- a procedure has put its marks at the end of the list of a draft, for which there was room
-pub record HasMore (f : Trail → Trail) (es : List Entry) (marks new : Room Mark) (facts : Tables) (seating : Seating) (made : ℕ) (reach : Reach) (d : DraftState) : Type 0 where
-  pub draft : IsDraft (so_far es marks.items) marks facts seating made reach
+pub record HasMore (f : Trail → Trail) (es : List Entry) (marks new : Room Mark) (facts : Tables) (made : ℕ) (reach : Reach) (d : DraftState) : Type 0 where
+  pub draft : IsDraft (so_far es marks.items) marks facts made reach
   pub view : seen es marks.items facts reach ≡ d
   pub room : Fits f d
   pub appends : Appends f (so_far es marks.items) marks.items new.items
@@ -172,9 +162,9 @@ fits-inside f es ms facts reach d v h =
     omega arith
 
 -- the list has room for the marks of the procedure
-pub has-room : (f : Trail → Trail) (es : List Entry) (marks : Room Mark) (facts : Tables) (seating : Seating) (made : ℕ) (reach : Reach) (d : DraftState) (t : Trail) → IsDraft (so_far es marks.items) marks facts seating made reach → seen es marks.items facts reach ≡ d
+pub has-room : (f : Trail → Trail) (es : List Entry) (marks : Room Mark) (facts : Tables) (made : ℕ) (reach : Reach) (d : DraftState) (t : Trail) → IsDraft (so_far es marks.items) marks facts made reach → seen es marks.items facts reach ≡ d
     → Fits f d → t ≡ so_far es marks.items → HasRoom f t marks.spare
-has-room f es marks facts seating made reach d t draft v h e =
+has-room f es marks facts made reach d t draft v h e =
     let inside = fits-inside f es marks.items facts reach d v h in
     let same = ap (λ (u : Trail). length (f u)) e in
     let long = ap length e in
@@ -191,9 +181,9 @@ keys-inside p f es ms facts reach d v h =
     omega arith
 
 -- the next handle can be numbered behind them
-pub more-numbered : (f : Trail → Trail) (es : List Entry) (marks : Room Mark) (facts : Tables) (seating : Seating) (made : ℕ) (reach : Reach) (d : DraftState) (t : Trail) → IsDraft (so_far es marks.items) marks facts seating made reach → seen es marks.items facts reach ≡ d
+pub more-numbered : (f : Trail → Trail) (es : List Entry) (marks : Room Mark) (facts : Tables) (made : ℕ) (reach : Reach) (d : DraftState) (t : Trail) → IsDraft (so_far es marks.items) marks facts made reach → seen es marks.items facts reach ≡ d
     → t ≡ so_far es marks.items → Fits f d → IsNumbered (f t)
-more-numbered f es marks facts seating made reach d t draft v e h =
+more-numbered f es marks facts made reach d t draft v e h =
     let inside = fits-inside f es marks.items facts reach d v h in
     let same = ap (λ (u : Trail). length (f u)) e in
     let most = handles-bound (f t) in
@@ -202,8 +192,8 @@ more-numbered f es marks facts seating made reach d t draft v e h =
     omega arith
 
 -- and so can one for each device that is taken
-pub more-handles : (es : List Entry) (marks : Room Mark) (facts : Tables) (seating : Seating) (made : ℕ) (reach : Reach) (t : Trail) → IsDraft (so_far es marks.items) marks facts seating made reach → t ≡ so_far es marks.items → HandlesLeft t
-more-handles es marks facts seating made reach t draft e =
+pub more-handles : (es : List Entry) (marks : Room Mark) (facts : Tables) (made : ℕ) (reach : Reach) (t : Trail) → IsDraft (so_far es marks.items) marks facts made reach → t ≡ so_far es marks.items → HandlesLeft t
+more-handles es marks facts made reach t draft e =
     let left = handles-are-left t in
     let long = ap length e in
     let counted = draft.counted in
@@ -216,9 +206,9 @@ more-handles es marks facts seating made reach t draft e =
 pub more-awaits : (es : List Entry) (ms : List Mark) (facts : Tables) (reach : Reach) (d : DraftState) (t : Trail) → seen es ms facts reach ≡ d → t ≡ so_far es ms → Awaits d.trail → Awaits t
 more-awaits es ms facts reach d t v e a = subst Awaits (sym (e ∙ ap (λ (w : DraftState). w.trail) v)) a
 
-pub has-more : (f : Trail → Trail) (es : List Entry) (marks new : Room Mark) (facts : Tables) (seating : Seating) (made : ℕ) (reach : Reach) (d : DraftState) (t : Trail) → IsDraft (so_far es marks.items) marks facts seating made reach → seen es marks.items facts reach ≡ d
-    → Fits f d → t ≡ so_far es marks.items → Appends f t marks.items new.items → LeavesRoom f t marks.spare new.spare → HasMore f es marks new facts seating made reach d
-has-more f es marks new facts seating made reach d t draft v h e appends leaves = record {
+pub has-more : (f : Trail → Trail) (es : List Entry) (marks new : Room Mark) (facts : Tables) (made : ℕ) (reach : Reach) (d : DraftState) (t : Trail) → IsDraft (so_far es marks.items) marks facts made reach → seen es marks.items facts reach ≡ d
+    → Fits f d → t ≡ so_far es marks.items → Appends f t marks.items new.items → LeavesRoom f t marks.spare new.spare → HasMore f es marks new facts made reach d
+has-more f es marks new facts made reach d t draft v h e appends leaves = record {
   draft = draft;
   view = v;
   room = h;
@@ -251,9 +241,9 @@ lengths f t old new from a e =
     let m = ap length (more f t old new from a e) in
     omega arith
 
-pub more-can : (f : Trail → Trail) (es : List Entry) (marks new : Room Mark) (facts : Tables) (seating : Seating) (made : ℕ) (reach : Reach) (d : DraftState) (from : ℕ) → HasMore f es marks new facts seating made reach d → from ≡ length marks.items
-    → CanTakeOver facts seating (drop from new.items)
-more-can f es marks new facts seating made reach d from h e =
+pub more-can : (f : Trail → Trail) (es : List Entry) (marks new : Room Mark) (facts : Tables) (made : ℕ) (reach : Reach) (d : DraftState) (from : ℕ) → HasMore f es marks new facts made reach d → from ≡ length marks.items
+    → CanTakeOver facts (drop from new.items)
+more-can f es marks new facts made reach d from h e =
     let t = so_far es marks.items in
     let draft = h.draft in
     let n = counted f t marks.items new.items from h.appends e in
@@ -265,16 +255,15 @@ more-can f es marks new facts seating made reach d from h e =
     record {
       trail = t;
       stands = draft.stands;
-      seated = draft.seated;
       few = omega arith;
       spare = omega arith;
       keys = λ p. (let b = ap (keys_in p) (behind f t marks.items new.items from h.appends e) in let k = keys-inside p f es marks.items facts reach d h.view h.room in omega arith);
       plain = subst (AllByRecursion SetsPlain) (sym (more f t marks.items new.items from h.appends e)) h.appends.plain;
     }
 
-pub more-made : (f : Trail → Trail) (es : List Entry) (marks new : Room Mark) (facts : Tables) (seating : Seating) (made : ℕ) (reach : Reach) (d : DraftState) (from n : ℕ) → HasMore f es marks new facts seating made reach d → from ≡ length marks.items
+pub more-made : (f : Trail → Trail) (es : List Entry) (marks new : Room Mark) (facts : Tables) (made : ℕ) (reach : Reach) (d : DraftState) (from n : ℕ) → HasMore f es marks new facts made reach d → from ≡ length marks.items
     → n + from ≡ length new.items → made + n < 2 ^ 32
-more-made f es marks new facts seating made reach d from n h e s =
+more-made f es marks new facts made reach d from n h e s =
     let t = so_far es marks.items in
     let draft = h.draft in
     let k = counted f t marks.items new.items from h.appends e in
@@ -290,9 +279,9 @@ so_far-behind : (f : Trail → Trail) (es : List Entry) (old new : List Mark) �
 unfolding so_far
 so_far-behind f es old new a = ap (after (trail_of es)) a.items ∙ after-append (trail_of es) old a.marks ∙ a.same
 
-pub more-draft : (f : Trail → Trail) (es : List Entry) (marks new : Room Mark) (facts tables : Tables) (seating seats : Seating) (made : ℕ) (reach : Reach) (d : DraftState) (from n : ℕ) → HasMore f es marks new facts seating made reach d → from ≡ length marks.items
-    → n + from ≡ length new.items → TakesOver facts seating (drop from new.items) tables seats → IsDraft (so_far es new.items) new tables seats (made + n) reach
-more-draft f es marks new facts tables seating seats made reach d from n h e s o =
+pub more-draft : (f : Trail → Trail) (es : List Entry) (marks new : Room Mark) (facts tables : Tables) (made : ℕ) (reach : Reach) (d : DraftState) (from n : ℕ) → HasMore f es marks new facts made reach d → from ≡ length marks.items
+    → n + from ≡ length new.items → TakesOver facts (drop from new.items) tables → IsDraft (so_far es new.items) new tables (made + n) reach
+more-draft f es marks new facts tables made reach d from n h e s o =
     let t = so_far es marks.items in
     let draft = h.draft in
     let is : after t (drop from new.items) ≡ so_far es new.items = behind f t marks.items new.items from h.appends e ∙ sym (so_far-behind f es marks.items new.items h.appends) in
@@ -308,7 +297,6 @@ more-draft f es marks new facts tables seating seats made reach d from n h e s o
     let spare = o.spare in
     record {
       stands = subst (StandFor tables) is (o.stands t draft.stands);
-      seated = subst (AreSeated seats) is (o.seated t draft.stands draft.seated);
       counted = omega arith;
       marks_fit = omega arith;
       facts_fit = omega arith;
@@ -317,9 +305,9 @@ more-draft f es marks new facts tables seating seats made reach d from n h e s o
       numbered = draft.numbered;
     }
 
-pub more-seen : (f : Trail → Trail) (es : List Entry) (marks new : Room Mark) (facts tables : Tables) (seating seats : Seating) (made : ℕ) (reach : Reach) (d : DraftState) (from : ℕ) → HasMore f es marks new facts seating made reach d
-    → from ≡ length marks.items → TakesOver facts seating (drop from new.items) tables seats → seen es new.items tables reach ≡ marked_by f d
-more-seen f es marks new facts tables seating seats made reach d from h e o =
+pub more-seen : (f : Trail → Trail) (es : List Entry) (marks new : Room Mark) (facts tables : Tables) (made : ℕ) (reach : Reach) (d : DraftState) (from : ℕ) → HasMore f es marks new facts made reach d
+    → from ≡ length marks.items → TakesOver facts (drop from new.items) tables → seen es new.items tables reach ≡ marked_by f d
+more-seen f es marks new facts tables made reach d from h e o =
     let s = seen es marks.items facts reach in
     let t = so_far es marks.items in
     let k = same-keys (f t) t tables.fresh facts.fresh (λ p. (let b = ap (keys_in p) (behind f t marks.items new.items from h.appends e) in let q = o.keys t h.draft.stands p in omega arith)) in

@@ -11,7 +11,9 @@ use Rattle.login_model.specs.Same.{same_key}
 use Rattle.login_model.specs.Trail.{Trail, was_set}
 use Rattle.login_model.proofs.Keys.{same_key-true, test}
 use Rattle.login_table.specs.Home.{home}
-use Rattle.login_laws.specs.Amounts.{OfOthers, new_in}
+use Rattle.login_laws.specs.Amounts.{OfOthers, new_in, part}
+use Rattle.login_core.specs.State.{keys_of}
+use Rattle.login_core.specs.declared.board.keys.KeyRoom.{KeyRoom}
 use Rattle.login_core.specs.declared.board.owing.Dues.{Dues}
 use Rattle.login_core.specs.declared.board.owing.Dues.TheVariants as dues
 use Rattle.login_core.specs.declared.board.owing.Charge.{Charge}
@@ -60,15 +62,15 @@ new-there f t c old lost put s rows keep same lacks = elim (test (was_set t (key
 ]
 
 -- so there is room for the row of one that comes
-pub welcome-room : (f : Tables) (k : Key) (t : Trail) (old lost put : Owing) (comer : Option ConnId) → TablesStand f t → HaveRows old t → KeepRows old.marks.items lost.marks.items → put ≡ lost → comer ≡ connection_in k
-    → (was_set (table f (home k)) k ≡ false → 0 < put.marks.spare) → IfSome comer (λ c. has_row put.marks.items c.0 ≡ false → 0 < put.marks.spare)
-welcome-room f k t old lost put comer s rows keep same is room = subst P (sym is) (by k room)
+pub welcome-room : (f : Tables) (k : Key) (t : Trail) (old lost put : Owing) (comer : Option ConnId) (fresh : KeyRoom) → TablesStand f t → HaveRows old t → KeepRows old.marks.items lost.marks.items → put ≡ lost → comer ≡ connection_in k
+    → fresh.others ≤ put.marks.spare → (was_set (table f (home k)) k ≡ false → 0 < keys_of (part k) fresh) → IfSome comer (λ c. has_row put.marks.items c.0 ≡ false → 0 < put.marks.spare)
+welcome-room f k t old lost put comer fresh s rows keep same is fits room = subst P (sym is) (by k room)
   where
     P : Option ConnId → Type 0
     P o = IfSome o (λ c. has_row put.marks.items c.0 ≡ false → 0 < put.marks.spare)
 
-    by : (j : Key) → (was_set (table f (home j)) j ≡ false → 0 < put.marks.spare) → P (connection_in j)
-    by (key.Conn c) r = λ lacks. r (new-there f t c old lost put s rows keep same lacks)
+    by : (j : Key) → (was_set (table f (home j)) j ≡ false → 0 < keys_of (part j) fresh) → P (connection_in j)
+    by (key.Conn c) r = λ lacks. (let m : 0 < fresh.others = r (new-there f t c old lost put s rows keep same lacks) in omega arith)
     by _ r = tt
 
 -- and it takes room only where its key is new

@@ -3,6 +3,7 @@ pub mod Chosen
 pub mod Rounds
 pub mod Counts
 pub mod Holding
+pub mod Holdings
 pub mod Sums
 pub mod Owing
 pub mod Dues
@@ -17,12 +18,11 @@ pub mod Handles
 pub mod Ledger
 pub mod Ending
 pub mod UnderWay
-pub mod Seating
-pub mod Arrivals
 pub mod Draft
 pub mod TakingOver
 pub mod Board
 pub mod Leaving
+pub mod Seated
 pub mod Places
 pub mod Calls
 pub mod Reads

@@ -1,18 +1,19 @@
 // The marks of the entry under way, with the facts that the marks leave; and the journal beside them.
 
-pub mod arrivals;
 pub mod choosing;
 pub mod concerning;
 pub mod ends;
 pub mod facts;
 pub mod going_over;
+pub mod having;
 pub mod hearing;
 pub mod holding;
+pub mod holdings;
 pub mod keys;
 pub mod owing;
 pub mod rounds;
+pub mod row;
 pub mod seated;
-pub mod seating;
 pub mod setting;
 pub mod shares;
 pub mod so_far;
@@ -40,7 +41,6 @@ ghost use Rattle.login_core.specs.inner.Rings.{ring_count};
 
 use crate::board::facts::Facts;
 use crate::board::keys::KeyRoom;
-use crate::board::seating::Seating;
 use crate::board::so_far::SoFar;
 use crate::room::counts::Counts;
 use crate::room::ledger::Ledger;
@@ -70,7 +70,6 @@ pub struct Draft {
     journal: Snapshot<Journal>,
     marks: Reserved<Mark>,
     facts: Facts,
-    seating: Seating,
     /// How many marks there are in all.
     made: u32,
     reach: Reach,
@@ -94,7 +93,7 @@ impl Model for Draft {
       rings = d.facts.rings;
     } };
 
-    ghost invariant = { λ d. IsDraft (so_far d.journal.value.items d.marks.items) d.marks d.facts d.seating d.made d.reach };
+    ghost invariant = { λ d. IsDraft (so_far d.journal.value.items d.marks.items) d.marks d.facts d.made d.reach };
 }
 
 impl Draft {
@@ -110,7 +109,6 @@ impl Draft {
             journal: Snapshot::of(&Journal::new(alloc)),
             marks: Reserved::new(alloc),
             facts: Facts::new(alloc),
-            seating: Seating::new(),
             made: 0,
             reach: Reach { entry: 0, all: 0 },
         }
@@ -247,7 +245,7 @@ impl Draft {
     pub fn so_far(&self) -> SoFar<'_>
         ensures { result ≡ self.now.trail }
     {
-        SoFar::of(&self.facts, &self.seating, &self.journal, &self.marks)
+        SoFar::of(&self.facts, &self.journal, &self.marks)
     }
 
     /// Sets a fact, unless it is so already. The fact comes twice: for the mark and for the facts.
@@ -262,7 +260,6 @@ impl Draft {
             return;
         }
         self.made += 1;
-        self.seating.note(&key, self.facts.fact(&key), &copy);
         self.facts.set(key, copy);
         self.marks.push(Mark::Set(key, fact));
     }

@@ -1,20 +1,13 @@
 // How a seat turns to the next or the previous of its sessions.
 
-ghost use Rattle.std.specs.Prelude.{◌≡◌, ◌<◌, false};
-ghost use Rattle.std.specs.Str.{bytes_eq};
-ghost use Rattle.login_model.specs.Names.{is_above};
-ghost use Rattle.login_model.specs.Start.{seat0};
+ghost use Rattle.std.specs.Prelude.{◌≡◌};
 ghost use Rattle.login_model.specs.Procedure.{if_some};
-ghost use Rattle.login_model.specs.Turning.{open_terminals, turn_to_next, turn_to_previous};
-ghost use Rattle.login_table.specs.Nearest.{is_lower};
-ghost use Rattle.login_core.specs.inner.Places.{is_before, behind, around, is_open_on, place_of, places, current_place, nearer_place, nearer_open, nearer_terminal, turn_to_place, turn_to};
-ghost use Rattle.login_core.specs.inner.Arrivals.{AreKept};
+ghost use Rattle.login_model.specs.Turning.{first_of, last_of, turn_to_next, turn_to_previous};
+ghost use Rattle.login_core.specs.inner.Places.{around, behind, current_place, is_open_on, is_placed_on, places, places_among, turn_to, turn_to_place};
 ghost use Rattle.login_core.specs.inner.Draft.{marked_by, Fits};
-ghost use Rattle.login_core.specs.inner.Seating.{AreLow, buckets};
 
 use crate::board::Draft;
-use crate::board::arrivals::{Arrivals, MOST_ARRIVALS};
-use crate::board::seating::BUCKETS;
+use crate::board::holding::{Holding, Thing};
 use login_base::{SeatName, SessId};
 use login_model::{Key, Look};
 use login_table::{active_on, current_vt, is_on_seat};
@@ -26,45 +19,6 @@ pub(crate) enum Way {
     Previous,
 }
 
-/// Whether one place comes before another, that way.
-fn is_before(way: Way, place: u32, other: u32) -> bool
-    ensures { result ≡ is_before way place other }
-{
-    match way {
-        Way::Next => place < other,
-        Way::Previous => other < place,
-    }
-}
-
-fn is_behind(way: Way, start: Option<u32>, place: u32) -> bool
-    ensures { result ≡ is_above (is_before way) start place }
-{
-    match start {
-        Some(start) => is_before(way, start, place),
-        None => true,
-    }
-}
-
-fn is_nearer(way: Way, place: u32, best: Option<u32>) -> bool
-    ensures { result ≡ is_lower (is_before way) place best }
-{
-    match best {
-        Some(best) => is_before(way, place, best),
-        None => true,
-    }
-}
-
-/// The nearer of the best place so far and another, if that is behind.
-fn nearer_place(way: Way, start: Option<u32>, place: u32, best: Option<u32>) -> Option<u32>
-    ensures { result ≡ nearer_place way start place best }
-{
-    if is_behind(way, start, place) && is_nearer(way, place, best) {
-        Some(place)
-    } else {
-        best
-    }
-}
-
 #[tactic(auto, using(crate::proofs::Growing::growing))]
 impl Draft {
     /// Whether a session is on a seat, and open.
@@ -74,123 +28,48 @@ impl Draft {
         is_on_seat(self, seat.as_slice(), session) && self.fact(&Key::Sess(session)).is_open()
     }
 
-    /// The place of a session on a seat: on seat0 its terminal, on another seat its number.
-    fn place_of(&self, seat: SeatName, session: SessId) -> u32
-        ensures { result ≡ place_of self.now.trail seat session }
+    /// Whether a thing is an open session at a place of a seat.
+    fn is_placed_on(&self, seat: SeatName, thing: &Thing) -> bool
+        ensures { result ≡ is_placed_on self.now.trail seat thing.now }
     {
-        if seat.is_seat0() {
-            self.vt_of(session)
-        } else {
-            session.0
+        match thing {
+            Thing::Placed(_, session) => self.is_open_on(seat, *session),
+            _ => false,
         }
     }
 
-    /// The nearer of the best place so far and a session's, if that is open there.
-    fn nearer_open(
-        &self,
-        way: Way,
-        seat: SeatName,
-        start: Option<u32>,
-        session: SessId,
-        best: Option<u32>,
-    ) -> Option<u32>
-        ensures { result ≡ nearer_open way self.now.trail seat start session best }
+    /// The first of the places of a seat at which these sessions are.
+    fn first_place(&self, seat: SeatName, things: &[Holding]) -> Option<u32>
+        ensures { result ≡ first_of (places_among self.now.trail seat things.now) }
     {
-        if self.is_open_on(seat, session) {
-            nearer_place(way, start, self.place_of(seat, session), best)
-        } else {
-            best
-        }
-    }
-
-    /// The nearer of the best terminal so far and another, if an open session of seat0 is on it.
-    fn nearer_terminal(
-        &self,
-        way: Way,
-        start: Option<u32>,
-        vt: u32,
-        best: Option<u32>,
-    ) -> Option<u32>
-        requires low { AreLow self.now.trail }
-        requires within { vt < buckets }
-        ensures { result ≡ nearer_terminal way self.now.trail start vt best }
-    {
-        if self.so_far().has_terminal(vt) {
-            nearer_place(way, start, vt, best)
-        } else {
-            best
-        }
-    }
-
-    /// The nearest terminal of an open session of seat0 behind a terminal, or the first of all.
-    fn nearest_terminal(&self, way: Way, start: Option<u32>) -> Option<u32>
-        requires { AreLow self.now.trail }
-        ensures { result ≡ behind way start (open_terminals self.now.trail) }
-    {
-        let mut best = None;
-        for vt in 0..BUCKETS as u32 {
-            best = self.nearer_terminal(way, start, vt, best);
-        }
-        best
-    }
-
-    /// The nearest place of an open session behind a place of a seat other than seat0, or the first of all, where the
-    /// arrivals have all sessions of such seats.
-    fn nearest_arrival(
-        &self,
-        way: Way,
-        seat: SeatName,
-        start: Option<u32>,
-        arrivals: &Arrivals,
-    ) -> Option<u32>
-        requires other { bytes_eq seat seat0 ≡ false }
-        requires kept { AreKept arrivals.now self.now.trail }
-        ensures { result ≡ behind way start (places self.now.trail seat) }
-    {
-        let mut best = None;
-        for place in 0..MOST_ARRIVALS {
-            if let Some(session) = arrivals.at(place) {
-                best = self.nearer_open(way, seat, start, session, best);
+        for holding in things {
+            if self.is_placed_on(seat, &holding.thing) {
+                return Some(holding.thing.number());
             }
         }
-        best
+        None
     }
 
-    /// The nearest place of an open session behind a place of a seat, or the first of all, by going over all
-    /// sessions that are there.
-    fn find_nearest(&self, way: Way, seat: SeatName, start: Option<u32>) -> Option<u32>
-        ensures { result ≡ behind way start (places self.now.trail seat) }
+    /// The last of these places.
+    fn last_place(&self, seat: SeatName, things: &[Holding]) -> Option<u32>
+        ensures { result ≡ last_of (places_among self.now.trail seat things.now) }
     {
-        let mut best = None;
-        let mut above = None;
-        while let Some(session) = self.next_session(above) {
-            best = self.nearer_open(way, seat, start, session, best);
-            above = Some(session);
+        for passed in 0..things.len() {
+            let thing = things[things.len() - 1 - passed].thing;
+            if self.is_placed_on(seat, &thing) {
+                return Some(thing.number());
+            }
         }
-        best
-    }
-
-    /// The nearest place of an open session behind a place of a seat other than seat0, or the first of all.
-    fn nearest_elsewhere(&self, way: Way, seat: SeatName, start: Option<u32>) -> Option<u32>
-        requires other { bytes_eq seat seat0 ≡ false }
-        ensures { result ≡ behind way start (places self.now.trail seat) }
-    {
-        match self.so_far().all_arrivals() {
-            Some(arrivals) => self.nearest_arrival(way, seat, start, &arrivals),
-            None => self.find_nearest(way, seat, start),
-        }
+        None
     }
 
     /// The nearest place of an open session behind a place of a seat, or the first of all.
     fn nearest_place(&self, way: Way, seat: SeatName, start: Option<u32>) -> Option<u32>
         ensures { result ≡ behind way start (places self.now.trail seat) }
     {
-        if !seat.is_seat0() {
-            self.nearest_elsewhere(way, seat, start)
-        } else if self.are_low() {
-            self.nearest_terminal(way, start)
-        } else {
-            self.find_nearest(way, seat, start)
+        match way {
+            Way::Next => self.first_place(seat, self.placed_above(&seat, start)),
+            Way::Previous => self.last_place(seat, self.placed_below(&seat, start)),
         }
     }
 

@@ -9,9 +9,7 @@ pub use Rattle.switch_core.specs.inner.Ahead.{tell}
 use Rattle.login_core.specs.State.{keys_of}
 use Rattle.login_core.specs.declared.board.Reach.{Reach}
 use Rattle.login_core.specs.declared.board.keys.KeyRoom.{KeyRoom}
-use Rattle.login_core.specs.declared.board.seating.Seating.{Seating}
 use Rattle.login_core.specs.inner.Facts.{Tables, StandFor}
-use Rattle.login_core.specs.inner.Seating.{AreSeated}
 
 -- the marks before the entry under way, and those so far, both the newest first; how many marks there may be in
 -- all, with those of this entry and with those of later ones too; how many keys of each part there may be settings of; the handles
@@ -66,12 +64,11 @@ with_rings n d = record d { rings = n }
 abbrev pub with_ears : List Ear → ℕ → DraftState → DraftState
 with_ears es n d = record d { ears = es; rings = n }
 
--- the facts, and where sessions sit, are as the marks so far leave them; these are counted; the list of the entry under
+-- the facts are as the marks so far leave them; these are counted; the list of the entry under
 -- way has room for as many as there may be with it, and what stands beside the tables for as many as there may be in
 -- all, which can be numbered
-pub record IsDraft (trail : Trail) (marks : Room Mark) (facts : Tables) (seating : Seating) (made : ℕ) (reach : Reach) : Type 0 where
+pub record IsDraft (trail : Trail) (marks : Room Mark) (facts : Tables) (made : ℕ) (reach : Reach) : Type 0 where
   pub stands : StandFor facts trail
-  pub seated : AreSeated seating trail
   pub counted : made ≡ length trail
   pub marks_fit : reach.entry ≤ made + marks.spare
   pub facts_fit : reach.all ≤ made + facts.spare

@@ -8,17 +8,16 @@ use Rattle.device_model.specs.declared.ears.Ear.{Ear}
 use Rattle.login_table.specs.declared.home.Home.{Home}
 use Rattle.login_table.specs.declared.home.Home.TheVariants.{Users, Sessions, Seats, Devices, Controls, Takes, Locks, Power}
 use Rattle.login_core.specs.declared.room.counts.Counts.{Counts}
-use Rattle.login_core.specs.declared.board.holding.Holding.{Holding}
 use Rattle.login_core.specs.declared.board.keys.KeyRoom.{KeyRoom}
 use Rattle.login_core.specs.declared.board.owing.Owing.{Owing}
 use Rattle.login_core.specs.inner.Counts.{AreCounted}
 use Rattle.login_core.specs.inner.Dues.{AreOwed}
-use Rattle.login_core.specs.inner.Holding.{AreHeld}
+use Rattle.login_core.specs.inner.Holding.{AreHeld, Rows}
 use Rattle.login_table.specs.Home.{home}
 
 -- what facts are seen as: what each table has, as settings; the handles that listen to devices, and how many rings
 -- are spare; how many there are of what needs room; the numbers of the next session, the next handle and the next
--- lock; what connections have, and what they owe; how many more settings go in without memory, and under how many keys
+-- lock; what connections, users, terminals and seats have, and what connections owe; how many more settings go in without memory, and under how many keys
 -- of each part that were not set before
 pub record Tables : Type 0 where
   pub users : Trail
@@ -35,7 +34,7 @@ pub record Tables : Type 0 where
   pub session : ℕ
   pub handle : ℕ
   pub lock : ℕ
-  pub held : List Holding
+  pub held : Rows
   pub owing : Owing
   pub spare : ℕ
   pub fresh : KeyRoom
@@ -52,7 +51,7 @@ table f Locks = f.locks
 table f Power = f.power
 
 -- each fact is the one that the marks leave, in the table where it has its home, which has the keys that were set; the
--- counts are those of what is there, the numbers are those that the marks leave, and connections have what they leave
+-- counts are those of what is there, the numbers are those that the marks leave, and some have what they leave
 -- them
 pub record TablesStand (f : Tables) (t : Trail) : Type 0 where
   pub facts : (k : Key) → value (table f (home k)) k ≡ value t k

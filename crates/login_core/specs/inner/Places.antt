@@ -1,19 +1,21 @@
 -- The places of the open sessions on a seat, and which of them comes next either way.
-use Rattle.std.specs.Prelude.{ℕ, ◌&&◌, nat_lt, Bool, if◌then◌else◌, Option, Some, None, List, map}
-use Rattle.std.specs.Option.{is_some, option_map}
+use Rattle.std.specs.Prelude.{ℕ, ◌&&◌, nat_lt, Bool, false, if◌then◌else◌, Option, Some, None, List, filter, map}
+use Rattle.std.specs.Option.{option_map}
 use Rattle.std.specs.Str.{bytes_eq}
 use Rattle.login_base.specs.declared.ids.SessId.{SessId}
 use Rattle.login_model.specs.declared.fact.Key.TheVariants.{Sess}
-use Rattle.login_model.specs.Names.{is_above}
 use Rattle.login_model.specs.Start.{seat0}
 use Rattle.login_model.specs.Trail.{Trail, value}
-use Rattle.login_model.specs.Where.{is_open, is_on_seat, current_vt, active_on, session_on}
+use Rattle.login_model.specs.Where.{is_open, is_on_seat, current_vt, active_on}
 use Rattle.login_model.specs.Procedure.{front}
 use Rattle.login_model.specs.Switching.{request}
 use Rattle.login_model.specs.Turning.{first_of, first_above, last_of, last_below, next_around, previous_around, open_on, open_terminals, vt_in, turn_to_next, turn_to_previous}
 use Rattle.login_core.specs.declared.turning.Way.{Way}
 use Rattle.login_core.specs.declared.turning.Way.TheVariants.{Next, Previous}
-use Rattle.login_table.specs.Nearest.{is_lower}
+use Rattle.login_core.specs.declared.board.holding.Holding.{Holding}
+use Rattle.login_core.specs.declared.board.holding.Thing.{Thing}
+use Rattle.login_core.specs.declared.board.holding.Thing.TheVariants.{Placed}
+use Rattle.login_core.specs.inner.Holding.{number}
 
 -- which of two places comes first, that way
 abbrev pub is_before : Way → ℕ → ℕ → Bool
@@ -51,17 +53,14 @@ places t seat = if bytes_eq seat seat0 then open_terminals t else map number_of 
 abbrev pub current_place : Trail → List ℕ → Option ℕ
 current_place t seat = if bytes_eq seat seat0 then Some (current_vt t) else option_map number_of (active_on t seat)
 
--- the nearer of the best place so far and another, if that is behind
-abbrev pub nearer_place : Way → Option ℕ → ℕ → Option ℕ → Option ℕ
-nearer_place w place n best = if is_above (is_before w) place n && is_lower (is_before w) n best then Some n else best
+-- whether a thing is an open session at a place of a seat
+abbrev pub is_placed_on : Trail → List ℕ → Thing → Bool
+is_placed_on t seat (Placed n s) = is_open_on t seat s
+is_placed_on t seat _ = false
 
--- the nearer of the best place so far and a session's, if that is open there
-abbrev pub nearer_open : Way → Trail → List ℕ → Option ℕ → SessId → Option ℕ → Option ℕ
-nearer_open w t seat place s best = if is_open_on t seat s then nearer_place w place (place_of t seat s) best else best
-
--- the nearer of the best terminal so far and another, if an open session of seat0 is on it
-abbrev pub nearer_terminal : Way → Trail → Option ℕ → ℕ → Option ℕ → Option ℕ
-nearer_terminal w t place n best = if is_some (session_on t n) then nearer_place w place n best else best
+-- the places of a seat at which these are
+abbrev pub places_among : Trail → List ℕ → List Holding → List ℕ
+places_among t seat xs = map (λ x. number x.thing) (filter (λ x. is_placed_on t seat x.thing) xs)
 
 -- a seat turns to a place
 abbrev pub turn_to_place : List ℕ → ℕ → Trail → Trail

@@ -6,25 +6,21 @@ use Rattle.login_model.specs.declared.mark.Mark.{Mark}
 use Rattle.login_laws.specs.Amounts.{Part, keys_in}
 use Rattle.login_table.specs.Appended.{SetsPlain}
 use Rattle.login_core.specs.State.{keys_of}
-use Rattle.login_core.specs.declared.board.seating.Seating.{Seating}
 use Rattle.login_core.specs.inner.Facts.{Tables, StandFor}
-use Rattle.login_core.specs.inner.Seating.{AreSeated}
 
--- the facts, and where sessions sit, are as some marks leave them; there is room for these marks behind them, which
+-- the facts are as some marks leave them; there is room for these marks behind them, which
 -- can be numbered, and for the keys that they set; and no fact that they set has memory of its own
-pub record CanTakeOver (f : Tables) (s : Seating) (ms : List Mark) : Type 0 where
+pub record CanTakeOver (f : Tables) (ms : List Mark) : Type 0 where
   pub trail : Trail
   pub stands : StandFor f trail
-  pub seated : AreSeated s trail
   pub few : length trail + length ms + 1 < 2 ^ 32
   pub spare : length ms ≤ f.spare
   pub keys : (p : Part) → keys_in p (after trail ms) ≤ keys_in p trail + keys_of p f.fresh
   pub plain : AllByRecursion SetsPlain ms
 
 -- they are as these marks leave them, behind those that were there; what handles hear is as before
-pub record TakesOver (f : Tables) (s : Seating) (ms : List Mark) (g : Tables) (u : Seating) : Type 0 where
+pub record TakesOver (f : Tables) (ms : List Mark) (g : Tables) : Type 0 where
   pub stands : (t : Trail) → StandFor f t → StandFor g (after t ms)
-  pub seated : (t : Trail) → StandFor f t → AreSeated s t → AreSeated u (after t ms)
   pub spare : f.spare ≤ g.spare + length ms
   pub keys : (t : Trail) → StandFor f t → (p : Part) → keys_in p (after t ms) + keys_of p g.fresh ≡ keys_in p t + keys_of p f.fresh
   pub ears : g.ears ≡ f.ears

@@ -21,10 +21,11 @@ ghost use Rattle.login_core.specs.inner.Dues.{NamesKnown};
 ghost use Rattle.login_core.specs.inner.Facts.{StandFor, StandsForFew, TablesStand, table};
 ghost use Rattle.login_core.specs.inner.Owing.{owed};
 ghost use Rattle.login_core.specs.inner.Sums.{sum_in};
-ghost use Rattle.login_core.specs.inner.Holding.{AreSuch};
+ghost use Rattle.login_core.specs.inner.Holding.{AreThose, OfConnections, OfSeats, OfTerminals, OfUsers, hash_of, is_lower, is_such, number_of, placed_rank, session_rank};
 
 use crate::board::hearing::settle;
-use crate::board::holding::{Holding, Holdings, holding_in};
+use crate::board::holding::{Holding, things_of};
+use crate::board::holdings::Holdings;
 use crate::board::keys::KeyRoom;
 use crate::board::owing::{Dues, Owing, Touched, connection_in, taker_in, taker_in_key};
 use crate::room::counts::Counts;
@@ -79,6 +80,7 @@ pub struct Facts {
 impl Model for Facts {
     ghost use Rattle.std.specs.Prelude.{◌≤◌};
     ghost use Rattle.login_core.specs.inner.Facts.{Tables};
+    ghost use Rattle.login_core.specs.inner.Holdings.{HasSpare, rows_of};
 
     ghost Value = { Tables };
 
@@ -97,13 +99,13 @@ impl Model for Facts {
       session = f.session;
       handle = f.handle;
       lock = f.lock;
-      held = f.holdings.list;
+      held = rows_of f.holdings;
       owing = f.owing;
       spare = f.spare;
       fresh = f.fresh;
     } };
 
-    ghost invariant = { λ f. (f.fresh.others ≤ f.users.spare) × (f.fresh.others ≤ f.sessions.spare) × (f.fresh.others ≤ f.seats.spare) × (f.fresh.others ≤ f.devices.spare) × (f.fresh.others ≤ f.controls.spare) × (f.fresh.taken ≤ f.takes.spare) × (f.fresh.others ≤ f.locks.spare) × (f.fresh.others ≤ f.power.spare) × (f.fresh.others ≤ f.owing.marks.spare) × (f.fresh.taken ≤ f.owing.taken.spare) × (f.spare ≤ f.holdings.spare) };
+    ghost invariant = { λ f. (f.fresh.others ≤ f.users.spare) × (f.fresh.others ≤ f.sessions.spare) × (f.fresh.others ≤ f.seats.spare) × (f.fresh.others ≤ f.devices.spare) × (f.fresh.others ≤ f.controls.spare) × (f.fresh.taken ≤ f.takes.spare) × (f.fresh.others ≤ f.locks.spare) × (f.fresh.others ≤ f.power.spare) × (f.fresh.others ≤ f.owing.marks.spare) × (f.fresh.taken ≤ f.owing.taken.spare) × HasSpare f.spare f.holdings };
 }
 
 #[tactic(auto, unfolding(crate::specs::inner::Facts::StandFor))]
@@ -235,10 +237,10 @@ impl Facts {
     {
         let before = self.read(&key);
         let lost = Counts::of(&key, before);
-        let lost_thing = holding_in(&key, before);
+        let lost_things = things_of(&key, before);
         let gained = Counts::of(&key, &fact);
         self.counts = self.counts.moved(lost, gained);
-        self.holdings.shift(lost_thing, holding_in(&key, &fact));
+        self.holdings.shift(lost_things, things_of(&key, &fact));
         self.session += gained.opened;
         self.handle += key.gives(&fact);
         self.lock += gained.locks;
@@ -398,10 +400,39 @@ impl Facts {
     }
 
     /// What a connection has of a kind above a number, in order.
-    pub fn things(&self, who: ConnId, rank: u8, above: Option<u32>) -> &[Holding]
-        ensures { (t : Trail) → StandFor self.now t → AreSuch t who rank above result.now }
+    pub fn of_connection(&self, who: ConnId, rank: u8, above: Option<u32>) -> &[Holding]
+        ensures { (t : Trail) → StandFor self.now t → AreThose OfConnections (is_such who.0 rank above) t result.now }
     {
-        self.holdings.such(who, rank, above)
+        self.holdings.of_connection(who, rank, above)
+    }
+
+    /// The open sessions of a user above one that have a seat, in order.
+    pub fn of_user(&self, uid: u32, above: Option<SessId>) -> &[Holding]
+        ensures { (t : Trail) → StandFor self.now t → AreThose OfUsers (is_such uid session_rank (number_of above)) t result.now }
+    {
+        self.holdings.of_user(uid, above)
+    }
+
+    /// The open sessions of seat0 on a terminal, in order.
+    pub fn of_terminal(&self, vt: u32) -> &[Holding]
+        ensures { (t : Trail) → StandFor self.now t → AreThose OfTerminals (is_such vt session_rank None) t result.now }
+    {
+        self.holdings.of_terminal(vt)
+    }
+
+    /// The open sessions of a seat above a place, or above none, and those of seats whose names have the same number, in
+    /// the order of their places.
+    pub fn of_seat(&self, seat: &SeatName, above: Option<u32>) -> &[Holding]
+        ensures { (t : Trail) → StandFor self.now t → AreThose OfSeats (is_such (hash_of seat.now) placed_rank above) t result.now }
+    {
+        self.holdings.of_seat(seat, above)
+    }
+
+    /// Those below a place, or below none.
+    pub fn of_seat_below(&self, seat: &SeatName, below: Option<u32>) -> &[Holding]
+        ensures { (t : Trail) → StandFor self.now t → AreThose OfSeats (is_lower (hash_of seat.now) placed_rank below) t result.now }
+    {
+        self.holdings.of_seat_below(seat, below)
     }
 
     /// What a handle that listens has heard, the oldest first.

@@ -1,42 +1,36 @@
-// What each connection has: the sessions that it controls, its locks, and the fifos of sessions.
+// What a connection has, and which sessions a user, a terminal and a seat have: each thing with the number of whose it
+// is.
 
-ghost use Rattle.std.specs.Prelude.{◌≡◌, ◌+◌, ◌<◌, ◌≤◌, [], OnOk, filter, length, nat_lt, true, false};
-ghost use Rattle.std.specs.List.Sorted.{IsPartitionPoint};
-ghost use Rattle.login_model.specs.Direct.{is_lock_of};
-ghost use Rattle.login_model.specs.Names.{IsNext, insert, insert_some, is_above, lock_lt, session_lt};
-ghost use Rattle.login_model.specs.Policy.{controls};
-ghost use Rattle.login_model.specs.Trail.{Trail, value};
-ghost use Rattle.login_model.specs.Where.{is_lock, is_session};
-ghost use Rattle.login_laws.specs.Sound.{Fifos};
-ghost use Rattle.login_core.specs.inner.Chosen.{is_chosen};
-ghost use Rattle.login_core.specs.inner.Ending.{is_kept_open_by};
-ghost use Rattle.login_core.specs.inner.Holding.{AreHeld, AreSuch, HoldingsAscend, IsNextThing, control_in, owned_fifo_in, first_standing, held_lock_in, holding_in, holding_lt, is_other, is_passed, is_standing, is_such, is_within, lock_number, lock_of, number, number_of, numbered_lt, rank, session_of, thing_lt, turn, without};
-ghost use Rattle.login_core.specs.declared.board.holding.Holding.{Holding as AnyHolding};
+ghost use Rattle.std.specs.Prelude.{◌≡◌, nat_lt};
+ghost use Rattle.login_model.specs.Names.{is_above};
+ghost use Rattle.login_core.specs.inner.Holding.{control_in, first_thing, hash_of, held_lock_in, holding_in, holding_lt, is_in_front, is_passed, is_within, number, number_of, numbered_lt, on_terminal_in, owned_fifo_in, placed_in, rank, seated_in, session_of, thing_lt, things_of, turn};
 
-use crate::board::Draft;
-use login_base::{ConnId, HandleNo, LockNo, NoMemory, SessId};
-use login_model::{Fact, Key, Look};
-use std::alloc::Global;
-use std::marker::Model;
+use login_base::{HandleNo, LockNo, SeatName, SessId};
+use login_model::{Fact, Key};
 
-/// The rank of sessions among what a connection has.
-const SESSIONS: u8 = 0;
+/// The rank of sessions among what one has.
+pub const SESSIONS: u8 = 0;
 
 /// The rank of locks.
-const LOCKS: u8 = 1;
+pub const LOCKS: u8 = 1;
 
 /// The rank of fifos.
-const FIFOS: u8 = 2;
+pub const FIFOS: u8 = 2;
 
-/// A thing that a connection may have.
+/// The rank of sessions at their places.
+pub const PLACED: u8 = 3;
+
+/// A thing that a connection, a user, a terminal or a seat may have.
 #[derive(Clone, Copy)]
 pub enum Thing {
-    /// A session that it controls.
+    /// A session.
     Session(SessId),
     /// A lock.
     Lock(LockNo),
     /// The fifo of a session, by its handle.
     Fifo(SessId, HandleNo),
+    /// A session at a place of its seat.
+    Placed(u32, SessId),
 }
 
 impl Thing {
@@ -48,26 +42,29 @@ impl Thing {
             Thing::Session(_) => SESSIONS,
             Thing::Lock(_) => LOCKS,
             Thing::Fifo(_, _) => FIFOS,
+            Thing::Placed(_, _) => PLACED,
         }
     }
 
-    /// Its number. A fifo stands under the number of its session.
-    fn number(&self) -> u32
+    /// Its number. A fifo stands under the number of its session, and what is placed under its place.
+    pub fn number(&self) -> u32
         ensures { result ≡ number self.now }
     {
         match self {
             Thing::Session(session) => session.0,
             Thing::Lock(lock) => lock.0,
             Thing::Fifo(session, _) => session.0,
+            Thing::Placed(place, _) => *place,
         }
     }
 
-    /// The turn of a fifo among those of one session.
+    /// The turn of a fifo among those of one session, and of a session among those at one place.
     fn turn(&self) -> u32
         ensures { result ≡ turn self.now }
     {
         match self {
             Thing::Fifo(_, handle) => handle.0,
+            Thing::Placed(_, session) => session.0,
             _ => 0,
         }
     }
@@ -88,11 +85,12 @@ impl Thing {
     }
 }
 
-/// A thing that a connection has.
+/// A thing that somebody has.
 #[derive(Clone, Copy)]
 pub struct Holding {
-    who: ConnId,
-    thing: Thing,
+    /// The number of whose it is: a connection's, a user's, a terminal's, or that of a seat's name.
+    pub whose: u32,
+    pub thing: Thing,
 }
 
 /// Whether a number is above another, or above none.
@@ -107,27 +105,37 @@ fn is_above(above: Option<u32>, number: u32) -> bool
 
 impl Holding {
     /// Whether it stands in front of another.
-    fn is_below(&self, other: &Holding) -> bool
+    pub fn is_below(&self, other: &Holding) -> bool
         ensures { result ≡ holding_lt self.now other.now }
     {
-        self.who.0 < other.who.0 || (self.who.0 == other.who.0 && self.thing.is_below(&other.thing))
+        self.whose < other.whose || (self.whose == other.whose && self.thing.is_below(&other.thing))
     }
 
-    /// Whether it is in front of what a connection has of a kind above a number.
-    fn is_passed(&self, who: ConnId, rank: u8, above: Option<u32>) -> bool
-        ensures { result ≡ is_passed who rank above self.now }
+    /// Whether it is in front of what somebody has of a kind above a number.
+    pub fn is_passed(&self, whose: u32, rank: u8, above: Option<u32>) -> bool
+        ensures { result ≡ is_passed whose rank above self.now }
     {
         let other = self.thing.rank();
-        self.who.0 < who.0
-            || (self.who.0 == who.0
+        self.whose < whose
+            || (self.whose == whose
                 && (other < rank || (other == rank && !is_above(above, self.thing.number()))))
     }
 
-    /// Whether it is not behind all that a connection has of a kind.
-    fn is_within(&self, who: ConnId, rank: u8) -> bool
-        ensures { result ≡ is_within who rank self.now }
+    /// Whether it is in front of what somebody has of a kind from a number on.
+    pub fn is_in_front(&self, whose: u32, rank: u8, from: u32) -> bool
+        ensures { result ≡ is_in_front whose rank from self.now }
     {
-        self.who.0 < who.0 || (self.who.0 == who.0 && self.thing.rank() <= rank)
+        let other = self.thing.rank();
+        self.whose < whose
+            || (self.whose == whose
+                && (other < rank || (other == rank && self.thing.number() < from)))
+    }
+
+    /// Whether it is not behind all that somebody has of a kind.
+    pub fn is_within(&self, whose: u32, rank: u8) -> bool
+        ensures { result ≡ is_within whose rank self.now }
+    {
+        self.whose < whose || (self.whose == whose && self.thing.rank() <= rank)
     }
 }
 
@@ -135,31 +143,31 @@ impl Holding {
 fn control_in(session: SessId, fact: &Fact) -> Option<Holding>
     ensures { result ≡ control_in session fact.now }
 {
-    let who = fact.controller()?;
+    let whose = fact.controller()?.0;
     let thing = Thing::Session(session);
-    Some(Holding { who, thing })
+    Some(Holding { whose, thing })
 }
 
 /// What a connection has by the fact of a lock.
 fn held_lock_in(number: LockNo, fact: &Fact) -> Option<Holding>
     ensures { result ≡ held_lock_in number fact.now }
 {
-    let who = fact.lock_holder()?;
+    let whose = fact.lock_holder()?.0;
     let thing = Thing::Lock(number);
-    Some(Holding { who, thing })
+    Some(Holding { whose, thing })
 }
 
 /// What a connection has by the fact of a handle's owner.
 fn owned_fifo_in(handle: HandleNo, fact: &Fact) -> Option<Holding>
     ensures { result ≡ owned_fifo_in handle fact.now }
 {
-    let who = fact.fifo_owner()?;
+    let whose = fact.fifo_owner()?.0;
     let thing = Thing::Fifo(fact.fifo_session()?, handle);
-    Some(Holding { who, thing })
+    Some(Holding { whose, thing })
 }
 
 /// What a connection has by a fact under a key.
-pub fn holding_in(key: &Key, fact: &Fact) -> Option<Holding>
+fn holding_in(key: &Key, fact: &Fact) -> Option<Holding>
     ensures { result ≡ holding_in key.now fact.now }
 {
     match key {
@@ -170,142 +178,96 @@ pub fn holding_in(key: &Key, fact: &Fact) -> Option<Holding>
     }
 }
 
-/// What connections have, in order, so that what one of them has is found by halving.
-#[derive(Drop)]
-pub struct Holdings {
-    row: Vec<Holding>,
-}
-
-impl Model for Holdings {
-    ghost use Rattle.std.specs.Prelude.{◌-◌, vec_len, vec_capacity};
-    ghost use Rattle.login_core.specs.inner.Holding.{HeldRow, HoldingsAscend};
-
-    ghost Value = { HeldRow };
-
-    ghost view = { λ h. record { list = h.row.items; spare = vec_capacity h.row - vec_len h.row } };
-
-    ghost invariant = { λ h. HoldingsAscend h.row.items };
-}
-
-/// How many are below that one.
-fn place_of(row: &[Holding], holding: &Holding) -> usize
-    requires { HoldingsAscend row.now }
-    ensures point { IsPartitionPoint (λ (x : AnyHolding). holding_lt x holding.now ≡ true) (λ (x : AnyHolding). holding_lt x holding.now ≡ false) row.now result }
-    ensures bound { result ≤ length row.now }
+/// What a user has by the fact of a session: it is open, and has a seat.
+fn seated_in(session: SessId, fact: &Fact) -> Option<Holding>
+    ensures { result ≡ seated_in session fact.now }
 {
-    row.partition_point(
-        |other: &Holding| -> bool
-            ensures { result ≡ holding_lt other.now holding.entry.now }
-        { other.is_below(holding) },
-    )
+    let whose = fact.seated_user()?;
+    let thing = Thing::Session(session);
+    Some(Holding { whose, thing })
 }
 
-/// What a connection has of a kind above a number, in order.
-fn such(row: &[Holding], who: ConnId, rank: u8, above: Option<u32>) -> &[Holding]
-    requires { HoldingsAscend row.now }
-    ensures { result.now ≡ filter (is_such who rank above) row.now }
+/// What a terminal has by the fact of a session: it is open, and on seat0.
+fn on_terminal_in(session: SessId, fact: &Fact) -> Option<Holding>
+    ensures { result ≡ on_terminal_in session fact.now }
 {
-    let from = row.partition_point(
-        |other: &Holding| -> bool
-            ensures { result ≡ is_passed who rank above other.now }
-        { other.is_passed(who, rank, above) },
-    );
-    let to = row.partition_point(
-        |other: &Holding| -> bool
-            ensures { result ≡ is_within who rank other.now }
-        { other.is_within(who, rank) },
-    );
-    &row[from..to]
+    let whose = fact.terminal()?;
+    let thing = Thing::Session(session);
+    Some(Holding { whose, thing })
 }
 
-impl Holdings {
-    /// Nobody has anything. It takes no memory.
-    pub fn new(alloc: Global) -> Holdings
-        ensures { result.list ≡ [] }
-    {
-        Holdings {
-            row: Vec::new(alloc),
-        }
+/// A number of a seat's name, the same for the same name. Two names may have one.
+pub fn hash_of(seat: &SeatName) -> u32
+    ensures { result ≡ hash_of seat.now }
+{
+    let mut hash: u32 = 0;
+    for byte in seat.as_slice() {
+        hash = hash.wrapping_mul(31).wrapping_add(u32::from(*byte));
     }
+    hash
+}
 
-    /// Makes room for so many more.
-    pub fn reserve(&mut self, more: usize) -> Result<(), NoMemory>
-        ensures ok { OnOk result (more ≤ self.new.spare) }
-        ensures list { self.new.list ≡ self.old.list }
-        ensures spare { self.old.spare ≤ self.new.spare }
-    {
-        self.row.reserve(more)?;
-        Ok(())
+/// What a seat has by the fact of a session: it is open. Its place is its terminal on seat0, and its number on another
+/// seat.
+fn placed_in(session: SessId, fact: &Fact) -> Option<Holding>
+    ensures { result ≡ placed_in session fact.now }
+{
+    if !fact.is_open() {
+        return None;
     }
+    let seat = fact.seat()?;
+    let place = if seat.is_seat0() {
+        fact.vt()
+    } else {
+        session.0
+    };
+    Some(Holding {
+        whose: hash_of(&seat),
+        thing: Thing::Placed(place, session),
+    })
+}
 
-    /// Puts one in. It takes no memory.
-    fn insert(&mut self, holding: Holding)
-        requires { 0 < self.old.spare }
-        ensures list { self.new.list ≡ insert holding_lt holding self.old.list }
-        ensures spare { self.old.spare ≤ self.new.spare + 1 }
-    {
-        let at = place_of(self.row.as_slice(), &holding);
-        if at < self.row.len() && !holding.is_below(&self.row[at]) {
-            return;
-        }
-        match self.row.insert(at, holding) {
-            Ok(()) => {}
-            Err(_) => unreachable!(),
-        }
+/// What a fact says that somebody has.
+#[derive(Clone, Copy)]
+pub struct Things {
+    pub of_connection: Option<Holding>,
+    pub of_user: Option<Holding>,
+    pub of_terminal: Option<Holding>,
+    pub of_seat: Option<Holding>,
+}
+
+/// What a fact under a key says that somebody has.
+pub fn things_of(key: &Key, fact: &Fact) -> Things
+    ensures { result ≡ things_of key.now fact.now }
+{
+    match key {
+        Key::Sess(session) => Things {
+            of_connection: None,
+            of_user: seated_in(*session, fact),
+            of_terminal: on_terminal_in(*session, fact),
+            of_seat: placed_in(*session, fact),
+        },
+        _ => Things {
+            of_connection: holding_in(key, fact),
+            of_user: None,
+            of_terminal: None,
+            of_seat: None,
+        },
     }
+}
 
-    /// Takes one out, if it is there.
-    fn remove(&mut self, holding: Holding)
-        ensures list { self.new.list ≡ filter (is_other holding) self.old.list }
-        ensures spare { self.old.spare ≤ self.new.spare }
-    {
-        let at = place_of(self.row.as_slice(), &holding);
-        if at < self.row.len() && !holding.is_below(&self.row[at]) {
-            self.row.remove(at);
-        }
-    }
-
-    /// What is lost is taken out.
-    fn lose(&mut self, lost: Option<Holding>)
-        ensures list { self.new.list ≡ without lost self.old.list }
-        ensures spare { self.old.spare ≤ self.new.spare }
-    {
-        if let Some(holding) = lost {
-            self.remove(holding);
-        }
-    }
-
-    /// What is gained is put in. It takes no memory.
-    fn gain(&mut self, gained: Option<Holding>)
-        requires { 0 < self.old.spare }
-        ensures list { self.new.list ≡ insert_some holding_lt gained self.old.list }
-        ensures spare { self.old.spare ≤ self.new.spare + 1 }
-    {
-        if let Some(holding) = gained {
-            self.insert(holding);
-        }
-    }
-
-    /// What is lost is taken out, and what is gained put in. It takes no memory.
-    pub fn shift(&mut self, lost: Option<Holding>, gained: Option<Holding>)
-        requires { 0 < self.old.spare }
-        ensures list { self.new.list ≡ insert_some holding_lt gained (without lost self.old.list) }
-        ensures spare { self.old.spare ≤ self.new.spare + 1 }
-    {
-        self.lose(lost);
-        self.gain(gained);
-    }
-
-    /// What a connection has of a kind above a number, in order. It is found by halving.
-    pub fn such(&self, who: ConnId, rank: u8, above: Option<u32>) -> &[Holding]
-        ensures { (t : Trail) → AreHeld self.now.list t → AreSuch t who rank above result.now }
-    {
-        such(self.row.as_slice(), who, rank, above)
+/// The first of some things.
+pub fn first_thing(things: &[Holding]) -> Option<Thing>
+    ensures { result ≡ first_thing things.now }
+{
+    match things {
+        [first, ..] => Some(first.thing),
+        [] => None,
     }
 }
 
 /// The session of a thing.
-fn session_of(thing: Option<Thing>) -> Option<SessId>
+pub fn session_of(thing: Option<Thing>) -> Option<SessId>
     ensures { result ≡ session_of thing }
 {
     match thing {
@@ -315,90 +277,12 @@ fn session_of(thing: Option<Thing>) -> Option<SessId>
     }
 }
 
-/// The lock that a thing is.
-fn lock_of(thing: Option<Thing>) -> Option<LockNo>
-    ensures { result ≡ lock_of thing }
-{
-    match thing {
-        Some(Thing::Lock(lock)) => Some(lock),
-        _ => None,
-    }
-}
-
 /// The number of a session, if there is one.
-fn number_of(session: Option<SessId>) -> Option<u32>
+pub fn number_of(session: Option<SessId>) -> Option<u32>
     ensures { result ≡ number_of session }
 {
     match session {
         Some(session) => Some(session.0),
         None => None,
-    }
-}
-
-/// The number of a lock, if there is one.
-fn lock_number(lock: Option<LockNo>) -> Option<u32>
-    ensures { result ≡ lock_number lock }
-{
-    match lock {
-        Some(lock) => Some(lock.0),
-        None => None,
-    }
-}
-
-impl Draft {
-    /// Whether a thing stands: its session is there, or is open by this fifo.
-    fn is_standing(&self, thing: &Thing) -> bool
-        ensures { result ≡ is_standing self.now.trail thing.now }
-    {
-        match thing {
-            Thing::Session(session) => self.fact(&Key::Sess(*session)).is_session(),
-            Thing::Lock(_) => true,
-            Thing::Fifo(session, handle) => {
-                let fact = self.fact(&Key::Sess(*session));
-                fact.is_open() && fact.fifo().0 == handle.0
-            }
-        }
-    }
-
-    /// The first of some things that stands.
-    fn first_standing(&self, things: &[Holding]) -> Option<Thing>
-        ensures { result ≡ first_standing self.now.trail things.now }
-    {
-        for holding in things {
-            if self.is_standing(&holding.thing) {
-                return Some(holding.thing);
-            }
-        }
-        None
-    }
-
-    /// The first thing of a kind above a number that a connection has, and that stands. It goes over what this
-    /// connection has of the kind alone.
-    fn next_thing(&self, who: ConnId, rank: u8, above: Option<u32>) -> Option<Thing>
-        ensures { IsNextThing self.now.trail who rank above result }
-    {
-        self.first_standing(self.facts.things(who, rank, above))
-    }
-
-    /// The least session above that one that is there and that a connection controls.
-    pub fn next_controlled(&self, who: ConnId, above: Option<SessId>) -> Option<SessId>
-        ensures { IsNext session_lt (is_chosen (is_session self.now.trail) (controls self.now.trail who)) above result }
-    {
-        session_of(self.next_thing(who, SESSIONS, number_of(above)))
-    }
-
-    /// The least lock above that one that a connection has.
-    pub fn next_held(&self, who: ConnId, above: Option<LockNo>) -> Option<LockNo>
-        ensures { IsNext lock_lt (is_chosen (is_lock self.now.trail) (λ l. is_lock_of who (value self.now.trail (Key.Lock l)))) above result }
-    {
-        lock_of(self.next_thing(who, LOCKS, lock_number(above)))
-    }
-
-    /// The least session above that one that a connection keeps open. The fifo of an open session is its own.
-    pub fn next_kept_open(&self, who: ConnId, above: Option<SessId>) -> Option<SessId>
-        requires { Fifos self.now.trail }
-        ensures { IsNext session_lt (is_chosen (is_session self.now.trail) (is_kept_open_by who self.now.trail)) above result }
-    {
-        session_of(self.next_thing(who, FIFOS, number_of(above)))
     }
 }

@@ -1,17 +1,11 @@
 // The facts of a draft, as they stand for the marks so far. More can be put at the end of its list meanwhile.
 
 ghost use Rattle.std.specs.Prelude.{◌≡◌};
-ghost use Rattle.login_model.proofs.InOrder.{sessions-enumerated};
-ghost use Rattle.login_model.specs.Names.{IsNext, names, session_in, session_lt};
-ghost use Rattle.login_model.specs.Where.{is_session};
 ghost use Rattle.login_core.specs.inner.Counts.{AreCounted};
 ghost use Rattle.login_core.specs.inner.Facts.{StandFor};
-ghost use Rattle.login_core.specs.inner.Seating.{AreSeated};
 ghost use Rattle.login_core.specs.inner.UnderWay.{so_far};
 
-use crate::board::choosing::Tells;
 use crate::board::facts::Facts;
-use crate::board::seating::Seating;
 use crate::room::counts::Counts;
 use login_base::{ConnId, DevNo, HandleNo, LockNo, Reserved, SeatName, SessId, Uid};
 use login_model::{Fact, Journal, Key, LockMode, Look, Mark, OpKind};
@@ -22,7 +16,6 @@ use std::snapshot::Snapshot;
 #[derive(Drop)]
 pub struct SoFar<'a> {
     facts: &'a Facts,
-    seating: &'a Seating,
     journal: &'a Snapshot<Journal>,
     marks: Snapshot<Reserved<Mark>>,
 }
@@ -30,31 +23,23 @@ pub struct SoFar<'a> {
 impl<'a> Model for SoFar<'a> {
     ghost use Rattle.login_model.specs.Trail.{Trail};
     ghost use Rattle.login_core.specs.inner.Facts.{StandFor};
-    ghost use Rattle.login_core.specs.inner.Seating.{AreSeated};
     ghost use Rattle.login_core.specs.inner.UnderWay.{so_far};
 
     ghost Value = { Trail };
 
     ghost view = { λ s. so_far s.journal.now.value.items s.marks.value.items };
 
-    ghost invariant = { λ s. StandFor s.facts.now (so_far s.journal.now.value.items s.marks.value.items) × AreSeated s.seating.now (so_far s.journal.now.value.items s.marks.value.items) };
+    ghost invariant = { λ s. StandFor s.facts.now (so_far s.journal.now.value.items s.marks.value.items) };
 }
 
 impl<'a> SoFar<'a> {
     /// The facts as these marks leave them.
-    pub fn of(
-        facts: &'a Facts,
-        seating: &'a Seating,
-        journal: &'a Snapshot<Journal>,
-        marks: &Reserved<Mark>,
-    ) -> SoFar<'a>
-        requires stands { StandFor facts.now (so_far journal.now.value.items marks.now.items) }
-        requires seated { AreSeated seating.now (so_far journal.now.value.items marks.now.items) }
+    pub fn of(facts: &'a Facts, journal: &'a Snapshot<Journal>, marks: &Reserved<Mark>) -> SoFar<'a>
+        requires { StandFor facts.now (so_far journal.now.value.items marks.now.items) }
         ensures { result ≡ so_far journal.now.value.items marks.now.items }
     {
         SoFar {
             facts,
-            seating,
             journal,
             marks: Snapshot::of(marks),
         }
@@ -67,11 +52,11 @@ impl<'a> SoFar<'a> {
         self.facts.counts()
     }
 
-    /// Where sessions sit.
-    pub fn seating(&self) -> &Seating
-        ensures { AreSeated result.now self.now }
+    /// The facts.
+    pub fn facts(&self) -> &Facts
+        ensures { StandFor result.now self.now }
     {
-        self.seating
+        self.facts
     }
 }
 
@@ -148,22 +133,5 @@ impl<'a> Look for SoFar<'a> {
 
     fn is_active_user(&self, uid: u32) -> bool {
         self.has_active(uid)
-    }
-}
-
-/// The sessions that are there.
-impl<'a> Tells<SessId> for SoFar<'a> {
-    ghost lt = { session_lt };
-
-    ghost is_told = { λ t s. is_session t s };
-
-    ghost among = { λ t. names session_lt session_in t };
-
-    ghost whole = { λ t. sessions-enumerated t };
-
-    fn next(&self, above: Option<SessId>) -> Option<SessId>
-        ensures { IsNext session_lt (is_session self.now) above result }
-    {
-        self.next_session(above)
     }
 }

@@ -13,7 +13,6 @@ ghost use Rattle.login_core.specs.inner.TakingOver.{CanTakeOver, TakesOver};
 
 use crate::board::Draft;
 use crate::board::facts::Facts;
-use crate::board::seating::Seating;
 use crate::board::so_far::SoFar;
 use login_base::{DevNo, Reserved, SessId};
 use login_model::{Conf, Fact, Mark, OpKind, Owner};
@@ -37,41 +36,34 @@ fn copy_of(fact: &Fact) -> Fact
 }
 
 /// One mark is put in.
-fn take_one(facts: &mut Facts, seating: &mut Seating, mark: &Mark)
-    requires { CanTakeOver facts.old seating.old (mark.now ∷ []) }
-    ensures { TakesOver facts.old seating.old (mark.now ∷ []) facts.new seating.new }
+fn take_one(facts: &mut Facts, mark: &Mark)
+    requires { CanTakeOver facts.old (mark.now ∷ []) }
+    ensures { TakesOver facts.old (mark.now ∷ []) facts.new }
 {
     if let Mark::Set(key, fact) = mark {
-        let copy = copy_of(fact);
-        seating.note(key, facts.fact(key), &copy);
-        facts.set(*key, copy);
+        facts.set(*key, copy_of(fact));
     }
 }
 
 /// Marks are put in, from the first to the last.
-fn take_all(facts: &mut Facts, seating: &mut Seating, marks: &[Mark])
-    requires { CanTakeOver facts.old seating.old marks.now }
-    ensures { TakesOver facts.old seating.old marks.now facts.new seating.new }
+fn take_all(facts: &mut Facts, marks: &[Mark])
+    requires { CanTakeOver facts.old marks.now }
+    ensures { TakesOver facts.old marks.now facts.new }
 {
     for mark in marks {
-        take_one(facts, seating, mark);
+        take_one(facts, mark);
     }
 }
 
 /// The marks of a list behind the first so many are put in. It tells how many these are.
-pub fn take_over(
-    facts: &mut Facts,
-    seating: &mut Seating,
-    marks: &Reserved<Mark>,
-    from: usize,
-) -> u32
+pub fn take_over(facts: &mut Facts, marks: &Reserved<Mark>, from: usize) -> u32
     requires within { from ≤ length marks.now.items }
-    requires can { CanTakeOver facts.old seating.old (drop from marks.now.items) }
-    ensures takes { TakesOver facts.old seating.old (drop from marks.now.items) facts.new seating.new }
+    requires can { CanTakeOver facts.old (drop from marks.now.items) }
+    ensures takes { TakesOver facts.old (drop from marks.now.items) facts.new }
     ensures count { result + from ≡ length marks.now.items }
 {
     let behind = &marks.as_slice()[from..];
-    take_all(facts, seating, behind);
+    take_all(facts, behind);
     behind.len() as u32
 }
 
@@ -83,10 +75,10 @@ impl Draft {
     {
         let from = self.marks.len();
         {
-            let so_far = SoFar::of(&self.facts, &self.seating, &self.journal, &self.marks);
+            let so_far = SoFar::of(&self.facts, &self.journal, &self.marks);
             switch_core::withdraw(&so_far, session, device, &mut self.marks);
         }
-        self.made += take_over(&mut self.facts, &mut self.seating, &self.marks, from);
+        self.made += take_over(&mut self.facts, &self.marks, from);
     }
 
     /// A pause that is awaited is acknowledged.
@@ -96,10 +88,10 @@ impl Draft {
     {
         let from = self.marks.len();
         {
-            let so_far = SoFar::of(&self.facts, &self.seating, &self.journal, &self.marks);
+            let so_far = SoFar::of(&self.facts, &self.journal, &self.marks);
             switch_core::acknowledge(&so_far, session, device, &mut self.marks);
         }
-        self.made += take_over(&mut self.facts, &mut self.seating, &self.marks, from);
+        self.made += take_over(&mut self.facts, &self.marks, from);
     }
 
     /// The live handles of a session's devices are dead.
@@ -109,10 +101,10 @@ impl Draft {
     {
         let from = self.marks.len();
         {
-            let so_far = SoFar::of(&self.facts, &self.seating, &self.journal, &self.marks);
+            let so_far = SoFar::of(&self.facts, &self.journal, &self.marks);
             switch_core::force(&so_far, session, &mut self.marks);
         }
-        self.made += take_over(&mut self.facts, &mut self.seating, &self.marks, from);
+        self.made += take_over(&mut self.facts, &self.marks, from);
     }
 
     /// The handles of a session's devices are live, and its controller is told of each.
@@ -122,10 +114,10 @@ impl Draft {
     {
         let from = self.marks.len();
         {
-            let so_far = SoFar::of(&self.facts, &self.seating, &self.journal, &self.marks);
+            let so_far = SoFar::of(&self.facts, &self.journal, &self.marks);
             switch_core::resume(&so_far, session, &mut self.marks);
         }
-        self.made += take_over(&mut self.facts, &mut self.seating, &self.marks, from);
+        self.made += take_over(&mut self.facts, &self.marks, from);
     }
 
     /// Another terminal is asked for; the current one withdraws a switch that is pending.
@@ -135,10 +127,10 @@ impl Draft {
     {
         let from = self.marks.len();
         {
-            let so_far = SoFar::of(&self.facts, &self.seating, &self.journal, &self.marks);
+            let so_far = SoFar::of(&self.facts, &self.journal, &self.marks);
             switch_core::ask(&so_far, vt, &mut self.marks);
         }
-        self.made += take_over(&mut self.facts, &mut self.seating, &self.marks, from);
+        self.made += take_over(&mut self.facts, &self.marks, from);
     }
 
     /// The switch that is pending completes, once no pause is awaited.
@@ -149,10 +141,10 @@ impl Draft {
     {
         let from = self.marks.len();
         {
-            let so_far = SoFar::of(&self.facts, &self.seating, &self.journal, &self.marks);
+            let so_far = SoFar::of(&self.facts, &self.journal, &self.marks);
             switch_core::settle(&so_far, conf, &mut self.marks);
         }
-        self.made += take_over(&mut self.facts, &mut self.seating, &self.marks, from);
+        self.made += take_over(&mut self.facts, &self.marks, from);
     }
 
     /// An operation waits from now on, past the locks that block it or not, and all are told.
@@ -162,10 +154,10 @@ impl Draft {
     {
         let from = self.marks.len();
         {
-            let so_far = SoFar::of(&self.facts, &self.seating, &self.journal, &self.marks);
+            let so_far = SoFar::of(&self.facts, &self.journal, &self.marks);
             power_ops::request(&so_far, kind, skip, &mut self.marks);
         }
-        self.made += take_over(&mut self.facts, &mut self.seating, &self.marks, from);
+        self.made += take_over(&mut self.facts, &self.marks, from);
     }
 
     /// The operation that waits runs, once no lock delays it or it has waited for long.
@@ -175,10 +167,10 @@ impl Draft {
     {
         let from = self.marks.len();
         {
-            let so_far = SoFar::of(&self.facts, &self.seating, &self.journal, &self.marks);
+            let so_far = SoFar::of(&self.facts, &self.journal, &self.marks);
             power_ops::settle(&so_far, conf, &mut self.marks);
         }
-        self.made += take_over(&mut self.facts, &mut self.seating, &self.marks, from);
+        self.made += take_over(&mut self.facts, &self.marks, from);
     }
 
     /// The operation that runs is over, and all are told.
@@ -188,9 +180,9 @@ impl Draft {
     {
         let from = self.marks.len();
         {
-            let so_far = SoFar::of(&self.facts, &self.seating, &self.journal, &self.marks);
+            let so_far = SoFar::of(&self.facts, &self.journal, &self.marks);
             power_ops::ended(&so_far, &mut self.marks);
         }
-        self.made += take_over(&mut self.facts, &mut self.seating, &self.marks, from);
+        self.made += take_over(&mut self.facts, &self.marks, from);
     }
 }

@@ -20,7 +20,7 @@ invariant_of-draft c =
       marks_are = ap (λ r. r.items) c.replace-marks.ensures.value;
       blank_is = ap (λ r. r.items) (c.replace-marks.ensures.after ∙ c.take.ensures.taken) ∙ c.requires.begun.idle_empty;
     } in
-    draft-closed before m.journal.items new e f.marks c.replace-marks.new.dest f.facts f.seating f.made f.reach c.draft.invariant b
+    draft-closed before m.journal.items new e f.marks c.replace-marks.new.dest f.facts f.made f.reach c.draft.invariant b
 
 pub returns-clause-closes : goal.returns-clause-closes
 returns-clause-closes c =
@@ -53,7 +53,7 @@ returns-clause-within c =
       marks_are = ap (λ r. r.items) c.replace-marks.ensures.value;
       blank_is = ap (λ r. r.items) (c.replace-marks.ensures.after ∙ c.take.ensures.taken) ∙ c.requires.begun.idle_empty;
     } in
-    let made = (draft-closed before m.journal.items new e f.marks c.replace-marks.new.dest f.facts f.seating f.made f.reach c.draft.invariant b).counted in
+    let made = (draft-closed before m.journal.items new e f.marks c.replace-marks.new.dest f.facts f.made f.reach c.draft.invariant b).counted in
     omega arith
 
 pub returns-clause-keys : goal.returns-clause-keys

@@ -12,7 +12,7 @@ invariant_of-self c =
     let within = i.within in
     let far = i.far_enough in
     let spare = ap (λ r. r.spare) c.replace.ensures.after in
-    draft-changed es f.marks c.replace.new.dest f.facts f.seating f.made f.reach (f.made + c.min-more.result) i (ap (λ r. r.items) c.replace.ensures.after ∙ c.requires.empty ∙ sym none)
+    draft-changed es f.marks c.replace.new.dest f.facts f.made f.reach (f.made + c.min-more.result) i (ap (λ r. r.items) c.replace.ensures.after ∙ c.requires.empty ∙ sym none)
     (omega arith) (omega (arith, c.min-more.ensures, c.spare.ensures)) (omega (arith, c.min-more.ensures, c.spare.ensures))
 
 pub returns-clause-room : goal.returns-clause-room

@@ -1,5 +1,4 @@
-use Rattle.std.proofs.Common.{◌≡◌, [], ◌∙◌, ap, subst, sym, arith}
-use Rattle.login_core.specs.inner.Seating.{AreSeated}
+use Rattle.std.proofs.Common.{◌≡◌, [], ◌∙◌, ap, sym, arith}
 use Rattle.login_core.proofs.Standing.{none-start, stand-start}
 use Rattle.login_core.proofs.Drafting.{nothing-marked}
 use Rattle.login_core.proofs.board.Draft.new.Goals as goal
@@ -11,7 +10,6 @@ invariant_of-result c =
     let none : es ≡ [] = ap (λ j. j.items) c.of-2.ensures ∙ c.new.ensures in
     record {
       stands = stand-start c.new-3.result es ms c.new-3.ensures.stands none c.new-2.ensures;
-      seated = subst (AreSeated c.new-4.result) (sym (nothing-marked es ms none c.new-2.ensures)) c.new-4.ensures;
       counted = sym (none-start es ms none c.new-2.ensures);
       marks_fit = omega arith;
       facts_fit = omega arith;

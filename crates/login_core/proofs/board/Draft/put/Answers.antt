@@ -10,7 +10,6 @@ use Rattle.login_core.specs.inner.Draft.{DraftState, with_trail}
 use Rattle.login_table.proofs.Appending.{put-made, put-same}
 use Rattle.login_core.proofs.Known.{named-here}
 use Rattle.login_core.proofs.Standing.{opened}
-use Rattle.login_core.proofs.TallyLaws.{seated-noted, seated-room}
 use Rattle.login_core.proofs.Drafting.{draft-more, fresh-room, keys-set, new-here, one-more, room-inside, seen-more}
 use Rattle.login_core.proofs.board.Draft.put.Goals as goal
 
@@ -19,17 +18,6 @@ returns-then-is_same_fact c =
     let d = c.args.self.now in
     let same : same_fact (value d.trail c.args.key) c.args.fact ≡ true = ap (λ (f : Fact). same_fact f c.args.fact) (sym c.fact.ensures) ∙ sym c.is_same_fact.ensures ∙ c.if-is_same_fact.true in
     record { marked = ap (with_trail d) (sym (put-same c.args.key c.args.fact d.trail same)) }
-
-pub note-requires : goal.note-requires
-note-requires c =
-    let d = c.args.self.now in
-    let f = c.self.inside in
-    let t = so_far f.journal.value.items f.marks.items in
-    let other : same_fact (value d.trail c.args.key) c.args.fact ≡ false = ap (λ (f : Fact). same_fact f c.args.fact) (sym c.fact.ensures) ∙ sym c.is_same_fact.ensures ∙ c.if-is_same_fact.false in
-    let room = room-inside f.journal.value.items f.marks.items f.facts f.reach d c.self.view_is (one-more c.args.key c.args.fact d other c.requires.room) in
-    let far = c.self.invariant.far_enough in
-    let numbered = c.self.invariant.numbered in
-    seated-room f.seating c.args.key c.args.copy c.fact-2.result.now t c.self.invariant.seated (c.fact-2.ensures t c.self.invariant.stands) (omega arith)
 
 pub set-requires-clause-spare : goal.set-requires-clause-spare
 set-requires-clause-spare c =
@@ -78,9 +66,8 @@ invariant_of-self c =
     let other : same_fact (value d.trail c.args.key) c.args.fact ≡ false = ap (λ (f : Fact). same_fact f c.args.fact) (sym c.fact.ensures) ∙ sym c.is_same_fact.ensures ∙ c.if-is_same_fact.false in
     let room = room-inside es ms f.facts f.reach d c.self.view_is (one-more c.args.key c.args.fact d other c.requires.room) in
     let P : Fact → Type 0 = λ y. StandFor c.set.new.self (Set c.args.key y ∷ so_far es ms) in
-    draft-more es f.marks c.push.new.self f.facts c.set.new.self f.seating c.note.new.self f.made f.reach (Set c.args.key c.args.fact) c.self.invariant room
+    draft-more es f.marks c.push.new.self f.facts c.set.new.self f.made f.reach (Set c.args.key c.args.fact) c.self.invariant room
     c.push.ensures.items c.push.ensures.spare (omega (arith, c.set.ensures.spare)) (subst P c.requires.copy (c.set.ensures.stands (so_far es ms) c.self.invariant.stands))
-    (seated-noted f.seating c.note.new.self c.args.key c.args.copy c.fact-2.result.now c.args.fact (so_far es ms) c.self.invariant.seated (c.fact-2.ensures (so_far es ms) c.self.invariant.stands) c.requires.copy c.note.ensures)
 
 pub returns : goal.returns
 returns c =

@@ -6,35 +6,35 @@ use Rattle.login_core.proofs.board.Draft.request.Goals as goal
 pub ask-requires-clause-room : goal.ask-requires-clause-room
 ask-requires-clause-room c =
     let f = c.self.inside in
-    has-room (request c.args.vt) f.journal.value.items f.marks f.facts f.seating f.made f.reach c.args.self.now c.of-so_far.result c.self.invariant c.self.view_is c.requires.room c.of-so_far.ensures
+    has-room (request c.args.vt) f.journal.value.items f.marks f.facts f.made f.reach c.args.self.now c.of-so_far.result c.self.invariant c.self.view_is c.requires.room c.of-so_far.ensures
 
 pub ask-requires-clause-handles : goal.ask-requires-clause-handles
 ask-requires-clause-handles c =
     let f = c.self.inside in
-    more-handles f.journal.value.items f.marks f.facts f.seating f.made f.reach c.of-so_far.result c.self.invariant c.of-so_far.ensures
+    more-handles f.journal.value.items f.marks f.facts f.made f.reach c.of-so_far.result c.self.invariant c.of-so_far.ensures
 
 pub take_over-requires-clause-can : goal.take_over-requires-clause-can
 take_over-requires-clause-can c =
     let f = c.self.inside in
-    let more = has-more (request c.args.vt) f.journal.value.items f.marks c.ask.new.out f.facts f.seating f.made f.reach c.args.self.now c.of-so_far.result c.self.invariant c.self.view_is c.requires.room c.of-so_far.ensures c.ask.ensures.appends c.ask.ensures.room in
-    more-can _ _ f.marks c.ask.new.out f.facts f.seating f.made f.reach c.args.self.now c.len-from.result more c.len-from.ensures.value
+    let more = has-more (request c.args.vt) f.journal.value.items f.marks c.ask.new.out f.facts f.made f.reach c.args.self.now c.of-so_far.result c.self.invariant c.self.view_is c.requires.room c.of-so_far.ensures c.ask.ensures.appends c.ask.ensures.room in
+    more-can _ _ f.marks c.ask.new.out f.facts f.made f.reach c.args.self.now c.len-from.result more c.len-from.ensures.value
 
 pub overflow_add-self : goal.overflow_add-self
 overflow_add-self c =
     let f = c.self.inside in
-    let more = has-more (request c.args.vt) f.journal.value.items f.marks c.ask.new.out f.facts f.seating f.made f.reach c.args.self.now c.of-so_far.result c.self.invariant c.self.view_is c.requires.room c.of-so_far.ensures c.ask.ensures.appends c.ask.ensures.room in
-    let made = more-made _ _ f.marks c.ask.new.out f.facts f.seating f.made f.reach c.args.self.now c.len-from.result c.take_over.result more c.len-from.ensures.value c.take_over.ensures.count in
+    let more = has-more (request c.args.vt) f.journal.value.items f.marks c.ask.new.out f.facts f.made f.reach c.args.self.now c.of-so_far.result c.self.invariant c.self.view_is c.requires.room c.of-so_far.ensures c.ask.ensures.appends c.ask.ensures.room in
+    let made = more-made _ _ f.marks c.ask.new.out f.facts f.made f.reach c.args.self.now c.len-from.result c.take_over.result more c.len-from.ensures.value c.take_over.ensures.count in
     omega arith
 
 pub invariant_of-self : goal.invariant_of-self
 invariant_of-self c =
     let f = c.self.inside in
-    let more = has-more (request c.args.vt) f.journal.value.items f.marks c.ask.new.out f.facts f.seating f.made f.reach c.args.self.now c.of-so_far.result c.self.invariant c.self.view_is c.requires.room c.of-so_far.ensures c.ask.ensures.appends c.ask.ensures.room in
-    more-draft _ _ f.marks c.ask.new.out f.facts c.take_over.new.facts f.seating c.take_over.new.seating f.made f.reach c.args.self.now c.len-from.result c.take_over.result more c.len-from.ensures.value
+    let more = has-more (request c.args.vt) f.journal.value.items f.marks c.ask.new.out f.facts f.made f.reach c.args.self.now c.of-so_far.result c.self.invariant c.self.view_is c.requires.room c.of-so_far.ensures c.ask.ensures.appends c.ask.ensures.room in
+    more-draft _ _ f.marks c.ask.new.out f.facts c.take_over.new.facts f.made f.reach c.args.self.now c.len-from.result c.take_over.result more c.len-from.ensures.value
     c.take_over.ensures.count c.take_over.ensures.takes
 
 pub returns : goal.returns
 returns c =
     let f = c.self.inside in
-    let more = has-more (request c.args.vt) f.journal.value.items f.marks c.ask.new.out f.facts f.seating f.made f.reach c.args.self.now c.of-so_far.result c.self.invariant c.self.view_is c.requires.room c.of-so_far.ensures c.ask.ensures.appends c.ask.ensures.room in
-    record { marked = more-seen _ _ f.marks c.ask.new.out f.facts c.take_over.new.facts f.seating c.take_over.new.seating f.made f.reach c.args.self.now c.len-from.result more c.len-from.ensures.value c.take_over.ensures.takes }
+    let more = has-more (request c.args.vt) f.journal.value.items f.marks c.ask.new.out f.facts f.made f.reach c.args.self.now c.of-so_far.result c.self.invariant c.self.view_is c.requires.room c.of-so_far.ensures c.ask.ensures.appends c.ask.ensures.room in
+    record { marked = more-seen _ _ f.marks c.ask.new.out f.facts c.take_over.new.facts f.made f.reach c.args.self.now c.len-from.result more c.len-from.ensures.value c.take_over.ensures.takes }

@@ -6,35 +6,35 @@ use Rattle.login_core.proofs.board.Draft.resume.Goals as goal
 pub resume-requires-clause-room : goal.resume-requires-clause-room
 resume-requires-clause-room c =
     let f = c.self.inside in
-    has-room (resume c.args.session) f.journal.value.items f.marks f.facts f.seating f.made f.reach c.args.self.now c.of-so_far.result c.self.invariant c.self.view_is c.requires.room c.of-so_far.ensures
+    has-room (resume c.args.session) f.journal.value.items f.marks f.facts f.made f.reach c.args.self.now c.of-so_far.result c.self.invariant c.self.view_is c.requires.room c.of-so_far.ensures
 
 pub resume-requires-clause-numbered : goal.resume-requires-clause-numbered
 resume-requires-clause-numbered c =
     let f = c.self.inside in
-    more-numbered (resume c.args.session) f.journal.value.items f.marks f.facts f.seating f.made f.reach c.args.self.now c.of-so_far.result c.self.invariant c.self.view_is c.of-so_far.ensures c.requires.room
+    more-numbered (resume c.args.session) f.journal.value.items f.marks f.facts f.made f.reach c.args.self.now c.of-so_far.result c.self.invariant c.self.view_is c.of-so_far.ensures c.requires.room
 
 pub take_over-requires-clause-can : goal.take_over-requires-clause-can
 take_over-requires-clause-can c =
     let f = c.self.inside in
-    let more = has-more (resume c.args.session) f.journal.value.items f.marks c.resume.new.out f.facts f.seating f.made f.reach c.args.self.now c.of-so_far.result c.self.invariant c.self.view_is c.requires.room c.of-so_far.ensures c.resume.ensures.appends c.resume.ensures.room in
-    more-can _ _ f.marks c.resume.new.out f.facts f.seating f.made f.reach c.args.self.now c.len-from.result more c.len-from.ensures.value
+    let more = has-more (resume c.args.session) f.journal.value.items f.marks c.resume.new.out f.facts f.made f.reach c.args.self.now c.of-so_far.result c.self.invariant c.self.view_is c.requires.room c.of-so_far.ensures c.resume.ensures.appends c.resume.ensures.room in
+    more-can _ _ f.marks c.resume.new.out f.facts f.made f.reach c.args.self.now c.len-from.result more c.len-from.ensures.value
 
 pub overflow_add-self : goal.overflow_add-self
 overflow_add-self c =
     let f = c.self.inside in
-    let more = has-more (resume c.args.session) f.journal.value.items f.marks c.resume.new.out f.facts f.seating f.made f.reach c.args.self.now c.of-so_far.result c.self.invariant c.self.view_is c.requires.room c.of-so_far.ensures c.resume.ensures.appends c.resume.ensures.room in
-    let made = more-made _ _ f.marks c.resume.new.out f.facts f.seating f.made f.reach c.args.self.now c.len-from.result c.take_over.result more c.len-from.ensures.value c.take_over.ensures.count in
+    let more = has-more (resume c.args.session) f.journal.value.items f.marks c.resume.new.out f.facts f.made f.reach c.args.self.now c.of-so_far.result c.self.invariant c.self.view_is c.requires.room c.of-so_far.ensures c.resume.ensures.appends c.resume.ensures.room in
+    let made = more-made _ _ f.marks c.resume.new.out f.facts f.made f.reach c.args.self.now c.len-from.result c.take_over.result more c.len-from.ensures.value c.take_over.ensures.count in
     omega arith
 
 pub invariant_of-self : goal.invariant_of-self
 invariant_of-self c =
     let f = c.self.inside in
-    let more = has-more (resume c.args.session) f.journal.value.items f.marks c.resume.new.out f.facts f.seating f.made f.reach c.args.self.now c.of-so_far.result c.self.invariant c.self.view_is c.requires.room c.of-so_far.ensures c.resume.ensures.appends c.resume.ensures.room in
-    more-draft _ _ f.marks c.resume.new.out f.facts c.take_over.new.facts f.seating c.take_over.new.seating f.made f.reach c.args.self.now c.len-from.result c.take_over.result more c.len-from.ensures.value
+    let more = has-more (resume c.args.session) f.journal.value.items f.marks c.resume.new.out f.facts f.made f.reach c.args.self.now c.of-so_far.result c.self.invariant c.self.view_is c.requires.room c.of-so_far.ensures c.resume.ensures.appends c.resume.ensures.room in
+    more-draft _ _ f.marks c.resume.new.out f.facts c.take_over.new.facts f.made f.reach c.args.self.now c.len-from.result c.take_over.result more c.len-from.ensures.value
     c.take_over.ensures.count c.take_over.ensures.takes
 
 pub returns : goal.returns
 returns c =
     let f = c.self.inside in
-    let more = has-more (resume c.args.session) f.journal.value.items f.marks c.resume.new.out f.facts f.seating f.made f.reach c.args.self.now c.of-so_far.result c.self.invariant c.self.view_is c.requires.room c.of-so_far.ensures c.resume.ensures.appends c.resume.ensures.room in
-    record { marked = more-seen _ _ f.marks c.resume.new.out f.facts c.take_over.new.facts f.seating c.take_over.new.seating f.made f.reach c.args.self.now c.len-from.result more c.len-from.ensures.value c.take_over.ensures.takes }
+    let more = has-more (resume c.args.session) f.journal.value.items f.marks c.resume.new.out f.facts f.made f.reach c.args.self.now c.of-so_far.result c.self.invariant c.self.view_is c.requires.room c.of-so_far.ensures c.resume.ensures.appends c.resume.ensures.room in
+    record { marked = more-seen _ _ f.marks c.resume.new.out f.facts c.take_over.new.facts f.made f.reach c.args.self.now c.len-from.result more c.len-from.ensures.value c.take_over.ensures.takes }

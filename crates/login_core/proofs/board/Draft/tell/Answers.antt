@@ -3,7 +3,6 @@ use Rattle.login_model.specs.declared.mark.Mark.TheVariants.{Say}
 use Rattle.login_core.specs.State.{keys_of}
 use Rattle.login_core.specs.inner.UnderWay.{so_far}
 use Rattle.login_core.proofs.Standing.{stand-say}
-use Rattle.login_core.proofs.TallyLaws.{seated-say}
 use Rattle.login_core.proofs.Drafting.{draft-more, keys-say, room-inside, said-room, seen-more}
 use Rattle.login_core.proofs.board.Draft.tell.Goals as goal
 
@@ -21,9 +20,8 @@ invariant_of-self c =
     let es = f.journal.value.items in
     let ms = f.marks.items in
     let room = room-inside es ms f.facts f.reach c.args.self.now c.self.view_is (said-room c.args.whom c.args.notice c.args.self.now c.requires.room) in
-    draft-more es f.marks c.push.new.self f.facts f.facts f.seating f.seating f.made f.reach (Say c.args.whom c.args.notice) c.self.invariant room
+    draft-more es f.marks c.push.new.self f.facts f.facts f.made f.reach (Say c.args.whom c.args.notice) c.self.invariant room
     c.push.ensures.items c.push.ensures.spare (omega arith) (stand-say f.facts (so_far es ms) c.args.whom c.args.notice c.self.invariant.stands)
-    (seated-say f.seating c.args.whom c.args.notice (so_far es ms) c.self.invariant.seated)
 
 pub returns : goal.returns
 returns c =

@@ -14,7 +14,7 @@ invariant_of-self c =
     let none = none-made es f.marks.items f.facts f.reach c.args.self.now c.self.view_is c.requires in
     let fit = c.self.invariant.marks_fit in
     let wider = c.trim.ensures.spare in
-    draft-changed es f.marks c.trim.new.widest f.facts f.seating f.made f.reach f.reach.entry c.self.invariant (c.trim.ensures.empty ∙ sym none)
+    draft-changed es f.marks c.trim.new.widest f.facts f.made f.reach f.reach.entry c.self.invariant (c.trim.ensures.empty ∙ sym none)
     c.self.invariant.within (omega arith) c.self.invariant.far_enough
 
 pub returns-clause-same : goal.returns-clause-same

@@ -1,17 +1,17 @@
-use Rattle.std.proofs.Common.{◌≡◌, ℕ, ◌+◌, ◌-◌, ◌∙◌, not, refl, List, Option, ap, sym, subst, arith}
+use Rattle.std.proofs.Common.{◌≡◌, ℕ, ◌+◌, ◌-◌, ◌∙◌, not, refl, ap, sym, subst, arith}
 use Rattle.login_model.specs.declared.fact.Key.{Key}
 use Rattle.login_model.specs.declared.fact.Fact.{Fact}
 use Rattle.login_model.specs.Fresh.{fresh_session, fresh_handle, fresh_lock}
-use Rattle.login_model.specs.Names.{insert_some}
 use Rattle.login_model.specs.Trail.{value, was_set}
 use Rattle.login_table.specs.declared.home.Home.TheVariants.{Users, Sessions, Seats, Devices, Controls, Takes, Locks, Power}
 use Rattle.login_core.specs.declared.board.facts.Facts.TheInside.{Inside}
 use Rattle.login_core.specs.declared.room.counts.Counts.{Counts}
 use Rattle.login_core.specs.inner.Counts.{CanAllMove, Follow, counts_of}
-use Rattle.login_core.specs.declared.board.holding.Holding.{Holding}
+use Rattle.login_core.specs.declared.board.holding.Things.{Things}
 use Rattle.login_core.specs.declared.board.keys.KeyRoom.{KeyRoom}
 use Rattle.login_core.specs.inner.Facts.{Tables, TablesStand}
-use Rattle.login_core.specs.inner.Holding.{holding_in, holding_lt, without}
+use Rattle.login_core.specs.inner.Holding.{Rows, shifted, things_of}
+use Rattle.login_core.specs.inner.Holdings.{rows_of}
 use Rattle.login_core.proofs.CountedLaws.{counted-fit}
 use Rattle.login_core.proofs.HeldRows.{noted}
 use Rattle.login_core.proofs.KeyRooms.{GoesIn, goes-room, others-left, taken-left}
@@ -31,10 +31,10 @@ follow n lost gained m k x y v l e g h =
     let Q : Counts → Type 0 = λ a. Follow n (counts_of k v) a m in
     subst Q g (subst P (l ∙ ap (counts_of k) e) h)
 
-noted-by : (xs ys : List Holding) (lost gained : Option Holding) (k : Key) (x y v : Fact) → ys ≡ insert_some holding_lt gained (without lost xs) → lost ≡ holding_in k y → y ≡ v → gained ≡ holding_in k x → ys ≡ noted k v x xs
-noted-by xs ys lost gained k x y v e l f g =
-    e ∙ ap (λ (o : Option Holding). insert_some holding_lt o (without lost xs)) g
-    ∙ ap (λ (o : Option Holding). insert_some holding_lt (holding_in k x) (without o xs)) (l ∙ ap (holding_in k) f)
+noted-by : (h g : Rows) (lost gained : Things) (k : Key) (x y v : Fact) → g ≡ shifted lost gained h → lost ≡ things_of k y → y ≡ v → gained ≡ things_of k x → g ≡ noted k v x h
+noted-by h g lost gained k x y v e l f i =
+    e ∙ ap (λ (a : Things). shifted lost a h) i
+    ∙ ap (λ (a : Things). shifted a (things_of k x) h) (l ∙ ap (things_of k) f)
 
 -- what facts of these parts are seen as
 abbrev tables_of : Inside → Tables
@@ -53,7 +53,7 @@ tables_of f = record {
   session = f.session;
   handle = f.handle;
   lock = f.lock;
-  held = f.holdings.list;
+  held = rows_of f.holdings;
   owing = f.owing;
   spare = f.spare;
   fresh = f.fresh;
@@ -115,7 +115,7 @@ returns-in-Users-clause-stands c = λ t s.
     let session = c.self.inside.session + c.of-gained.result.opened in
     let handle = c.self.inside.handle + c.gives.result in
     let lock = c.self.inside.lock + c.of-gained.result.locks in
-    let held = c.shift.new.self.list in
+    let held = rows_of c.shift.new.self in
     let spare = c.self.inside.spare - 1 in
     let fresh : KeyRoom = record c.self.inside.fresh { others = c.left-self-inside.result } in
     let g : Tables = record f { users = rows; counts = counts; session = session; handle = handle; lock = lock; held = held; spare = spare; fresh = fresh } in
@@ -125,7 +125,7 @@ returns-in-Users-clause-stands c = λ t s.
       session = ap (λ (n : Counts). c.self.inside.session + n.opened) c.of-gained.ensures;
       handle = ap (λ (n : ℕ). c.self.inside.handle + n) c.gives.ensures;
       lock = ap (λ (n : Counts). c.self.inside.lock + n.locks) c.of-gained.ensures;
-      held = noted-by c.self.inside.holdings.list held c.holding_in-lost_thing.result c.holding_in.result k x c.read-before.result.now (value t k) c.shift.ensures.list c.holding_in-lost_thing.ensures (c.read-before.ensures t s) c.holding_in.ensures;
+      held = noted-by (rows_of c.self.inside.holdings) held c.things_of-lost_things.result c.things_of.result k x c.read-before.result.now (value t k) c.shift.ensures.rows c.things_of-lost_things.ensures (c.read-before.ensures t s) c.things_of.ensures;
     } in
     stands-placed f g k x Users t places moves (subst P (sym c.self.view_is) s)
 
@@ -140,7 +140,7 @@ returns-in-Sessions-clause-stands c = λ t s.
     let session = c.self.inside.session + c.of-gained.result.opened in
     let handle = c.self.inside.handle + c.gives.result in
     let lock = c.self.inside.lock + c.of-gained.result.locks in
-    let held = c.shift.new.self.list in
+    let held = rows_of c.shift.new.self in
     let spare = c.self.inside.spare - 1 in
     let fresh : KeyRoom = record c.self.inside.fresh { others = c.left-self-inside-in-Sessions.result } in
     let g : Tables = record f { sessions = rows; counts = counts; session = session; handle = handle; lock = lock; held = held; spare = spare; fresh = fresh } in
@@ -150,7 +150,7 @@ returns-in-Sessions-clause-stands c = λ t s.
       session = ap (λ (n : Counts). c.self.inside.session + n.opened) c.of-gained.ensures;
       handle = ap (λ (n : ℕ). c.self.inside.handle + n) c.gives.ensures;
       lock = ap (λ (n : Counts). c.self.inside.lock + n.locks) c.of-gained.ensures;
-      held = noted-by c.self.inside.holdings.list held c.holding_in-lost_thing.result c.holding_in.result k x c.read-before.result.now (value t k) c.shift.ensures.list c.holding_in-lost_thing.ensures (c.read-before.ensures t s) c.holding_in.ensures;
+      held = noted-by (rows_of c.self.inside.holdings) held c.things_of-lost_things.result c.things_of.result k x c.read-before.result.now (value t k) c.shift.ensures.rows c.things_of-lost_things.ensures (c.read-before.ensures t s) c.things_of.ensures;
     } in
     stands-placed f g k x Sessions t places moves (subst P (sym c.self.view_is) s)
 
@@ -165,7 +165,7 @@ returns-in-Seats-clause-stands c = λ t s.
     let session = c.self.inside.session + c.of-gained.result.opened in
     let handle = c.self.inside.handle + c.gives.result in
     let lock = c.self.inside.lock + c.of-gained.result.locks in
-    let held = c.shift.new.self.list in
+    let held = rows_of c.shift.new.self in
     let spare = c.self.inside.spare - 1 in
     let fresh : KeyRoom = record c.self.inside.fresh { others = c.left-self-inside-in-Seats.result } in
     let g : Tables = record f { seats = rows; counts = counts; session = session; handle = handle; lock = lock; held = held; spare = spare; fresh = fresh } in
@@ -175,7 +175,7 @@ returns-in-Seats-clause-stands c = λ t s.
       session = ap (λ (n : Counts). c.self.inside.session + n.opened) c.of-gained.ensures;
       handle = ap (λ (n : ℕ). c.self.inside.handle + n) c.gives.ensures;
       lock = ap (λ (n : Counts). c.self.inside.lock + n.locks) c.of-gained.ensures;
-      held = noted-by c.self.inside.holdings.list held c.holding_in-lost_thing.result c.holding_in.result k x c.read-before.result.now (value t k) c.shift.ensures.list c.holding_in-lost_thing.ensures (c.read-before.ensures t s) c.holding_in.ensures;
+      held = noted-by (rows_of c.self.inside.holdings) held c.things_of-lost_things.result c.things_of.result k x c.read-before.result.now (value t k) c.shift.ensures.rows c.things_of-lost_things.ensures (c.read-before.ensures t s) c.things_of.ensures;
     } in
     stands-placed f g k x Seats t places moves (subst P (sym c.self.view_is) s)
 
@@ -192,7 +192,7 @@ returns-in-Devices-clause-stands c = λ t s.
     let session = c.self.inside.session + c.of-gained.result.opened in
     let handle = c.self.inside.handle + c.gives.result in
     let lock = c.self.inside.lock + c.of-gained.result.locks in
-    let held = c.shift.new.self.list in
+    let held = rows_of c.shift.new.self in
     let spare = c.self.inside.spare - 1 in
     let fresh : KeyRoom = record c.self.inside.fresh { others = c.left-self-inside-in-Devices.result } in
     let g : Tables = record f { devices = rows; ears = ears; rings = rings; counts = counts; session = session; handle = handle; lock = lock; held = held; spare = spare; fresh = fresh } in
@@ -202,7 +202,7 @@ returns-in-Devices-clause-stands c = λ t s.
       session = ap (λ (n : Counts). c.self.inside.session + n.opened) c.of-gained.ensures;
       handle = ap (λ (n : ℕ). c.self.inside.handle + n) c.gives.ensures;
       lock = ap (λ (n : Counts). c.self.inside.lock + n.locks) c.of-gained.ensures;
-      held = noted-by c.self.inside.holdings.list held c.holding_in-lost_thing.result c.holding_in.result k x c.read-before.result.now (value t k) c.shift.ensures.list c.holding_in-lost_thing.ensures (c.read-before.ensures t s) c.holding_in.ensures;
+      held = noted-by (rows_of c.self.inside.holdings) held c.things_of-lost_things.result c.things_of.result k x c.read-before.result.now (value t k) c.shift.ensures.rows c.things_of-lost_things.ensures (c.read-before.ensures t s) c.things_of.ensures;
     } in
     stands-placed f g k x Devices t places moves (subst P (sym c.self.view_is) s)
 
@@ -217,7 +217,7 @@ returns-in-Controls-clause-stands c = λ t s.
     let session = c.self.inside.session + c.of-gained.result.opened in
     let handle = c.self.inside.handle + c.gives.result in
     let lock = c.self.inside.lock + c.of-gained.result.locks in
-    let held = c.shift.new.self.list in
+    let held = rows_of c.shift.new.self in
     let spare = c.self.inside.spare - 1 in
     let fresh : KeyRoom = record c.self.inside.fresh { others = c.left-self-inside-in-Controls.result } in
     let g : Tables = record f { controls = rows; counts = counts; session = session; handle = handle; lock = lock; held = held; spare = spare; fresh = fresh } in
@@ -227,7 +227,7 @@ returns-in-Controls-clause-stands c = λ t s.
       session = ap (λ (n : Counts). c.self.inside.session + n.opened) c.of-gained.ensures;
       handle = ap (λ (n : ℕ). c.self.inside.handle + n) c.gives.ensures;
       lock = ap (λ (n : Counts). c.self.inside.lock + n.locks) c.of-gained.ensures;
-      held = noted-by c.self.inside.holdings.list held c.holding_in-lost_thing.result c.holding_in.result k x c.read-before.result.now (value t k) c.shift.ensures.list c.holding_in-lost_thing.ensures (c.read-before.ensures t s) c.holding_in.ensures;
+      held = noted-by (rows_of c.self.inside.holdings) held c.things_of-lost_things.result c.things_of.result k x c.read-before.result.now (value t k) c.shift.ensures.rows c.things_of-lost_things.ensures (c.read-before.ensures t s) c.things_of.ensures;
     } in
     stands-placed f g k x Controls t places moves (subst P (sym c.self.view_is) s)
 
@@ -242,7 +242,7 @@ returns-in-Takes-clause-stands c = λ t s.
     let session = c.self.inside.session + c.of-gained.result.opened in
     let handle = c.self.inside.handle + c.gives.result in
     let lock = c.self.inside.lock + c.of-gained.result.locks in
-    let held = c.shift.new.self.list in
+    let held = rows_of c.shift.new.self in
     let spare = c.self.inside.spare - 1 in
     let fresh : KeyRoom = record c.self.inside.fresh { taken = c.left-self-inside-in-Takes.result } in
     let g : Tables = record f { takes = rows; counts = counts; session = session; handle = handle; lock = lock; held = held; spare = spare; fresh = fresh } in
@@ -252,7 +252,7 @@ returns-in-Takes-clause-stands c = λ t s.
       session = ap (λ (n : Counts). c.self.inside.session + n.opened) c.of-gained.ensures;
       handle = ap (λ (n : ℕ). c.self.inside.handle + n) c.gives.ensures;
       lock = ap (λ (n : Counts). c.self.inside.lock + n.locks) c.of-gained.ensures;
-      held = noted-by c.self.inside.holdings.list held c.holding_in-lost_thing.result c.holding_in.result k x c.read-before.result.now (value t k) c.shift.ensures.list c.holding_in-lost_thing.ensures (c.read-before.ensures t s) c.holding_in.ensures;
+      held = noted-by (rows_of c.self.inside.holdings) held c.things_of-lost_things.result c.things_of.result k x c.read-before.result.now (value t k) c.shift.ensures.rows c.things_of-lost_things.ensures (c.read-before.ensures t s) c.things_of.ensures;
     } in
     stands-placed f g k x Takes t places moves (subst P (sym c.self.view_is) s)
 
@@ -267,7 +267,7 @@ returns-in-Locks-clause-stands c = λ t s.
     let session = c.self.inside.session + c.of-gained.result.opened in
     let handle = c.self.inside.handle + c.gives.result in
     let lock = c.self.inside.lock + c.of-gained.result.locks in
-    let held = c.shift.new.self.list in
+    let held = rows_of c.shift.new.self in
     let spare = c.self.inside.spare - 1 in
     let fresh : KeyRoom = record c.self.inside.fresh { others = c.left-self-inside-in-Locks.result } in
     let g : Tables = record f { locks = rows; counts = counts; session = session; handle = handle; lock = lock; held = held; spare = spare; fresh = fresh } in
@@ -277,7 +277,7 @@ returns-in-Locks-clause-stands c = λ t s.
       session = ap (λ (n : Counts). c.self.inside.session + n.opened) c.of-gained.ensures;
       handle = ap (λ (n : ℕ). c.self.inside.handle + n) c.gives.ensures;
       lock = ap (λ (n : Counts). c.self.inside.lock + n.locks) c.of-gained.ensures;
-      held = noted-by c.self.inside.holdings.list held c.holding_in-lost_thing.result c.holding_in.result k x c.read-before.result.now (value t k) c.shift.ensures.list c.holding_in-lost_thing.ensures (c.read-before.ensures t s) c.holding_in.ensures;
+      held = noted-by (rows_of c.self.inside.holdings) held c.things_of-lost_things.result c.things_of.result k x c.read-before.result.now (value t k) c.shift.ensures.rows c.things_of-lost_things.ensures (c.read-before.ensures t s) c.things_of.ensures;
     } in
     stands-placed f g k x Locks t places moves (subst P (sym c.self.view_is) s)
 
@@ -292,7 +292,7 @@ returns-in-Power-clause-stands c = λ t s.
     let session = c.self.inside.session + c.of-gained.result.opened in
     let handle = c.self.inside.handle + c.gives.result in
     let lock = c.self.inside.lock + c.of-gained.result.locks in
-    let held = c.shift.new.self.list in
+    let held = rows_of c.shift.new.self in
     let spare = c.self.inside.spare - 1 in
     let fresh : KeyRoom = record c.self.inside.fresh { others = c.left-self-inside-in-Power.result } in
     let g : Tables = record f { power = rows; counts = counts; session = session; handle = handle; lock = lock; held = held; spare = spare; fresh = fresh } in
@@ -302,7 +302,7 @@ returns-in-Power-clause-stands c = λ t s.
       session = ap (λ (n : Counts). c.self.inside.session + n.opened) c.of-gained.ensures;
       handle = ap (λ (n : ℕ). c.self.inside.handle + n) c.gives.ensures;
       lock = ap (λ (n : Counts). c.self.inside.lock + n.locks) c.of-gained.ensures;
-      held = noted-by c.self.inside.holdings.list held c.holding_in-lost_thing.result c.holding_in.result k x c.read-before.result.now (value t k) c.shift.ensures.list c.holding_in-lost_thing.ensures (c.read-before.ensures t s) c.holding_in.ensures;
+      held = noted-by (rows_of c.self.inside.holdings) held c.things_of-lost_things.result c.things_of.result k x c.read-before.result.now (value t k) c.shift.ensures.rows c.things_of-lost_things.ensures (c.read-before.ensures t s) c.things_of.ensures;
     } in
     stands-placed f g k x Power t places moves (subst P (sym c.self.view_is) s)
 

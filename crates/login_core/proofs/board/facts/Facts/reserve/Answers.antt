@@ -10,4 +10,4 @@ returns-clause-stands c = λ t s.
     let Q : Tables → Type 0 = λ f. AreOwed f.owing t in
     let f = subst P (sym c.self.view_is) (opened c.args.self.now t s) in
     let o = subst Q (sym c.self.view_is) (owing-of c.args.self.now t s) in
-    closed _ t (tables-roomy _ _ t f refl refl refl refl refl refl refl refl refl refl refl refl c.reserve.ensures.list) o
+    closed _ t (tables-roomy _ _ t f refl refl refl refl refl refl refl refl refl refl refl refl c.reserve.ensures.rows) o

@@ -10,7 +10,7 @@ use Rattle.login_core.proofs.DuesMoved.{behind-marks, behind-taken, due-within, 
 use Rattle.login_core.proofs.Known.{known-set, named-there}
 use Rattle.login_laws.specs.Amounts.{OfOthers, OfTaken}
 use Rattle.login_core.proofs.TakerRows.{gained-row, taker-room, takers-behind, takers-few}
-use Rattle.login_core.proofs.Welcomed.{each-due, rows-behind, rows-few}
+use Rattle.login_core.proofs.Welcomed.{each-due, rows-behind, rows-few, welcome-room}
 use Rattle.login_core.proofs.Standing.{closed, opened, owing-of, tables-same}
 use Rattle.login_core.proofs.board.facts.Facts.set.Goals as goal
 
@@ -30,6 +30,28 @@ lose-requires c = λ d.
     let inside = subst P (sym c.self.view_is) o in
     due-within c.self.inside.owing c.args.key c.fact-before.result.now c.args.fact few.marks c.by-touched.result d _ inside c.by-touched.ensures (c.fact-before.ensures few.marks few.stand)
     (c.of-lost.ensures.dues few.marks (opened now few.marks few.stand) o.taken d)
+
+pub put_in-requires-clause-few : goal.put_in-requires-clause-few
+put_in-requires-clause-few c =
+    let few = c.requires.few in
+    let R : Tables → Type 0 = λ f. TablesStand f few.marks in
+    let stand = subst R (sym c.self.view_is) (opened c.args.self.now few.marks few.stand) in
+    record { marks = few.marks; stand = tables-same _ c.lose.new.self c.self.inside.spare c.self.inside.fresh few.marks stand; few = few.few }
+
+pub welcome-requires-clause-room : goal.welcome-requires-clause-room
+welcome-requires-clause-room c =
+    let few = c.requires.few in
+    let now = c.args.self.now in
+    let P : Tables → Type 0 = λ f. AreOwed f.owing few.marks in
+    let inside = subst P (sym c.self.view_is) (owing-of now few.marks few.stand) in
+    let put = ap (λ (f : Tables). f.owing) c.self-2.view_is ∙ c.put_in.ensures.owing in
+    let before = c.self.invariant in
+    let fresh-is = ap (λ (f : Tables). f.fresh.others) c.self.view_is in
+    let lost-spare = c.lose.ensures.spare in
+    let put-spare = ap (λ (w : Owing). w.marks.spare) put in
+    let fits : now.fresh.others ≤ c.self-2.inside.owing.marks.spare = search rules in
+    welcome-room now c.args.key few.marks c.self.inside.owing c.lose.new.self c.self-2.inside.owing c.connection_in-comer.result now.fresh (opened now few.marks few.stand) inside.rows c.lose.ensures.rows put
+    c.connection_in-comer.ensures fits c.requires.fresh
 
 pub shift-requires-clause-within : goal.shift-requires-clause-within
 shift-requires-clause-within c = λ s.

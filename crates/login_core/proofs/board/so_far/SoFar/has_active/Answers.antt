@@ -1,16 +1,18 @@
-use Rattle.std.proofs.Common.{◌∙◌, subst, sym}
-use Rattle.login_model.specs.Facts.{seated_user}
-use Rattle.login_core.specs.declared.board.seating.Crowd.{Crowd}
-use Rattle.login_core.specs.inner.Seating.{IsCrowd}
-use Rattle.login_core.proofs.SeatedLaws.{active-alone, inactive}
+use Rattle.std.proofs.Common.{◌∙◌, Bool, None, rules}
+use Rattle.login_base.specs.declared.ids.SessId.{SessId}
+use Rattle.login_model.specs.declared.fact.Key.TheVariants.{Sess}
+use Rattle.login_model.specs.Facts.{is_seated_of}
+use Rattle.login_model.specs.Names.{IsNext, session_lt}
+use Rattle.login_model.specs.Standing.{is_active_of}
+use Rattle.login_model.specs.Trail.{value}
+use Rattle.login_core.specs.inner.Chosen.{is_chosen}
+use Rattle.login_core.proofs.HeldSessions.{active-found}
 use Rattle.login_core.proofs.board.so_far.SoFar.has_active.Goals as goal
 
-pub returns-in-Nobody : goal.returns-in-Nobody
-returns-in-Nobody c =
-    let P : Crowd → Type 0 = IsCrowd seated_user c.args.self.now c.args.uid in
-    sym (inactive c.args.self.now c.args.uid (subst P c.in-Nobody.is c.crowd_of.ensures))
-
-pub returns-in-Alone : goal.returns-in-Alone
-returns-in-Alone c =
-    let P : Crowd → Type 0 = IsCrowd seated_user c.args.self.now c.args.uid in
-    sym (active-alone c.args.self.now c.args.uid c.in-Alone.session (subst P c.in-Alone.is c.crowd_of.ensures).0 ∙ sym c.is_active_of.ensures)
+pub returns : goal.returns
+returns c =
+    let t = c.args.self.now in
+    let seated : SessId → Bool = λ s. is_seated_of c.args.uid (value t (Sess s)) in
+    let active : SessId → Bool = is_active_of t c.args.uid in
+    let least : IsNext session_lt (is_chosen seated active) None c.least_that-active.result = search rules in
+    c.is_some.ensures ∙ active-found t c.args.uid c.least_that-active.result least
