@@ -4,7 +4,7 @@
 # `next_of_many` as many are on terminals as can be, in `ticks_of_users` they are of 1,000 users in turn, and in
 # `late_hints` each is locked. In `seated_stranger` there is one more, of another user, on a terminal too; in
 # `next_elsewhere` and `elsewhere_stranger` there are three more on another seat, two of them of another user, who is not
-# active there.
+# active there; where `many` is behind these names, those that stay are on that seat too.
 
 function line(text) { print text; made++ }
 
@@ -23,7 +23,8 @@ function create_many(who, many,  i) { for (i = 1; i <= many; i++) create(who, 0)
 # Creates so many sessions that stay.
 function stay(many,  i) {
     for (i = 1; i <= many; i++)
-        create(1, i <= (shape == "next_of_many" ? 63 : 2) ? i : 0, "", shape == "ticks_of_users" ? 1000 + i % 1000 : 0)
+        create(1, shape !~ /where.*_of_many/ && i <= (shape == "next_of_many" ? 63 : 2) ? i : 0, "",
+            shape == "ticks_of_users" ? 1000 + i % 1000 : 0, shape ~ /where.*_of_many/ ? "seat-x" : "")
     if (shape == "late_hints") for (i = 1; i <= many; i++) call(1, "locked c" i " true")
 }
 
@@ -33,16 +34,16 @@ function setting(i) { return i % 2 ? "true" : "false" }
 function begin(  i, s) {
     print "login-recording 1\nuser 1000 1000 alice"
     if (shape ~ /users$/) for (i = 1; i < 1000; i++) print "user " 1000 + i " " 1000 + i " user" i
-    if (shape ~ /^(seated_stranger|.*elsewhere.*)$/) print "user 1001 1001 bob"
+    if (shape ~ /^seated_stranger$|elsewhere/) print "user 1001 1001 bob"
     print "go"
     line("connect 1 0")
     if (beside) {
         line("connect 2 1000"); line("connect 3 1001")
+        if (shape ~ /elsewhere/) line("add 226 0 drm seat-x")
         stay(beside)
         if (shape == "seated_stranger") create(1, 3, "", 1001)
         else if (shape == "sharing_stranger") line("connect 4 1064")
         else if (shape ~ /elsewhere/) {
-            line("add 226 0 drm seat-x")
             create(1, 0, "", 1001, "seat-x"); create(1, 0, "", 1001, "seat-x"); create(1, 0, "", 1000, "seat-x")
         }
         count += made
@@ -138,11 +139,11 @@ function step(i,  who) {
     else if (shape ~ /^callers/) call(2 + i % 60, "ping")
     else if (shape ~ /_hints$/) call(1, "idle c" (1 + i % beside) " " setting(int(i / beside) + 1))
     else if (shape ~ /^next(_of_many)?$/) call(1, "next seat0")
-    else if (shape == "next_elsewhere") call(1, "next seat-x")
+    else if (shape ~ /^next_elsewhere/) call(1, "next seat-x")
     else if (shape == "ends") { line("connect " (i + 3) " 1001"); line("disconnect " (i + 3)) }
     else if (shape == "closings") { create(1, 0); call(1, "close " sessions); line("exit c" sessions) }
     else if (shape == "own_lock") call(2, "lock c1")
-    else if (shape ~ /^((seated|elsewhere)_)?stranger$/) call(3, "lock c1")
+    else if (shape ~ /^((seated|elsewhere)_)?stranger(_of_many)?$/) call(3, "lock c1")
     else if (shape == "sharing_stranger") call(4, "lock c1")
     else { print "no shape " shape >"/dev/stderr"; exit 1 }
 }
