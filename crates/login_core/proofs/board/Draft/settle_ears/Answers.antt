@@ -32,7 +32,6 @@ invariant_of-self c =
     let fit = i.facts_fit in
     record {
       stands = c.settle_ears.ensures.stands (so_far f.journal.value.items f.marks.items) i.stands;
-      seated = i.seated;
       counted = i.counted;
       marks_fit = i.marks_fit;
       facts_fit = omega arith;
