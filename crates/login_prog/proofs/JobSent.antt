@@ -7,7 +7,6 @@ use Rattle.std.proofs.alloc.Global.TheSendSync as heap
 use Rattle.login_base.proofs.ids.Uid.TheSendSync as uid
 use Rattle.login_base.proofs.reserved.Reserved.TheSendSync as reserved
 use Rattle.login_core.proofs.board.facts.Facts.TheSendSync as facts
-use Rattle.login_core.proofs.board.seating.Seating.TheSendSync as seating
 use Rattle.login_core.proofs.room.ledger.Ledger.TheSendSync as ledger
 use Rattle.login_core.proofs.room.ready.Ready.TheSendSync as ready
 use Rattle.login_core.proofs.room.texts.Texts.TheSendSync as texts
@@ -26,7 +25,7 @@ use Rattle.login_prog.specs.contracts.serve.link_job.LinkJob as LinkJob
 use Rattle.login_prog.specs.contracts.serve.reader_job.ReaderJob as ReaderJob
 
 draft-send : IsSend Draft.the_row
-draft-send = search (reserved.the_send, mark.the_send, facts.the_send, seating.the_field_send, sendable, crosses) depth 60 fits 5000
+draft-send = search (reserved.the_send, mark.the_send, facts.the_send, sendable, crosses) depth 60 fits 5000
 
 board-send : IsSend (Board.the_field).row
 board-send = search (ledger.the_send, draft-send, reserved.the_send, mark.the_send, heap.the_field_send, sendable, crosses) depth 60 fits 5000
