@@ -19,7 +19,7 @@ use Rattle.login_laws.proofs.Widens.{Widens, widens-refl, leave-widens}
 use Rattle.login_model.proofs.Keys.{test, same-user}
 use Rattle.login_model.proofs.NameLaws.{user_order}
 use Rattle.login_model.proofs.InOrder.{users-enumerated}
-use Rattle.login_core.specs.inner.Counts.{leavers}
+use Rattle.login_facts.specs.Counts.{leavers}
 use Rattle.login_core.specs.inner.Leaving.{is_overdue}
 use Rattle.login_model.specs.Facts.{is_known, is_leaving_fact}
 use Rattle.login_core.proofs.Among.{among, left-same}

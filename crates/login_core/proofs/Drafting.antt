@@ -14,15 +14,16 @@ use Rattle.login_model.specs.declared.mark.Entry.{Entry}
 use Rattle.device_model.specs.declared.ears.Ear.{Ear}
 use Rattle.login_core.specs.declared.board.Reach.{Reach}
 use Rattle.login_laws.specs.Amounts.{Keys, Marks, OfOthers, OfTaken, Part, counts_in, keys_in, new_in, part}
-use Rattle.login_core.specs.State.{keys_of}
-use Rattle.login_core.specs.declared.board.keys.KeyRoom.{KeyRoom}
-use Rattle.login_core.specs.inner.Facts.{Tables, StandFor, table}
+use Rattle.login_facts.specs.KeyRooms.{keys_of}
+use Rattle.login_facts.specs.declared.key_room.KeyRoom.{KeyRoom}
+use Rattle.login_facts.specs.Facts.{Tables, StandFor, table}
 use Rattle.login_table.specs.Home.{home}
 use Rattle.login_core.specs.inner.UnderWay.{so_far}
 use Rattle.login_core.specs.inner.Draft.{DraftState, Fits, IsDraft, all_keys, tell, with_ears, with_keys, with_trail}
 use Rattle.login_laws.proofs.JournalLaws.{length-after}
 use Rattle.login_table.proofs.Appending.{put-made}
-use Rattle.login_core.proofs.Standing.{opened, so_far-more, so_far-start, so_far-closed}
+use Rattle.login_facts.proofs.Standing.{opened}
+use Rattle.login_core.proofs.UnderWay.{so_far-more, so_far-start, so_far-closed}
 
 -- what a draft of these parts is seen as
 abbrev pub seen : List Entry → List Mark → Tables → Reach → DraftState

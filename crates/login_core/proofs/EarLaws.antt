@@ -18,14 +18,14 @@ use Rattle.login_laws.specs.Hearing.{Heard, begins, is_turned, unheard}
 use Rattle.login_laws.proofs.Hearing.{unturned}
 use Rattle.login_laws.proofs.JournalLaws.{one-marks}
 use Rattle.login_core.specs.inner.Draft.{DraftState}
-use Rattle.login_core.specs.inner.Ears.{AreEnough, ListenLive, ListenOn, heard_with, of_evdev, settled}
-use Rattle.login_core.specs.inner.Facts.{Tables, StandFor}
+use Rattle.login_facts.specs.Ears.{AreEnough, ListenLive, ListenOn, heard_with, of_evdev, settled}
+use Rattle.login_facts.specs.Facts.{Tables, StandFor}
 use Rattle.login_core.specs.inner.UnderWay.{so_far}
 use Rattle.login_core.specs.declared.board.Reach.{Reach}
 use Rattle.login_core.proofs.Drafting.{seen}
 use Rattle.login_table.specs.declared.home.Home.TheVariants.{Devices, Takes}
-use Rattle.login_core.proofs.HomeLaws.{stand-at}
-use Rattle.login_core.proofs.Standing.{opened}
+use Rattle.login_facts.proofs.HomeLaws.{stand-at}
+use Rattle.login_facts.proofs.Standing.{opened}
 
 -- a handle is live in the table where it is after the marks
 live-there : (f : Tables) (t : Trail) → StandFor f t → (h : HandleNo) → is_live f.takes h ≡ is_live t h

@@ -19,7 +19,7 @@ use Rattle.login_core.specs.inner.Board.{IsBegun}
 use Rattle.login_core.specs.inner.Draft.{DraftState, marked_by, with_ears}
 use Rattle.login_core.specs.inner.UnderWay.{so_far, entry_of}
 use Rattle.login_core.specs.inner.State.{stop_next}
-use Rattle.login_core.proofs.Standing.{so_far-none, so_far-closed}
+use Rattle.login_core.proofs.UnderWay.{so_far-none, so_far-closed}
 
 -- one more legal entry
 legal-more : (U : Setup) (before es : List Entry) (e : Entry) → IsLegalAfter U before es → IsLegalEntry U (before ++ es) e → IsLegalAfter U before (es ++ e ∷ [])

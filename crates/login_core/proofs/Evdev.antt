@@ -37,7 +37,7 @@ use Rattle.login_laws.specs.Sound.{IsSoundBetween}
 use Rattle.login_laws.proofs.Granted.{NoneBroken, granted-rules, not-broken}
 use Rattle.login_laws.proofs.Hearing.{hearing-goes-on}
 use Rattle.login_laws.proofs.SoundLaws.{sound-journal}
-use Rattle.login_core.specs.inner.Ears.{heard_evdev, heard_with, of_evdev, settled}
+use Rattle.login_facts.specs.Ears.{heard_evdev, heard_with, of_evdev, settled}
 use Rattle.login_core.specs.inner.UnderWay.{entry_of}
 use Rattle.login_core.proofs.DeviceFacts.{device-goes-on}
 use Rattle.login_core.proofs.Entries.{Steps, legal-closed, legal-entry, trail-closed}

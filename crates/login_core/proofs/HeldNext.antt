@@ -20,13 +20,13 @@ use Rattle.login_model.proofs.Keys.{both, same-number, test}
 use Rattle.login_model.proofs.Values.{same-refl}
 use Rattle.login_laws.specs.Sound.{Fifos}
 use Rattle.login_laws.proofs.Paying.{open-session}
-use Rattle.login_core.specs.declared.board.holding.Thing.{Thing}
-use Rattle.login_core.specs.declared.board.holding.Thing.TheVariants.{Session, Lock, Fifo, Placed}
-use Rattle.login_core.specs.declared.board.holding.Holding.{Holding}
+use Rattle.login_facts.specs.declared.holding.Thing.{Thing}
+use Rattle.login_facts.specs.declared.holding.Thing.TheVariants.{Session, Lock, Fifo, Placed}
+use Rattle.login_facts.specs.declared.holding.Holding.{Holding}
 use Rattle.login_core.specs.inner.Chosen.{is_chosen}
 use Rattle.login_core.specs.inner.Ending.{is_kept_open_by}
-use Rattle.login_core.specs.inner.Holding.{AreThose, IsNextThing, IsSuch, OfConnections, Roll, control_in, fifo_rank, first_standing, first_that, held_lock_in, holding_lt, is_standing, is_such, lock_number, lock_of, lock_rank, number, number_of, owned_fifo_in, rank, session_of, session_rank}
-use Rattle.login_core.proofs.HeldOrder.{asym, holding-one, holding_order}
+use Rattle.login_facts.specs.Holding.{AreThose, IsNextThing, IsSuch, OfConnections, Roll, control_in, fifo_rank, first_standing, first_that, held_lock_in, holding_lt, is_standing, is_such, lock_number, lock_of, lock_rank, number, number_of, owned_fifo_in, rank, session_of, session_rank}
+use Rattle.login_facts.proofs.HeldOrder.{asym, holding-one, holding_order}
 
 none-thing : {x : Thing} → None ≡ Some x → ⊥
 none-thing e = cc

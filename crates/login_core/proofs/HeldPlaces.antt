@@ -16,14 +16,14 @@ use Rattle.login_model.proofs.Keys.{both, same-bytes, same-number, test}
 use Rattle.login_model.proofs.Values.{same-refl}
 use Rattle.login_laws.proofs.Paying.{open-session}
 use Rattle.login_table.proofs.Listing.{session_kind, sessions-all}
-use Rattle.login_core.specs.declared.board.holding.Thing.{Thing}
-use Rattle.login_core.specs.declared.board.holding.Thing.TheVariants.{Session, Lock, Fifo, Placed}
-use Rattle.login_core.specs.declared.board.holding.Holding.{Holding}
+use Rattle.login_facts.specs.declared.holding.Thing.{Thing}
+use Rattle.login_facts.specs.declared.holding.Thing.TheVariants.{Session, Lock, Fifo, Placed}
+use Rattle.login_facts.specs.declared.holding.Holding.{Holding}
 use Rattle.login_core.specs.declared.turning.Way.{Way}
 use Rattle.login_core.specs.declared.turning.Way.TheVariants.{Next, Previous}
-use Rattle.login_core.specs.inner.Holding.{AreThose, IsHeld, OfSeats, hash_of, holding_lt, is_below, is_lower, is_such, key_of, number, place_on, placed_in, placed_rank, rank, told_in}
+use Rattle.login_facts.specs.Holding.{AreThose, IsHeld, OfSeats, hash_of, holding_lt, is_below, is_lower, is_such, key_of, number, place_on, placed_in, placed_rank, rank, told_in}
 use Rattle.login_core.specs.inner.Places.{behind, is_before, is_open_on, is_placed_on, place_of, places, places_among}
-use Rattle.login_core.proofs.CountLaws.{kind-list}
+use Rattle.login_facts.proofs.CountLaws.{kind-list}
 use Rattle.login_core.proofs.NearestPlace.{IsNearest, behind-nearest, nearest-one, way-order}
 use Rattle.login_core.proofs.SeatPlaces.{are-places, open-is}
 

@@ -14,11 +14,11 @@ use Rattle.login_model.proofs.InOrder.{sessions-enumerated}
 use Rattle.login_model.proofs.Keys.{both, same-number, test}
 use Rattle.login_model.proofs.Values.{same-refl}
 use Rattle.login_laws.proofs.Paying.{open-session}
-use Rattle.login_core.specs.declared.board.holding.Thing.{Thing}
-use Rattle.login_core.specs.declared.board.holding.Thing.TheVariants.{Session, Lock, Fifo, Placed}
-use Rattle.login_core.specs.declared.board.holding.Holding.{Holding}
+use Rattle.login_facts.specs.declared.holding.Thing.{Thing}
+use Rattle.login_facts.specs.declared.holding.Thing.TheVariants.{Session, Lock, Fifo, Placed}
+use Rattle.login_facts.specs.declared.holding.Holding.{Holding}
 use Rattle.login_core.specs.inner.Chosen.{is_chosen}
-use Rattle.login_core.specs.inner.Holding.{AreThose, IsHeld, IsSuch, OfTerminals, OfUsers, Roll, first_thing, is_such, number_of, on_terminal_in, seated_in, session_of, session_rank}
+use Rattle.login_facts.specs.Holding.{AreThose, IsHeld, IsSuch, OfTerminals, OfUsers, Roll, first_thing, is_such, number_of, on_terminal_in, seated_in, session_of, session_rank}
 use Rattle.login_core.specs.inner.Seated.{seated-there}
 use Rattle.login_core.proofs.Chosen.{next-found}
 use Rattle.login_core.proofs.HeldNext.{IsOf, next-name, next-thing, other-kind, own-first, session-above, session-order}

@@ -25,7 +25,7 @@ use Rattle.login_laws.proofs.FewLives.{lives-are-few}
 use Rattle.login_laws.proofs.Holds.{none_out}
 use Rattle.login_laws.proofs.Settling.{settled}
 use Rattle.login_laws.proofs.SoundLaws.{good-direct}
-use Rattle.login_core.specs.inner.Ears.{AreEars, AreEnough, ListenLive, of_evdev}
+use Rattle.login_facts.specs.Ears.{AreEars, AreEnough, ListenLive, of_evdev}
 use Rattle.login_core.proofs.Keeping.{disconnect-granted, stop-granted}
 
 -- ---- who listens is live

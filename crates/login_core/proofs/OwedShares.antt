@@ -18,8 +18,8 @@ use Rattle.login_model.proofs.Values.{same-refl}
 use Rattle.login_laws.specs.Shares.{share, switch_share}
 use Rattle.login_laws.specs.Sound.{Fifos}
 use Rattle.login_laws.proofs.Counting.{total}
-use Rattle.login_core.specs.inner.Owing.{charge, due_at, keeper, keeper_in, owed}
-use Rattle.login_core.proofs.OwedSums.{sum-total}
+use Rattle.login_facts.specs.Owing.{charge, due_at, keeper, keeper_in, owed}
+use Rattle.login_facts.proofs.OwedSums.{sum-total}
 
 -- the fifo that a sound trail has of an open session is the session's own
 own-fifo : (c b : ConnId) (s : SessId) (x : Fact) (n : ℕ) → x ≡ fact.Owned (owner.Fifo b s) → due_at (keeper_in s x) n c ≡ cond (is_fifo_of c x) n 0

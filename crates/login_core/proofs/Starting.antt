@@ -16,7 +16,7 @@ use Rattle.login_model.specs.Where.{connections, locks, open_sessions, sessions}
 use Rattle.login_model.specs.declared.mark.Entry.{Entry}
 use Rattle.login_model.specs.declared.setup.Setup.{Setup}
 use Rattle.login_core.specs.inner.Board.{IsBegun}
-use Rattle.login_core.specs.inner.Ears.{AreEars, heard_evdev}
+use Rattle.login_facts.specs.Ears.{AreEars, heard_evdev}
 use Rattle.login_core.specs.inner.Inside.{HaveEnds, IsCore}
 use Rattle.login_core.specs.inner.Ledger.{end_room}
 use Rattle.login_core.specs.inner.Spares.{HaveTexts}

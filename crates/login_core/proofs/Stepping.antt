@@ -32,8 +32,8 @@ use Rattle.login_laws.proofs.RoomLaws.{room, stop-stays}
 use Rattle.login_laws.proofs.SharesLaws.{ends-have-shares}
 use Rattle.login_core.specs.Fullness.{always_fits}
 use Rattle.login_core.specs.inner.Board.{IsBegun}
-use Rattle.login_core.specs.inner.Ears.{AreEars, heard_evdev, settled}
-use Rattle.login_core.specs.inner.Rings.{ring_count}
+use Rattle.login_facts.specs.Ears.{AreEars, heard_evdev, settled}
+use Rattle.login_facts.specs.Rings.{ring_count}
 use Rattle.login_core.specs.inner.Draft.{DraftState, Fits}
 use Rattle.login_core.specs.inner.Ends.{BeginsReach, CanWelcome}
 use Rattle.login_core.specs.inner.Inside.{HaveEnds, IsCore, stop_need}
@@ -41,7 +41,8 @@ use Rattle.login_core.specs.inner.Ledger.{end_room, next_room}
 use Rattle.login_core.specs.Ready.{AreReady}
 use Rattle.login_core.specs.inner.Spares.{HaveTexts}
 use Rattle.login_core.specs.inner.UnderWay.{entry_of}
-use Rattle.login_core.specs.State.{CoreState, IsReady, IsRoomFor, NextIsWide, keys_of, keys_with, marks_with}
+use Rattle.login_core.specs.State.{CoreState, IsReady, IsRoomFor, NextIsWide, keys_with, marks_with}
+use Rattle.login_facts.specs.KeyRooms.{keys_of}
 use Rattle.login_core.specs.inner.State.{answer_next, stop_next}
 use Rattle.login_core.specs.declared.board.Board.{Board}
 use Rattle.login_core.specs.declared.room.ready.Ready.{Ready}

@@ -23,14 +23,14 @@ use Rattle.login_core.specs.inner.Draft.{DraftState, Fits, IsDraft, all_keys, ma
 use Rattle.login_laws.specs.Amounts.{Keys, Marks, Part, keys_in, new_in, part}
 use Rattle.login_laws.proofs.Widens.{Widens, say-widens, set-widens, widens-refl, widens-trans}
 use Rattle.login_table.specs.Home.{home}
-use Rattle.login_core.specs.State.{keys_of}
-use Rattle.login_core.specs.declared.board.keys.KeyRoom.{KeyRoom}
-use Rattle.login_core.specs.inner.Facts.{Tables, StandFor, StandsForFew, table}
+use Rattle.login_facts.specs.KeyRooms.{keys_of}
+use Rattle.login_facts.specs.declared.key_room.KeyRoom.{KeyRoom}
+use Rattle.login_facts.specs.Facts.{Tables, StandFor, StandsForFew, table}
 use Rattle.login_core.specs.inner.TakingOver.{CanTakeOver, TakesOver}
 use Rattle.login_core.specs.inner.UnderWay.{so_far}
-use Rattle.login_core.proofs.Counting.{handles-bound}
+use Rattle.login_facts.proofs.Counting.{handles-bound}
 use Rattle.login_core.proofs.Drafting.{keys-say, keys-set, new-here, new-room, part-keys, same-keys, seen}
-use Rattle.login_core.proofs.Standing.{stand-say}
+use Rattle.login_facts.proofs.Standing.{stand-say}
 
 -- ---- one mark
 

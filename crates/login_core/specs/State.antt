@@ -4,7 +4,7 @@ use Rattle.login_base.specs.Room.{Room}
 use Rattle.login_base.specs.declared.ids.ConnId.{ConnId}
 use Rattle.login_model.specs.Full.{connected_after, full, taken_count}
 use Rattle.login_model.specs.Legal.{answered, trail_of}
-use Rattle.login_laws.specs.Amounts.{OfOthers, OfTaken, Part, keys_in}
+use Rattle.login_laws.specs.Amounts.{Part, keys_in}
 use Rattle.login_laws.specs.Few.{most_taken}
 use Rattle.login_laws.specs.Keys.{most_keys, switch_keys}
 use Rattle.login_laws.specs.Need.{most_marks, most_of_any, most_rise, need}
@@ -21,18 +21,14 @@ use Rattle.login_model.specs.declared.rule.Verdict.{Verdict}
 use Rattle.login_model.specs.declared.rule.Verdict.TheVariants.{Granted, Denied}
 use Rattle.login_model.specs.declared.setup.Setup.{Setup}
 use Rattle.login_model.specs.declared.fullness.Fullness.{Fullness}
+use Rattle.login_facts.specs.KeyRooms.{keys_of}
 use Rattle.login_core.specs.Ends.{room_of}
 use Rattle.login_core.specs.Ready.{AreReady}
 use Rattle.login_core.specs.declared.state.Refused.{Refused}
 use Rattle.login_core.specs.declared.state.Refused.TheVariants.{NoMemory, Full, Stopped}
-use Rattle.login_core.specs.declared.board.keys.KeyRoom.{KeyRoom}
+use Rattle.login_facts.specs.declared.key_room.KeyRoom.{KeyRoom}
 use Rattle.login_core.specs.declared.room.ready.Ready.{Ready}
 use Rattle.login_core.specs.declared.room.texts.Texts.{Texts}
-
--- how many keys of a part there are
-abbrev pub keys_of : Part → KeyRoom → ℕ
-keys_of OfTaken keys = keys.taken
-keys_of OfOthers keys = keys.others
 
 -- the setup, the journal, and what was made ready: room for so many more entries; beside the tables for so many marks
 -- in all, and in the tables for so many keys of each part in all; in the list of the next entry for marks up to so many; for the marks of

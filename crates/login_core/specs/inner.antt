@@ -1,16 +1,7 @@
 -- What serves private functions and models: how a core keeps its facts, its journal and what it counts beside them.
 pub mod Chosen
 pub mod Rounds
-pub mod Counts
-pub mod Holding
-pub mod Holdings
-pub mod Sums
-pub mod Owing
-pub mod Dues
 pub mod Concerning
-pub mod Rings
-pub mod Ears
-pub mod Facts
 pub mod HandedOn
 pub mod Texts
 pub mod Spares

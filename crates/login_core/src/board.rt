@@ -3,21 +3,14 @@
 pub mod choosing;
 pub mod concerning;
 pub mod ends;
-pub mod facts;
 pub mod going_over;
 pub mod having;
-pub mod hearing;
-pub mod holding;
-pub mod holdings;
 pub mod keys;
-pub mod owing;
 pub mod rounds;
-pub mod row;
 pub mod seated;
 pub mod setting;
 pub mod shares;
 pub mod so_far;
-pub mod sums;
 pub mod taking_over;
 
 ghost use Rattle.std.specs.Prelude.{ℕ, ◌≡◌, ◌==◌, ◌+◌, ◌<◌, ◌≤◌, ◌^◌, [], false, IfOk, IsSome, List, OnOk, OnErr, Some, length};
@@ -28,23 +21,21 @@ ghost use Rattle.login_model.specs.declared.answer.Input.{Input as AnyInput};
 ghost use Rattle.login_model.specs.declared.mark.Mark.{Mark as AnyMark};
 ghost use Rattle.login_model.specs.Trail.{after, put};
 ghost use Rattle.login_laws.specs.Amounts.{Part as AnyPart, keys_in};
-ghost use Rattle.login_core.specs.State.{keys_of};
+ghost use Rattle.login_facts.specs.KeyRooms.{keys_of};
 ghost use Rattle.login_model.specs.Fresh.{next_lock, next_session};
-ghost use Rattle.login_core.specs.inner.Counts.{AreCounted};
+ghost use Rattle.login_facts.specs.Counts.{AreCounted};
 ghost use Rattle.device_model.specs.Ears.{heard_of};
-ghost use Rattle.login_core.specs.inner.Dues.{NamesKnown};
-ghost use Rattle.login_core.specs.inner.Counts.{leavers};
+ghost use Rattle.login_facts.specs.Dues.{NamesKnown};
+ghost use Rattle.login_facts.specs.Counts.{leavers};
 ghost use Rattle.login_core.specs.inner.Draft.{marked_by, reaching, tell, with_ears, with_keys, with_rings, Fits};
-ghost use Rattle.login_core.specs.inner.Ears.{AreEnough, ListenLive, settled};
+ghost use Rattle.login_facts.specs.Ears.{AreEnough, ListenLive, settled};
 ghost use Rattle.login_core.specs.inner.Ledger.{end_room, next_room, with_trimmed};
-ghost use Rattle.login_core.specs.inner.Rings.{ring_count};
+ghost use Rattle.login_facts.specs.Rings.{ring_count};
 
-use crate::board::facts::Facts;
-use crate::board::keys::KeyRoom;
 use crate::board::so_far::SoFar;
-use crate::room::counts::Counts;
 use crate::room::ledger::Ledger;
 use login_base::{ConnId, DevNo, HandleNo, LockNo, NoMemory, Reserved, SeatName, SessId, Uid};
+use login_facts::{Counts, Facts, KeyRoom, with_more};
 use login_model::{
     Answer, Event, Fact, Input, Inputs, Journal, Key, LockMode, Look, Mark, Notice, OpKind,
     Verdict, Whom, is_same_fact,
@@ -348,14 +339,6 @@ impl Look for Draft {
     fn is_active_user(&self, uid: u32) -> bool {
         self.so_far().has_active(uid)
     }
-}
-
-/// An eighth more than so many marks, so that what grows by little each time seldom gets memory.
-pub fn with_more(marks: usize) -> usize
-    ensures more { marks ≤ result }
-    ensures few { marks < 2 ^ 31 → result ≤ marks + 2 ^ 28 }
-{
-    marks.saturating_add(marks / 8)
 }
 
 /// The journal, and the entry under way.

@@ -2,7 +2,6 @@
 // copies of texts that are spare for them.
 
 pub mod copies;
-pub mod counts;
 pub mod fullness;
 pub mod ledger;
 pub mod locks;

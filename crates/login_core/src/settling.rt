@@ -9,7 +9,7 @@ ghost use Rattle.login_laws.specs.Sound.{Awaits, IsSound};
 ghost use Rattle.login_core.specs.Ready.{AreReady};
 ghost use Rattle.login_core.specs.inner.Spares.{HaveTexts};
 ghost use Rattle.login_core.specs.inner.Draft.{marked_by, Fits};
-ghost use Rattle.login_core.specs.inner.Dues.{CallerIsKnown};
+ghost use Rattle.login_facts.specs.Dues.{CallerIsKnown};
 
 use crate::board::Draft;
 use crate::room::texts::Texts;

@@ -116,7 +116,7 @@ impl Drop for Core {
 
 impl Model for Core {
     ghost use Rattle.login_core.specs.State.{CoreState};
-    ghost use Rattle.login_core.specs.inner.Rings.{ring_count};
+    ghost use Rattle.login_facts.specs.Rings.{ring_count};
     ghost use Rattle.login_core.specs.inner.Inside.{IsCore};
     ghost use Rattle.login_core.specs.inner.Ledger.{next_room};
 

@@ -7,8 +7,8 @@ ghost use Rattle.login_core.specs.inner.Places.{around, behind, current_place, i
 ghost use Rattle.login_core.specs.inner.Draft.{marked_by, Fits};
 
 use crate::board::Draft;
-use crate::board::holding::{Holding, Thing};
 use login_base::{SeatName, SessId};
+use login_facts::{Holding, Thing};
 use login_model::{Key, Look};
 use login_table::{active_on, current_vt, is_on_seat};
 

@@ -6,7 +6,7 @@ use Rattle.std.proofs.Crossing.{crosses}
 use Rattle.std.proofs.alloc.Global.TheSendSync as heap
 use Rattle.login_base.proofs.ids.Uid.TheSendSync as uid
 use Rattle.login_base.proofs.reserved.Reserved.TheSendSync as reserved
-use Rattle.login_core.proofs.board.facts.Facts.TheSendSync as facts
+use Rattle.login_facts.proofs.facts.Facts.TheSendSync as facts
 use Rattle.login_core.proofs.room.ledger.Ledger.TheSendSync as ledger
 use Rattle.login_core.proofs.room.ready.Ready.TheSendSync as ready
 use Rattle.login_core.proofs.room.texts.Texts.TheSendSync as texts

@@ -6,10 +6,10 @@ use Rattle.login_laws.specs.Amounts.{Keys, Marks, OfOthers, OfTaken, Resource, a
 use Rattle.login_model.specs.Trail.{Trail}
 use Rattle.device_model.specs.declared.ears.Ear.{Ear}
 pub use Rattle.switch_core.specs.inner.Ahead.{tell}
-use Rattle.login_core.specs.State.{keys_of}
+use Rattle.login_facts.specs.KeyRooms.{keys_of}
 use Rattle.login_core.specs.declared.board.Reach.{Reach}
-use Rattle.login_core.specs.declared.board.keys.KeyRoom.{KeyRoom}
-use Rattle.login_core.specs.inner.Facts.{Tables, StandFor}
+use Rattle.login_facts.specs.declared.key_room.KeyRoom.{KeyRoom}
+use Rattle.login_facts.specs.Facts.{Tables, StandFor}
 
 -- the marks before the entry under way, and those so far, both the newest first; how many marks there may be in
 -- all, with those of this entry and with those of later ones too; how many keys of each part there may be settings of; the handles

@@ -11,10 +11,10 @@ use Rattle.login_model.specs.Stopping.{stop_from}
 use Rattle.login_model.specs.Trail.{Trail}
 use Rattle.login_model.specs.Where.{connections, is_connected}
 use Rattle.login_model.specs.declared.setup.Setup.{Setup}
-use Rattle.login_core.specs.State.{keys_of}
+use Rattle.login_facts.specs.KeyRooms.{keys_of}
 use Rattle.login_core.specs.inner.Spares.{HaveTexts}
 use Rattle.login_core.specs.inner.Board.{IsBegun}
-use Rattle.login_core.specs.inner.Ears.{AreEars}
+use Rattle.login_facts.specs.Ears.{AreEars}
 use Rattle.login_core.specs.inner.Ledger.{end_room}
 use Rattle.login_core.specs.declared.board.Board.{Board}
 use Rattle.login_core.specs.declared.room.texts.Texts.{Texts}

@@ -12,10 +12,10 @@ use Rattle.login_model.specs.Switching.{request}
 use Rattle.login_model.specs.Turning.{first_of, first_above, last_of, last_below, next_around, previous_around, open_on, open_terminals, vt_in, turn_to_next, turn_to_previous}
 use Rattle.login_core.specs.declared.turning.Way.{Way}
 use Rattle.login_core.specs.declared.turning.Way.TheVariants.{Next, Previous}
-use Rattle.login_core.specs.declared.board.holding.Holding.{Holding}
-use Rattle.login_core.specs.declared.board.holding.Thing.{Thing}
-use Rattle.login_core.specs.declared.board.holding.Thing.TheVariants.{Placed}
-use Rattle.login_core.specs.inner.Holding.{number}
+use Rattle.login_facts.specs.declared.holding.Holding.{Holding}
+use Rattle.login_facts.specs.declared.holding.Thing.{Thing}
+use Rattle.login_facts.specs.declared.holding.Thing.TheVariants.{Placed}
+use Rattle.login_facts.specs.Holding.{number}
 
 -- which of two places comes first, that way
 abbrev pub is_before : Way → ℕ → ℕ → Bool

@@ -5,8 +5,8 @@ use Rattle.login_model.specs.Trail.{Trail, after}
 use Rattle.login_model.specs.declared.mark.Mark.{Mark}
 use Rattle.login_laws.specs.Amounts.{Part, keys_in}
 use Rattle.login_table.specs.Appended.{SetsPlain}
-use Rattle.login_core.specs.State.{keys_of}
-use Rattle.login_core.specs.inner.Facts.{Tables, StandFor}
+use Rattle.login_facts.specs.KeyRooms.{keys_of}
+use Rattle.login_facts.specs.Facts.{Tables, StandFor}
 
 -- the facts are as some marks leave them; there is room for these marks behind them, which
 -- can be numbered, and for the keys that they set; and no fact that they set has memory of its own

@@ -4,7 +4,7 @@ ghost use Rattle.std.specs.Prelude.{◌≡◌, ◌<◌, ◌≤◌, ◌^◌, if�
 ghost use Rattle.login_model.specs.Creating.{seat_of};
 ghost use Rattle.login_laws.specs.Few.{most_taken};
 ghost use Rattle.login_laws.specs.Need.{call_marks, hardware_marks, marks_over, marks_over_devices, may_switch, most_marks, seat_marks};
-ghost use Rattle.login_core.specs.inner.Counts.{HoldersAreThere};
+ghost use Rattle.login_facts.specs.Counts.{HoldersAreThere};
 
 use crate::board::Draft;
 use crate::creating::created::seat_of;

@@ -9,11 +9,11 @@ ghost use Rattle.login_model.specs.Where.{is_lock, is_session};
 ghost use Rattle.login_laws.specs.Sound.{Fifos};
 ghost use Rattle.login_core.specs.inner.Chosen.{is_chosen};
 ghost use Rattle.login_core.specs.inner.Ending.{is_kept_open_by};
-ghost use Rattle.login_core.specs.inner.Holding.{AreThose, IsNextThing, OfConnections, OfSeats, first_standing, hash_of, is_lower, is_standing, is_such, lock_number, lock_of, placed_rank};
+ghost use Rattle.login_facts.specs.Holding.{AreThose, IsNextThing, OfConnections, OfSeats, first_standing, hash_of, is_lower, is_standing, is_such, lock_number, lock_of, placed_rank};
 
 use crate::board::Draft;
-use crate::board::holding::{FIFOS, Holding, LOCKS, SESSIONS, Thing, number_of, session_of};
 use login_base::{ConnId, LockNo, SeatName, SessId};
+use login_facts::{FIFOS, Holding, LOCKS, SESSIONS, Thing, number_of, session_of};
 use login_model::{Key, Look};
 
 /// The lock that a thing is.

@@ -10,9 +10,9 @@ ghost use Rattle.login_model.specs.declared.fact.Key.TheVariants.{Sess};
 ghost use Rattle.login_core.specs.inner.Seated.{seated-enumerated};
 
 use crate::board::choosing::{Tells, least_that};
-use crate::board::holding::{first_thing, session_of};
 use crate::board::so_far::SoFar;
 use login_base::SessId;
+use login_facts::{first_thing, session_of};
 use login_model::{Fact, Key, Look};
 
 /// The open sessions of a user that have a seat.

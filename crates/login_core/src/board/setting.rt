@@ -6,7 +6,7 @@ ghost use Rattle.login_model.specs.Procedure.{tell_controller};
 ghost use Rattle.login_core.specs.inner.HandedOn.{controller_fact};
 ghost use Rattle.login_model.specs.Facts.{controller_in};
 ghost use Rattle.login_core.specs.inner.Draft.{marked_by, Fits};
-ghost use Rattle.login_core.specs.inner.Dues.{NamesKnown, WasConnected};
+ghost use Rattle.login_facts.specs.Dues.{NamesKnown, WasConnected};
 
 use crate::board::Draft;
 use crate::room::slots::SeatSlots;

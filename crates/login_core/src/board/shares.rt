@@ -7,8 +7,8 @@ ghost use Rattle.login_model.specs.declared.setup.Setup.{Setup as AnySetup};
 ghost use Rattle.login_laws.specs.Shares.{most_share_rise, share, switch_share};
 ghost use Rattle.login_laws.specs.Sound.{IsSound};
 ghost use Rattle.login_core.specs.inner.Concerning.{AreActive};
-ghost use Rattle.login_core.specs.inner.Counts.{HoldersAreThere};
-ghost use Rattle.login_core.specs.inner.Owing.{owed};
+ghost use Rattle.login_facts.specs.Counts.{HoldersAreThere};
+ghost use Rattle.login_facts.specs.Owing.{owed};
 
 use crate::board::Draft;
 use crate::board::concerning::is_named;

@@ -1,13 +1,12 @@
 // The facts of a draft, as they stand for the marks so far. More can be put at the end of its list meanwhile.
 
 ghost use Rattle.std.specs.Prelude.{◌≡◌};
-ghost use Rattle.login_core.specs.inner.Counts.{AreCounted};
-ghost use Rattle.login_core.specs.inner.Facts.{StandFor};
+ghost use Rattle.login_facts.specs.Counts.{AreCounted};
+ghost use Rattle.login_facts.specs.Facts.{StandFor};
 ghost use Rattle.login_core.specs.inner.UnderWay.{so_far};
 
-use crate::board::facts::Facts;
-use crate::room::counts::Counts;
 use login_base::{ConnId, DevNo, HandleNo, LockNo, Reserved, SeatName, SessId, Uid};
+use login_facts::{Counts, Facts};
 use login_model::{Fact, Journal, Key, LockMode, Look, Mark, OpKind};
 use std::marker::Model;
 use std::snapshot::Snapshot;
@@ -22,7 +21,7 @@ pub struct SoFar<'a> {
 
 impl<'a> Model for SoFar<'a> {
     ghost use Rattle.login_model.specs.Trail.{Trail};
-    ghost use Rattle.login_core.specs.inner.Facts.{StandFor};
+    ghost use Rattle.login_facts.specs.Facts.{StandFor};
     ghost use Rattle.login_core.specs.inner.UnderWay.{so_far};
 
     ghost Value = { Trail };

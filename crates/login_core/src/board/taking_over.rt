@@ -12,9 +12,9 @@ ghost use Rattle.login_core.specs.inner.Draft.{marked_by, Fits};
 ghost use Rattle.login_core.specs.inner.TakingOver.{CanTakeOver, TakesOver};
 
 use crate::board::Draft;
-use crate::board::facts::Facts;
 use crate::board::so_far::SoFar;
 use login_base::{DevNo, Reserved, SessId};
+use login_facts::Facts;
 use login_model::{Conf, Fact, Mark, OpKind, Owner};
 
 /// A second one of a plain fact.

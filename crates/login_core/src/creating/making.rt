@@ -8,7 +8,7 @@ ghost use Rattle.login_model.specs.Where.{active_on};
 ghost use Rattle.login_model.specs.Procedure.{take_seat};
 ghost use Rattle.login_model.specs.Creating.{appear_on, create, created_session, session_texts};
 ghost use Rattle.login_core.specs.inner.Draft.{marked_by, Fits};
-ghost use Rattle.login_core.specs.inner.Dues.{WasConnected};
+ghost use Rattle.login_facts.specs.Dues.{WasConnected};
 
 use crate::board::Draft;
 use crate::creating::created::{created_session, seat_of};

@@ -14,7 +14,7 @@ ghost use Rattle.login_core.specs.Ready.{AreReadyToCall};
 ghost use Rattle.login_core.specs.inner.Spares.{AreClosing, HaveTexts};
 ghost use Rattle.login_core.specs.inner.Calls.{IsPlain, NamesRightly, call_on};
 ghost use Rattle.login_core.specs.inner.Draft.{marked_by, Fits};
-ghost use Rattle.login_core.specs.inner.Dues.{WasConnected};
+ghost use Rattle.login_facts.specs.Dues.{WasConnected};
 
 use crate::board::Draft;
 use crate::room::spares::Spares;

@@ -6,7 +6,7 @@ ghost use Rattle.login_model.specs.Devices.{taken_devices};
 ghost use Rattle.login_model.specs.Direct.{control_from, control, lock_session, unlock_session};
 ghost use Rattle.login_core.specs.inner.HandedOn.{controller_fact};
 ghost use Rattle.login_core.specs.inner.Draft.{marked_by, Fits};
-ghost use Rattle.login_core.specs.inner.Dues.{WasConnected};
+ghost use Rattle.login_facts.specs.Dues.{WasConnected};
 
 use crate::board::Draft;
 use login_base::{ConnId, SessId};

@@ -10,7 +10,7 @@ ghost use Rattle.login_core.specs.Ready.{AreOfLock, HasLock};
 ghost use Rattle.login_core.specs.inner.Spares.{HaveTexts};
 ghost use Rattle.login_core.specs.Texts.{lock_texts};
 ghost use Rattle.login_core.specs.inner.Draft.{marked_by, Fits};
-ghost use Rattle.login_core.specs.inner.Dues.{WasConnected};
+ghost use Rattle.login_facts.specs.Dues.{WasConnected};
 
 use crate::board::Draft;
 use crate::room::locks::{LockCopies, LockTexts};

@@ -15,7 +15,7 @@ ghost use Rattle.login_core.specs.inner.Calls.{ExitsHere, HappensPlain};
 ghost use Rattle.login_core.specs.Ready.{AreReady, AreReadyFor, AreReadyToHappen, HasSlots};
 ghost use Rattle.login_core.specs.inner.Spares.{HaveTexts};
 ghost use Rattle.login_core.specs.inner.Draft.{marked_by, Fits};
-ghost use Rattle.login_core.specs.inner.Dues.{CallerIsKnown, WasConnected};
+ghost use Rattle.login_facts.specs.Dues.{CallerIsKnown, WasConnected};
 
 use crate::board::Draft;
 use crate::room::texts::{FreshTexts, Texts};

@@ -5,7 +5,7 @@ ghost use Rattle.login_model.specs.Devices.{taken_devices};
 ghost use Rattle.login_model.specs.Procedure.{untake, release, revoke, oust};
 ghost use Rattle.login_laws.proofs.Widens.{untake-widens, revoke-widens};
 ghost use Rattle.login_core.specs.inner.Draft.{marked_by, Fits};
-ghost use Rattle.login_core.specs.inner.Dues.{WasConnected};
+ghost use Rattle.login_facts.specs.Dues.{WasConnected};
 
 use crate::board::Draft;
 use crate::board::rounds::{TakenBy, Task};

@@ -7,11 +7,11 @@ ghost use Rattle.login_model.specs.declared.setup.Setup.{Setup};
 ghost use Rattle.login_model.specs.Full.{is_granted, mark_count, full};
 ghost use Rattle.login_model.specs.Policy.{verdict as policy_verdict};
 ghost use Rattle.login_model.specs.Trail.{Trail};
-ghost use Rattle.login_core.specs.inner.Counts.{AreCounted, HoldersAreThere};
+ghost use Rattle.login_facts.specs.Counts.{AreCounted, HoldersAreThere};
 ghost use Rattle.login_core.specs.Fullness.{always_fits};
 ghost use Rattle.login_core.specs.inner.Fullness.{connected_by, full_by};
 
-use crate::room::counts::Counts;
+use login_facts::Counts;
 use login_model::{Event, Fullness, Verdict};
 
 /// The most entries of a journal.

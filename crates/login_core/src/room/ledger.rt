@@ -5,9 +5,9 @@ ghost use Rattle.login_base.specs.declared.ids.ConnId.{ConnId as AnyConnection};
 ghost use Rattle.login_core.specs.inner.Ledger.{end_room, next_room, with_entries, with_trimmed};
 ghost use Rattle.login_core.specs.inner.UnderWay.{entry_of};
 
-use crate::board::with_more;
 use indexmap::IndexMap;
 use login_base::{ConnId, NoMemory, Reserved};
+use login_facts::with_more;
 use login_model::{Answer, Entry, Event, Journal, Mark, Verdict};
 use std::alloc::Global;
 use std::marker::Model;

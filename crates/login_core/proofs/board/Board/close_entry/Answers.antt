@@ -3,7 +3,7 @@ use Rattle.login_model.specs.Trail.{Trail}
 use Rattle.login_model.specs.Legal.{trail_of}
 use Rattle.login_core.specs.inner.Draft.{DraftState, all_keys}
 use Rattle.login_core.specs.inner.UnderWay.{so_far, entry_of}
-use Rattle.login_core.proofs.Standing.{so_far-none}
+use Rattle.login_core.proofs.UnderWay.{so_far-none}
 use Rattle.login_core.proofs.Drafting.{ClosesBehind, closed-trail, draft-closed, so_far-same}
 use Rattle.login_core.proofs.board.Board.close_entry.Goals as goal
 

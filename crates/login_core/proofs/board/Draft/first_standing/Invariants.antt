@@ -1,5 +1,5 @@
 use Rattle.std.proofs.Common.{◌≡◌, drop}
-use Rattle.login_core.specs.inner.Holding.{first_standing}
+use Rattle.login_facts.specs.Holding.{first_standing}
 use Rattle.login_core.proofs.board.Draft.first_standing.Given as goal
 
 -- none so far stands

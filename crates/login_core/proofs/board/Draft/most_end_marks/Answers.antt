@@ -1,5 +1,5 @@
 use Rattle.std.proofs.Common.{arith}
-use Rattle.login_core.proofs.CountedLaws.{sound-holders}
+use Rattle.login_facts.proofs.CountedLaws.{sound-holders}
 use Rattle.login_core.proofs.board.Draft.most_end_marks.Goals as goal
 
 -- both are far below what a u64 holds

@@ -1,5 +1,5 @@
 use Rattle.std.proofs.Common.{◌≡◌, [], ◌∙◌, ap, sym, arith}
-use Rattle.login_core.proofs.Standing.{none-start, stand-start}
+use Rattle.login_core.proofs.UnderWay.{none-start, stand-start}
 use Rattle.login_core.proofs.Drafting.{nothing-marked}
 use Rattle.login_core.proofs.board.Draft.new.Goals as goal
 

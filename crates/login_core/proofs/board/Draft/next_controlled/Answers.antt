@@ -4,7 +4,7 @@ use Rattle.login_model.specs.Policy.{controls}
 use Rattle.login_model.specs.Names.{IsNext, session_lt}
 use Rattle.login_model.specs.Where.{is_session}
 use Rattle.login_core.specs.inner.Chosen.{is_chosen}
-use Rattle.login_core.specs.inner.Holding.{IsNextThing, OfConnections, is_standing, session_rank}
+use Rattle.login_facts.specs.Holding.{IsNextThing, OfConnections, is_standing, session_rank}
 use Rattle.login_core.proofs.HeldNext.{controlled-next}
 use Rattle.login_core.proofs.board.Draft.next_controlled.Goals as goal
 

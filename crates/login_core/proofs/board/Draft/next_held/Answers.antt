@@ -6,7 +6,7 @@ use Rattle.login_model.specs.Trail.{value}
 use Rattle.login_model.specs.Names.{IsNext, lock_lt}
 use Rattle.login_model.specs.Where.{is_lock}
 use Rattle.login_core.specs.inner.Chosen.{is_chosen}
-use Rattle.login_core.specs.inner.Holding.{IsNextThing, OfConnections, is_standing, lock_rank}
+use Rattle.login_facts.specs.Holding.{IsNextThing, OfConnections, is_standing, lock_rank}
 use Rattle.login_core.proofs.HeldNext.{held-next}
 use Rattle.login_core.proofs.board.Draft.next_held.Goals as goal
 

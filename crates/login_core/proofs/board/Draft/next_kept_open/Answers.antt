@@ -4,7 +4,7 @@ use Rattle.login_model.specs.Names.{IsNext, session_lt}
 use Rattle.login_model.specs.Where.{is_session}
 use Rattle.login_core.specs.inner.Chosen.{is_chosen}
 use Rattle.login_core.specs.inner.Ending.{is_kept_open_by}
-use Rattle.login_core.specs.inner.Holding.{IsNextThing, OfConnections, is_standing, fifo_rank}
+use Rattle.login_facts.specs.Holding.{IsNextThing, OfConnections, is_standing, fifo_rank}
 use Rattle.login_core.proofs.HeldNext.{kept-open-next}
 use Rattle.login_core.proofs.board.Draft.next_kept_open.Goals as goal
 

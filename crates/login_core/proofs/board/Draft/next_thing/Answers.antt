@@ -1,7 +1,7 @@
 use Rattle.std.proofs.Common.{ap, subst}
 use Rattle.login_model.specs.Trail.{Trail}
 use Rattle.login_core.specs.inner.Draft.{DraftState}
-use Rattle.login_core.specs.inner.Holding.{AreThose, OfConnections, is_standing, is_such}
+use Rattle.login_facts.specs.Holding.{AreThose, OfConnections, is_standing, is_such}
 use Rattle.login_core.specs.inner.UnderWay.{so_far}
 use Rattle.login_core.proofs.HeldNext.{next-thing}
 use Rattle.login_core.proofs.board.Draft.next_thing.Goals as goal

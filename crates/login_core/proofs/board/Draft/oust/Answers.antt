@@ -4,10 +4,10 @@ use Rattle.login_model.specs.Devices.{taken_devices}
 use Rattle.login_model.specs.Procedure.{revoke}
 use Rattle.login_model.specs.Trail.{Trail}
 use Rattle.login_laws.proofs.Carried.{each-carried, revoke-carried}
-use Rattle.login_core.specs.inner.Dues.{WasConnected}
+use Rattle.login_facts.specs.Dues.{WasConnected}
 use Rattle.login_core.proofs.Devices.{revoke-above}
 use Rattle.login_core.proofs.Growing.{trails}
-use Rattle.login_core.proofs.Known.{known}
+use Rattle.login_facts.proofs.Known.{known}
 use Rattle.login_core.proofs.board.Draft.oust.Goals as goal
 
 pub for_each-requires-clause-spares : goal.for_each-requires-clause-spares

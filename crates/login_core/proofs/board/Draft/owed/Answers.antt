@@ -1,6 +1,6 @@
 use Rattle.std.proofs.Common.{arith}
 use Rattle.login_core.specs.inner.UnderWay.{so_far}
-use Rattle.login_core.proofs.OwedLaws.{owed-bound}
+use Rattle.login_facts.proofs.OwedLaws.{owed-bound}
 use Rattle.login_core.proofs.board.Draft.owed.Goals as goal
 
 pub returns-clause-bound : goal.returns-clause-bound

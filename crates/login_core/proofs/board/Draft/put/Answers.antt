@@ -3,13 +3,13 @@ use Rattle.login_model.specs.Same.{same_fact}
 use Rattle.login_model.specs.Trail.{Trail, value}
 use Rattle.login_model.specs.declared.fact.Fact.{Fact}
 use Rattle.login_model.specs.declared.mark.Mark.TheVariants.{Set}
-use Rattle.login_core.specs.inner.Dues.{NamesKnown}
-use Rattle.login_core.specs.inner.Facts.{StandFor}
+use Rattle.login_facts.specs.Dues.{NamesKnown}
+use Rattle.login_facts.specs.Facts.{StandFor}
 use Rattle.login_core.specs.inner.UnderWay.{so_far}
 use Rattle.login_core.specs.inner.Draft.{DraftState, with_trail}
 use Rattle.login_table.proofs.Appending.{put-made, put-same}
-use Rattle.login_core.proofs.Known.{named-here}
-use Rattle.login_core.proofs.Standing.{opened}
+use Rattle.login_facts.proofs.Known.{named-here}
+use Rattle.login_facts.proofs.Standing.{opened}
 use Rattle.login_core.proofs.Drafting.{draft-more, fresh-room, keys-set, new-here, one-more, room-inside, seen-more}
 use Rattle.login_core.proofs.board.Draft.put.Goals as goal
 

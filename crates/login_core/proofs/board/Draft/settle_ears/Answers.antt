@@ -2,10 +2,10 @@ use Rattle.std.proofs.Common.{◌≡◌, ◌∙◌, ap, sym, subst, List, arith}
 use Rattle.login_base.specs.declared.ids.HandleNo.{HandleNo}
 use Rattle.login_model.specs.declared.mark.Mark.{Mark}
 use Rattle.device_model.specs.Ears.{heard_of}
-use Rattle.login_core.specs.declared.board.keys.KeyRoom.{KeyRoom}
+use Rattle.login_facts.specs.declared.key_room.KeyRoom.{KeyRoom}
 use Rattle.login_core.specs.inner.Draft.{DraftState, all_keys, with_ears, with_keys}
-use Rattle.login_core.specs.inner.Ears.{AreEnough, ListenOn, settled}
-use Rattle.login_core.specs.inner.Rings.{ring_count}
+use Rattle.login_facts.specs.Ears.{AreEnough, ListenOn, settled}
+use Rattle.login_facts.specs.Rings.{ring_count}
 use Rattle.login_core.specs.inner.UnderWay.{so_far}
 use Rattle.login_core.proofs.Drafting.{seen}
 use Rattle.login_core.proofs.EarLaws.{enough-there, hear-there, listen-there}

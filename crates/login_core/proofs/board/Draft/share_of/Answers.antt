@@ -1,5 +1,5 @@
 use Rattle.std.proofs.Common.{arith}
-use Rattle.login_core.proofs.CountedLaws.{sound-holders}
+use Rattle.login_facts.proofs.CountedLaws.{sound-holders}
 use Rattle.login_core.proofs.OwedShares.{owed-share}
 use Rattle.login_core.proofs.board.Draft.share_of.Goals as goal
 

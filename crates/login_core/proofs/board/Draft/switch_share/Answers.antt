@@ -6,7 +6,7 @@ use Rattle.login_model.specs.Trail.{value}
 use Rattle.login_model.specs.Where.{active_on}
 use Rattle.login_model.specs.declared.fact.Key.TheVariants as key
 use Rattle.login_laws.specs.Shares.{has_session}
-use Rattle.login_core.proofs.PairLaws.{pairs-taken}
+use Rattle.login_facts.proofs.PairLaws.{pairs-taken}
 use Rattle.login_core.proofs.board.Draft.switch_share.Goals as goal
 
 both : (a b : Bool) (n m : ℕ) → a ≡ true → b ≡ true → cond (a && b) n m ≡ n

@@ -1,8 +1,8 @@
 use Rattle.std.proofs.Common.{◌+◌, ap, arith, refl}
 use Rattle.login_model.specs.declared.mark.Mark.TheVariants.{Say}
-use Rattle.login_core.specs.State.{keys_of}
+use Rattle.login_facts.specs.KeyRooms.{keys_of}
 use Rattle.login_core.specs.inner.UnderWay.{so_far}
-use Rattle.login_core.proofs.Standing.{stand-say}
+use Rattle.login_facts.proofs.Standing.{stand-say}
 use Rattle.login_core.proofs.Drafting.{draft-more, keys-say, room-inside, said-room, seen-more}
 use Rattle.login_core.proofs.board.Draft.tell.Goals as goal
 

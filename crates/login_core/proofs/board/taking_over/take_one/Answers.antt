@@ -1,7 +1,7 @@
 use Rattle.std.proofs.Common.{sym, subst}
 use Rattle.login_model.specs.declared.fact.Fact.{Fact}
-use Rattle.login_core.specs.inner.Dues.{NamesKnown}
-use Rattle.login_core.proofs.Known.{plain-known}
+use Rattle.login_facts.specs.Dues.{NamesKnown}
+use Rattle.login_facts.proofs.Known.{plain-known}
 use Rattle.login_core.proofs.TakingOver.{can-few, can-fresh, can-set, takes-say, takes-set}
 use Rattle.login_core.proofs.board.taking_over.take_one.Goals as goal
 

@@ -2,7 +2,7 @@ use Rattle.std.proofs.Common.{◌+◌, ◌∙◌, ℕ, ap, subst}
 use Rattle.login_model.specs.declared.rule.Verdict.{Verdict}
 use Rattle.login_model.specs.Legal.{trail_of}
 use Rattle.login_model.specs.Trail.{Trail}
-use Rattle.login_core.specs.inner.Counts.{AreCounted}
+use Rattle.login_facts.specs.Counts.{AreCounted}
 use Rattle.login_core.specs.State.{CoreState}
 use Rattle.login_core.specs.inner.Fullness.{connected_by}
 use Rattle.login_core.proofs.Filling.{connected-is}

@@ -15,7 +15,7 @@ use Rattle.login_model.specs.declared.setup.Setup.{Setup}
 use Rattle.login_laws.specs.Hearing.{Heard, IsHeard}
 use Rattle.login_laws.proofs.Hearing.{reads-are-heard}
 use Rattle.login_core.specs.State.{CoreState}
-use Rattle.login_core.specs.inner.Ears.{heard_evdev}
+use Rattle.login_facts.specs.Ears.{heard_evdev}
 use Rattle.login_core.specs.inner.Reads.{handle_read, read_handle}
 use Rattle.login_core.proofs.Evdev.{read-listens}
 use Rattle.login_core.proofs.state.Core.granted_answer.Goals as goal

@@ -17,17 +17,18 @@ use Rattle.login_laws.specs.Shares.{most_share_rise, share}
 use Rattle.login_laws.specs.Sound.{IsSound}
 use Rattle.login_laws.proofs.RoomLaws.{most-less, room}
 use Rattle.login_laws.proofs.SoundLaws.{sound-journal}
-use Rattle.login_core.specs.declared.board.keys.KeyRoom.{KeyRoom}
-use Rattle.login_core.specs.inner.Counts.{AreCounted, HoldersAreThere}
+use Rattle.login_facts.specs.declared.key_room.KeyRoom.{KeyRoom}
+use Rattle.login_facts.specs.Counts.{AreCounted, HoldersAreThere}
 use Rattle.login_core.specs.inner.Draft.{DraftState}
-use Rattle.login_core.specs.State.{CoreState, NextIsWide, keys_of, keys_with, marks_with, may_raise}
+use Rattle.login_core.specs.State.{CoreState, NextIsWide, keys_with, marks_with, may_raise}
+use Rattle.login_facts.specs.KeyRooms.{keys_of}
 use Rattle.login_core.specs.inner.Inside.{HaveEnds}
 use Rattle.login_core.specs.inner.Ledger.{end_room, next_room}
 use Rattle.login_core.proofs.EndRooms.{AreWide, all-wide, reserved-have}
-use Rattle.login_core.proofs.CountedLaws.{legal-holders}
+use Rattle.login_facts.proofs.CountedLaws.{legal-holders}
 use Rattle.login_core.proofs.Entries.{marks-counted}
 use Rattle.login_core.proofs.Keeping.{small}
-use Rattle.login_core.proofs.PairLaws.{pairs-taken}
+use Rattle.login_facts.proofs.PairLaws.{pairs-taken}
 use Rattle.login_core.proofs.state.Core.make_ready.Goals as goal
 
 pub overflow_cast-reach : goal.overflow_cast-reach

@@ -2,9 +2,9 @@ use Rattle.std.proofs.Common.{◌∙◌, ap, sym, subst, length}
 use Rattle.login_model.specs.Full.{mark_count, marks_needed}
 use Rattle.login_model.specs.Legal.{trail_of}
 use Rattle.login_model.specs.Trail.{Trail}
-use Rattle.login_core.specs.inner.Counts.{AreCounted}
+use Rattle.login_facts.specs.Counts.{AreCounted}
 use Rattle.login_core.specs.State.{CoreState}
-use Rattle.login_core.proofs.CountedLaws.{legal-holders}
+use Rattle.login_facts.proofs.CountedLaws.{legal-holders}
 use Rattle.login_core.proofs.Entries.{marks-counted}
 use Rattle.login_core.proofs.state.Core.reach_for.Goals as goal
 

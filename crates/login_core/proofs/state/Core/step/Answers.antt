@@ -16,22 +16,23 @@ use Rattle.login_laws.proofs.LawfulLaws.{granted-awaits, legal-is-lawful}
 use Rattle.device_model.specs.Ears.{heard_of}
 use Rattle.device_model.specs.declared.ears.Ear.{Ear}
 use Rattle.login_core.specs.inner.Board.{IsBegun}
-use Rattle.login_core.specs.inner.Dues.{CallerIsKnown}
+use Rattle.login_facts.specs.Dues.{CallerIsKnown}
 use Rattle.login_core.specs.inner.Draft.{DraftState, marked_by, reaching, with_ears}
-use Rattle.login_core.specs.inner.Ears.{AreEnough, ListenLive, settled}
-use Rattle.login_core.specs.inner.Rings.{ring_count}
+use Rattle.login_facts.specs.Ears.{AreEnough, ListenLive, settled}
+use Rattle.login_facts.specs.Rings.{ring_count}
 use Rattle.login_core.specs.inner.Inside.{IsCore}
 use Rattle.login_core.specs.inner.Spares.{HaveTexts}
 use Rattle.login_core.specs.inner.UnderWay.{so_far, entry_of}
 use Rattle.login_laws.specs.Amounts.{Part, keys_in}
-use Rattle.login_core.specs.State.{CoreState, IsReady, keys_of}
+use Rattle.login_core.specs.State.{CoreState, IsReady}
+use Rattle.login_facts.specs.KeyRooms.{keys_of}
 use Rattle.login_core.specs.inner.State.{answer_next, stop_next}
 use Rattle.login_core.specs.declared.board.Board.{Board}
 use Rattle.login_core.specs.declared.room.ready.Ready.{Ready}
 use Rattle.login_core.specs.declared.room.texts.Texts.{Texts}
 use Rattle.login_core.proofs.Entries.{Steps, begun-marked, last-is, legal-closed, so_far-is}
 use Rattle.login_core.proofs.Growing.{trails}
-use Rattle.login_core.proofs.Known.{caller-known}
+use Rattle.login_facts.proofs.Known.{caller-known}
 use Rattle.login_core.specs.inner.Ledger.{end_room, next_room}
 use Rattle.login_core.proofs.EndRooms.{ends-follow, welcome-more}
 use Rattle.login_core.proofs.Judged.{judged-inside, ready-judged}

@@ -1,5 +1,5 @@
 use Rattle.std.proofs.Common.{◌∙◌, ap, nat_lt}
-use Rattle.login_core.proofs.CountedLaws.{held-up}
+use Rattle.login_facts.proofs.CountedLaws.{held-up}
 use Rattle.login_core.proofs.board.so_far.SoFarLook.is_held_up.Goals as goal
 
 pub returns : goal.returns

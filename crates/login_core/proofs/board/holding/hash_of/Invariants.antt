@@ -1,7 +1,0 @@
-use Rattle.std.proofs.Common.{◌≡◌, drop}
-use Rattle.login_core.specs.inner.Holding.{hash_from, hash_of}
-use Rattle.login_core.proofs.board.holding.hash_of.Given as goal
-
--- the number of what is passed, and then that of the rest
-abbrev pub invariant-loop-byte : goal.invariant-loop-byte
-invariant-loop-byte l = hash_from l.hash (drop l.byte-index l.seat) ≡ hash_of l.seat

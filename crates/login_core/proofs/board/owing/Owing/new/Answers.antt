@@ -1,6 +1,0 @@
-use Rattle.login_core.specs.declared.board.owing.Owing.{Owing}
-use Rattle.login_core.proofs.DuesLaws.{owing-none}
-use Rattle.login_core.proofs.board.owing.Owing.new.Goals as goal
-
-pub returns : goal.returns
-returns c = let owing : Owing = record { marks = c.new.result; taken = c.new-2.result } in owing-none owing c.new.ensures c.new-2.ensures

@@ -1,9 +1,0 @@
-use Rattle.std.proofs.Common.{◌∙◌, arith}
-use Rattle.login_core.proofs.PairLaws.{pairs-taken}
-use Rattle.login_core.proofs.room.counts.Counts.active_share_rise.Goals as goal
-
-pub returns-clause-value : goal.returns-clause-value
-returns-clause-value c = λ t a h.
-    let taken = c.from.ensures in
-    let k = a.taken ∙ pairs-taken t h in
-    omega arith

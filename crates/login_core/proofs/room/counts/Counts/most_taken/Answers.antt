@@ -1,7 +1,0 @@
-use Rattle.std.proofs.Common.{◌∙◌, ap, min}
-use Rattle.login_model.specs.Limits.{taken_limit}
-use Rattle.login_core.proofs.PairLaws.{pairs-taken}
-use Rattle.login_core.proofs.room.counts.Counts.most_taken.Goals as goal
-
-pub returns-clause-value : goal.returns-clause-value
-returns-clause-value c = λ t a h. c.min.ensures ∙ ap (λ n. min n taken_limit) (a.taken ∙ pairs-taken t h)

@@ -1,0 +1,10 @@
+pub mod KeyRooms
+pub mod Counts
+pub mod Holding
+pub mod Sums
+pub mod Owing
+pub mod Dues
+pub mod Rings
+pub mod Ears
+pub mod Facts
+pub mod inner

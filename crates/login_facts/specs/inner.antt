@@ -1,0 +1,2 @@
+-- What serves private functions and models.
+pub mod Holdings
