@@ -77,7 +77,7 @@ build() {
     shift
     command -v rt >/dev/null || die "not built: the command 'rt' of the Rattle kit is not on the PATH"
     { mkdir -p "${program%/*}" && : >"$log"; } 2>/dev/null || die "not built: crates/login/out cannot be written"
-    say "each crate is proved first, which takes some 90 minutes of processor time where none was proved before"
+    say "each crate is proved first, which takes some 75 to 122 minutes of processor time where none was proved before"
     for name; do
         number=$((number + 1))
         say "crate $number of $#: $name"
